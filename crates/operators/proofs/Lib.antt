@@ -1,0 +1,10 @@
+-- The laws of the rules: other crates cite Laws.
+pub mod Keys
+pub mod Cases
+pub mod Gives
+pub mod Classes
+pub mod Operators
+pub mod Wrong
+pub mod Properness
+pub mod Laws
+mod Samples

@@ -1,0 +1,4 @@
+pub mod Operators
+pub mod Tables
+pub mod Kinds
+pub mod Laws

@@ -1,0 +1,19 @@
+-- The operators by number, in the order in which paper 01 lists them ("Grammar and grouping"), then the functions. The instruction set and the symbols of the text use these numbers.
+use mathlib.Core.List.{List, [], _∷_}
+use Rattle.reals.specs.declared.ArithOp.the-variants.{Add, Sub, Mul, Div, Rem}
+use Rattle.values.specs.declared.BitOp.the-variants.{And, Or, Xor}
+use Rattle.values.specs.declared.ShiftOp.the-variants.{Left, Right, RightZero}
+use Rattle.values.specs.declared.CompareOp.the-variants.{Lt, Gt, Le, Ge, Eq, Ne}
+use Rattle.values.specs.declared.ChoiceOp.the-variants.{Max, Min}
+use Rattle.operators.specs.declared.UnaryOp.{UnaryOp}
+use Rattle.operators.specs.declared.UnaryOp.the-variants.{Neg, Complement, Not, Abs, ToReal, Trunc, Round, Frac}
+use Rattle.operators.specs.declared.BinaryOp.{BinaryOp}
+use Rattle.operators.specs.declared.BinaryOp.the-variants.{Arith, Power, Shift, Compare, Bits, Choice}
+
+abbrev pub unaryOps : List UnaryOp
+unaryOps = Neg ∷ Complement ∷ Not ∷ Abs ∷ ToReal ∷ Trunc ∷ Round ∷ Frac ∷ []
+
+abbrev pub binaryOps : List BinaryOp
+binaryOps =
+    Power ∷ Arith Mul ∷ Arith Div ∷ Arith Rem ∷ Arith Add ∷ Arith Sub ∷ Shift Left ∷ Shift Right ∷ Shift RightZero
+    ∷ Compare Lt ∷ Compare Gt ∷ Compare Le ∷ Compare Ge ∷ Compare Eq ∷ Compare Ne ∷ Bits And ∷ Bits Xor ∷ Bits Or ∷ Choice Max ∷ Choice Min ∷ []

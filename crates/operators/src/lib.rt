@@ -1,0 +1,248 @@
+// Every operator of paper 01 on values: mixed kinds, truth, the branches of IF, and the value of an index. Kinds are in kinds.rt.
+ghost use mathlib.Core.Path.{_≡_};
+ghost use Rattle.operators.specs.Operators.{asReal, pairOf, arithRule, compareRule, choiceRule, powerRule, bitsRule, shiftRule};
+ghost use Rattle.operators.specs.Operators.{fromBool, cutOutcome, truthRule, unaryRule, binaryRule, branchRule, indexRule};
+use reals::ArithOp;
+use values::BitOp;
+use values::ChoiceOp;
+use values::CompareOp;
+use values::Cut;
+use values::Fault;
+use values::Kind;
+use values::Outcome;
+use values::ShiftOp;
+use values::Value;
+
+pub mod kinds;
+
+// The operators whose two operands are both worked out: && and || are not among them.
+pub enum BinaryOp {
+    Arith(ArithOp),
+    Power,
+    Shift(ShiftOp),
+    Compare(CompareOp),
+    Bits(BitOp),
+    Choice(ChoiceOp),
+}
+
+// Trunc is both TRUNC and TOINT.
+pub enum UnaryOp {
+    Neg,
+    Complement,
+    Not,
+    Abs,
+    ToReal,
+    Trunc,
+    Round,
+    Frac,
+}
+
+// Two operands of one kind.
+pub enum Pair {
+    Ints(i32, i32),
+    Reals(f32, f32),
+}
+
+// A real as it is, an integer promoted.
+pub fn as_real(v: Value) -> f32
+    ensures { λ r. ⌜ r ≡ asReal v ⌝ }
+{
+    match v {
+        Value::Int(z) => values::convert::promote(z),
+        Value::Real(x) => x,
+    }
+}
+
+// Integers if both are; otherwise the integer among them is promoted.
+pub fn paired(a: Value, b: Value) -> Pair
+    ensures { λ r. ⌜ r ≡ pairOf a b ⌝ }
+{
+    match a {
+        Value::Int(i) => match b {
+            Value::Int(j) => Pair::Ints(i, j),
+            Value::Real(y) => Pair::Reals(values::convert::promote(i), y),
+        },
+        Value::Real(x) => Pair::Reals(x, as_real(b)),
+    }
+}
+
+pub fn arith(op: ArithOp, a: Value, b: Value) -> Outcome
+    ensures { λ r. ⌜ r ≡ arithRule op a b ⌝ }
+{
+    match paired(a, b) {
+        Pair::Ints(i, j) => values::integers::arith(op, i, j),
+        Pair::Reals(x, y) => values::singles::arith(op, x, y),
+    }
+}
+
+pub fn compare(op: CompareOp, a: Value, b: Value) -> bool
+    ensures { λ r. ⌜ r ≡ compareRule op a b ⌝ }
+{
+    match paired(a, b) {
+        Pair::Ints(i, j) => values::integers::compare(op, i, j),
+        Pair::Reals(x, y) => values::singles::compare(op, x, y),
+    }
+}
+
+pub fn choose(op: ChoiceOp, a: Value, b: Value) -> Value
+    ensures { λ r. ⌜ r ≡ choiceRule op a b ⌝ }
+{
+    match paired(a, b) {
+        Pair::Ints(i, j) => Value::Int(values::integers::choose(op, i, j)),
+        Pair::Reals(x, y) => Value::Real(values::singles::choose(op, x, y)),
+    }
+}
+
+pub fn power(a: Value, n: Value) -> Outcome
+    ensures { λ r. ⌜ r ≡ powerRule a n ⌝ }
+{
+    match n {
+        Value::Int(k) => match a {
+            Value::Int(z) => values::integers::power(z, k),
+            Value::Real(x) => values::singles::power(x, k),
+        },
+        Value::Real(_) => Outcome::WrongKind,
+    }
+}
+
+pub fn bits(op: BitOp, a: Value, b: Value) -> Outcome
+    ensures { λ r. ⌜ r ≡ bitsRule op a b ⌝ }
+{
+    match a {
+        Value::Int(i) => match b {
+            Value::Int(j) => Outcome::Done(Value::Int(values::patterns::bitwise(op, i, j))),
+            Value::Real(_) => Outcome::WrongKind,
+        },
+        Value::Real(_) => Outcome::WrongKind,
+    }
+}
+
+pub fn shift(op: ShiftOp, a: Value, s: Value) -> Outcome
+    ensures { λ r. ⌜ r ≡ shiftRule op a s ⌝ }
+{
+    match a {
+        Value::Int(i) => match s {
+            Value::Int(j) => values::patterns::shift(op, i, j),
+            Value::Real(_) => Outcome::WrongKind,
+        },
+        Value::Real(_) => Outcome::WrongKind,
+    }
+}
+
+fn from_bool(b: bool) -> Value
+    ensures { λ r. ⌜ r ≡ fromBool b ⌝ }
+{
+    if b { Value::Int(1) } else { Value::Int(0) }
+}
+
+pub fn binary(op: BinaryOp, a: Value, b: Value) -> Outcome
+    ensures { λ r. ⌜ r ≡ binaryRule op a b ⌝ }
+{
+    match op {
+        BinaryOp::Arith(o) => arith(o, a, b),
+        BinaryOp::Power => power(a, b),
+        BinaryOp::Shift(o) => shift(o, a, b),
+        BinaryOp::Compare(o) => Outcome::Done(from_bool(compare(o, a, b))),
+        BinaryOp::Bits(o) => bits(o, a, b),
+        BinaryOp::Choice(o) => Outcome::Done(choose(o, a, b)),
+    }
+}
+
+// Non-zero is true, and -0.0 is zero.
+pub fn truth(v: Value) -> bool
+    ensures { λ r. ⌜ r ≡ truthRule v ⌝ }
+{
+    match v {
+        Value::Int(z) => z != 0,
+        Value::Real(x) => x != 0.0,
+    }
+}
+
+fn negate(v: Value) -> Outcome
+    ensures { λ r. ⌜ r ≡ unaryRule UnaryOp.Neg v ⌝ }
+{
+    match v {
+        Value::Int(z) => values::integers::negate(z),
+        Value::Real(x) => Outcome::Done(Value::Real(-x)),
+    }
+}
+
+fn complement(v: Value) -> Outcome
+    ensures { λ r. ⌜ r ≡ unaryRule UnaryOp.Complement v ⌝ }
+{
+    match v {
+        Value::Int(z) => Outcome::Done(Value::Int(values::patterns::complement(z))),
+        Value::Real(_) => Outcome::WrongKind,
+    }
+}
+
+fn absolute(v: Value) -> Outcome
+    ensures { λ r. ⌜ r ≡ unaryRule UnaryOp.Abs v ⌝ }
+{
+    match v {
+        Value::Int(z) => values::integers::absolute(z),
+        Value::Real(x) => Outcome::Done(Value::Real(values::singles::absolute(x))),
+    }
+}
+
+fn from_cut(c: Cut) -> Outcome
+    ensures { λ r. ⌜ r ≡ cutOutcome c ⌝ }
+{
+    match c {
+        Cut::Whole(z) => Outcome::Done(Value::Int(z)),
+        Cut::Outside => Outcome::Stopped(Fault::OutOfRange),
+    }
+}
+
+// An integer is a cut already.
+fn round(v: Value) -> Outcome
+    ensures { λ r. ⌜ r ≡ unaryRule UnaryOp.Round v ⌝ }
+{
+    match v {
+        Value::Int(_) => Outcome::Done(v),
+        Value::Real(x) => from_cut(values::convert::round(x)),
+    }
+}
+
+fn truncate(v: Value) -> Outcome
+    ensures { λ r. ⌜ r ≡ unaryRule UnaryOp.Trunc v ⌝ }
+{
+    match v {
+        Value::Int(_) => Outcome::Done(v),
+        Value::Real(x) => from_cut(values::convert::truncate(x)),
+    }
+}
+
+pub fn unary(op: UnaryOp, v: Value) -> Outcome
+    ensures { λ r. ⌜ r ≡ unaryRule op v ⌝ }
+{
+    match op {
+        UnaryOp::Neg => negate(v),
+        UnaryOp::Complement => complement(v),
+        UnaryOp::Not => Outcome::Done(from_bool(!truth(v))),
+        UnaryOp::Abs => absolute(v),
+        UnaryOp::ToReal => Outcome::Done(Value::Real(as_real(v))),
+        UnaryOp::Trunc => truncate(v),
+        UnaryOp::Round => round(v),
+        UnaryOp::Frac => values::singles::arith(ArithOp::Rem, as_real(v), 1.0),
+    }
+}
+
+// The chosen branch of IF, where the other branch is of the kind given.
+pub fn branch(v: Value, other: Kind) -> Value
+    ensures { λ r. ⌜ r ≡ branchRule v other ⌝ }
+{
+    match other {
+        Kind::Int => v,
+        Kind::Real => Value::Real(as_real(v)),
+    }
+}
+
+pub fn index(v: Value) -> Cut
+    ensures { λ r. ⌜ r ≡ indexRule v ⌝ }
+{
+    match v {
+        Value::Int(z) => Cut::Whole(z),
+        Value::Real(x) => values::convert::truncate(x),
+    }
+}

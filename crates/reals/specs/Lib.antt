@@ -1,0 +1,4 @@
+pub mod Singles
+pub mod Rounding
+pub mod Operations
+pub mod Laws

@@ -1,0 +1,202 @@
+// Every operator on a table of edge cases, to compare with an oracle on hardware floats: tests/values/oracle.c.
+// A line has a name and the results for every operand of the table; for two operands the left one stands after the name.
+// A result is i and a signed decimal, r and a pattern, ! and a fault's number, or ? for an operand of the wrong kind.
+use operators::BinaryOp;
+use operators::UnaryOp;
+use reals::ArithOp;
+use values::BitOp;
+use values::ChoiceOp;
+use values::CompareOp;
+use values::Cut;
+use values::Fault;
+use values::Kind;
+use values::Outcome;
+use values::ShiftOp;
+use values::Value;
+
+mod text;
+
+// Around the bounds of shift counts and exponents, above the 24 bits of a single, and the limits of 32 bits.
+const INTEGERS: [i32; 15] = [
+    0,
+    1,
+    -1,
+    2,
+    3,
+    -7,
+    31,
+    32,
+    64,
+    65,
+    16777217,
+    -16777219,
+    1073741962,
+    2147483647,
+    -2147483648,
+];
+
+// Patterns: zeros, subnormals, halves, whole numbers, and both sides of 2 ^ 31.
+const SINGLES: [u32; 22] = [
+    0x0000_0000, // 0.0
+    0x8000_0000, // -0.0
+    0x0000_0001, // the smallest subnormal
+    0x8000_0001, // the same below zero
+    0x007f_ffff, // the largest subnormal
+    0x0080_0000, // the smallest normal
+    0x3eff_ffff, // the single below 0.5
+    0x3f00_0000, // 0.5
+    0xbf00_0000, // -0.5
+    0x3f7f_ffff, // the single below 1.0
+    0x3f80_0000, // 1.0
+    0xbf80_0000, // -1.0
+    0x3fc0_0000, // 1.5
+    0xc020_0000, // -2.5
+    0x4aff_ffff, // 2 ^ 23 - 0.5
+    0x4b80_0000, // 2 ^ 24
+    0x4eff_ffff, // the single below 2 ^ 31
+    0x4f00_0000, // 2 ^ 31
+    0xcf00_0000, // -(2 ^ 31)
+    0xcf00_0001, // the single below that
+    0x7f7f_ffff, // the largest single
+    0xff7f_ffff, // the least single
+];
+
+// What takes one operand. An operator with its left operand is among these: it takes the right one.
+enum Function {
+    Unary(UnaryOp),
+    Truth,
+    Index,
+    Branch(Kind),
+    Binary(BinaryOp, Value),
+}
+
+// The single of a pattern that is no NaN's. The table has no other.
+fn single(pattern: u32) -> f32 {
+    if pattern % 0x8000_0000 <= 0x7f80_0000 {
+        return f32::from_bits(pattern);
+    }
+    0.0
+}
+
+// The integers of the table, and then its singles.
+fn operand(n: usize) -> Value {
+    if n < 15 {
+        return Value::Int(INTEGERS[n]);
+    }
+    if n < 37 {
+        return Value::Real(single(SINGLES[n - 15]));
+    }
+    Value::Int(0)
+}
+
+fn truth(v: Value) -> Value {
+    if operators::truth(v) {
+        Value::Int(1)
+    } else {
+        Value::Int(0)
+    }
+}
+
+// An index outside 32 bits is OutOfRange.
+fn index(v: Value) -> Outcome {
+    match operators::index(v) {
+        Cut::Whole(z) => Outcome::Done(Value::Int(z)),
+        Cut::Outside => Outcome::Stopped(Fault::OutOfRange),
+    }
+}
+
+fn apply(f: Function, v: Value) -> Outcome {
+    match f {
+        Function::Unary(op) => operators::unary(op, v),
+        Function::Truth => Outcome::Done(truth(v)),
+        Function::Index => index(v),
+        Function::Branch(other) => Outcome::Done(operators::branch(v, other)),
+        Function::Binary(op, a) => operators::binary(op, a, v),
+    }
+}
+
+// Ends a line with the results for every operand, and writes it.
+fn results(line: &mut [u8; 512], at: usize, f: Function) {
+    let mut end = at;
+    for n in 0usize..37 {
+        end = text::put_outcome(line, end, apply(f, operand(n)));
+    }
+    text::write(line, end);
+}
+
+fn one(name: &[u8], f: Function) {
+    let mut line = [0u8; 512];
+    let end = text::put_all(&mut line, 0, name);
+    results(&mut line, end, f);
+}
+
+fn left(name: &[u8], op: BinaryOp, a: Value) {
+    let mut line = [0u8; 512];
+    let mut end = text::put_all(&mut line, 0, name);
+    end = text::put_outcome(&mut line, end, Outcome::Done(a));
+    end = text::put(&mut line, end, b':');
+    results(&mut line, end, Function::Binary(op, a));
+}
+
+// A line for each left operand.
+fn two(name: &[u8], op: BinaryOp) {
+    for n in 0usize..37 {
+        left(name, op, operand(n));
+    }
+}
+
+// The numbers of the faults. No operator gives the last, which is a bank's.
+fn faults() {
+    let mut line = [0u8; 512];
+    let mut end = text::put_all(&mut line, 0, b"faults");
+    end = text::put_outcome(&mut line, end, Outcome::Stopped(Fault::DividedByZero));
+    end = text::put_outcome(&mut line, end, Outcome::Stopped(Fault::Overflow));
+    end = text::put_outcome(&mut line, end, Outcome::Stopped(Fault::OutOfRange));
+    end = text::put_outcome(&mut line, end, Outcome::Stopped(Fault::IndexError));
+    text::write(&mut line, end);
+}
+
+// The first of these lines has the operands themselves.
+fn ones() {
+    one(b"branch of int", Function::Branch(Kind::Int));
+    one(b"branch of real", Function::Branch(Kind::Real));
+    one(b"truth", Function::Truth);
+    one(b"index", Function::Index);
+    one(b"-", Function::Unary(UnaryOp::Neg));
+    one(b"~", Function::Unary(UnaryOp::Complement));
+    one(b"!", Function::Unary(UnaryOp::Not));
+    one(b"ABS", Function::Unary(UnaryOp::Abs));
+    one(b"TOREAL", Function::Unary(UnaryOp::ToReal));
+    one(b"TRUNC", Function::Unary(UnaryOp::Trunc));
+    one(b"ROUND", Function::Unary(UnaryOp::Round));
+    one(b"FRAC", Function::Unary(UnaryOp::Frac));
+}
+
+fn twos() {
+    two(b"+", BinaryOp::Arith(ArithOp::Add));
+    two(b"-", BinaryOp::Arith(ArithOp::Sub));
+    two(b"*", BinaryOp::Arith(ArithOp::Mul));
+    two(b"/", BinaryOp::Arith(ArithOp::Div));
+    two(b"%", BinaryOp::Arith(ArithOp::Rem));
+    two(b"**", BinaryOp::Power);
+    two(b"<<", BinaryOp::Shift(ShiftOp::Left));
+    two(b">>", BinaryOp::Shift(ShiftOp::Right));
+    two(b">>>", BinaryOp::Shift(ShiftOp::RightZero));
+    two(b"<", BinaryOp::Compare(CompareOp::Lt));
+    two(b">", BinaryOp::Compare(CompareOp::Gt));
+    two(b"<=", BinaryOp::Compare(CompareOp::Le));
+    two(b">=", BinaryOp::Compare(CompareOp::Ge));
+    two(b"==", BinaryOp::Compare(CompareOp::Eq));
+    two(b"!=", BinaryOp::Compare(CompareOp::Ne));
+    two(b"&", BinaryOp::Bits(BitOp::And));
+    two(b"|", BinaryOp::Bits(BitOp::Or));
+    two(b"^", BinaryOp::Bits(BitOp::Xor));
+    two(b"MAX", BinaryOp::Choice(ChoiceOp::Max));
+    two(b"MIN", BinaryOp::Choice(ChoiceOp::Min));
+}
+
+fn main() {
+    faults();
+    ones();
+    twos();
+}

@@ -1,0 +1,5 @@
+pub mod Sizes
+pub mod Equality
+pub mod Counts
+pub mod Results
+pub mod Powers

@@ -1,0 +1,80 @@
+-- Powers of an integer: one that leaves 32 bits does not come back, and a loop that multiplies holds the power reached so far.
+use mathlib.Core.Path.{_≡_, refl, sym, ap, _∙_, subst}
+use mathlib.Core.Logic.{⊎-elim}
+use mathlib.Core.Bool.{true, false, and-true}
+use Prim.Native.Nat.{ℕ, zero, suc, _+_, _*_, _^_, _≤_, _<_, zero-le}
+use native.Mathlib.Nat.{eq-or-lt-of-le, le-antisymm, mul-le-mul, pow-zero, pow-suc, pow-le-pow-left, pow-le-pow-right}
+use native.Mathlib.Numerals.{add-one}
+use native.Mathlib.Omega.{arith}
+use lib.Dec.{leb, lit<}
+use lib.IntN.{ℤ, pos, negsuc, natAbs, _*ℤ_}
+use borrow.Author.Tests.{leb-false, lt-leb}
+use mir.Syntax.{w32}
+use mir.Val.{SFits}
+use Rattle.values.specs.declared.Value.the-variants.{Int}
+use Rattle.values.specs.declared.Fault.the-variants.{Overflow}
+use Rattle.values.specs.declared.Outcome.the-variants.{Done, Stopped}
+use Rattle.values.specs.Integers.{inRange, exactInt, powZ}
+use Rattle.values.proofs.Ranges.{range-sfits}
+use Rattle.values.proofs.integers.Sizes.{mul-size}
+use Rattle.values.proofs.integers.Results.{exact-within}
+
+-- ---- the size of a power
+pow-size : (a : ℤ) (n : ℕ) → natAbs (powZ a n) ≡ natAbs a ^ n
+pow-size a zero = sym (pow-zero (natAbs a))
+pow-size a (suc n) = mul-size (powZ a n) a ∙ ap (λ (x : ℕ). x * natAbs a) (pow-size a n) ∙ sym (pow-suc (natAbs a) n)
+
+one-pow : (n : ℕ) → 1 ^ n ≡ 1
+one-pow zero = refl
+one-pow (suc n) = rw (pow-suc 1 n, one-pow n)
+
+-- 0 and 1 have no large power
+base : (m j : ℕ) → 2 ^ 31 ≤ m ^ j → 2 ≤ m
+base zero j h = omega (arith, pow-le-pow-left {n = 0} {m = 1} zero-le j, one-pow j)
+base (suc zero) j h = omega (arith, one-pow j)
+base (suc (suc m)) j h = omega arith
+
+-- so a large power grows
+grows : (m j n : ℕ) → j < n → 2 ^ 31 ≤ m ^ j → 2 ^ 31 < m ^ n
+grows m j n l h =
+    let b = base m j h in
+    let p : 0 < m = omega arith in
+    omega (arith, pow-suc m j, mul-le-mul h b, pow-le-pow-right p l)
+
+-- ---- the range: of the two integers of size 2 ^ 31 it holds the negative one
+outside-size : (z : ℤ) → inRange z ≡ false → 2 ^ 31 ≤ natAbs z
+outside-size (pos n) e = omega (arith, leb-false n 2147483647 e)
+outside-size (negsuc n) e = omega (arith, leb-false n 2147483647 (sym (and-true (leb n 2147483647)) ∙ e))
+
+size-outside : (z : ℤ) → 2 ^ 31 < natAbs z → inRange z ≡ false
+size-outside (pos n) h = lt-leb n 2147483647 (omega arith)
+size-outside (negsuc n) h = and-true (leb n 2147483647) ∙ lt-leb n 2147483647 (omega arith)
+
+pub stays-outside : (a : ℤ) (j n : ℕ) → j ≤ n → inRange (powZ a j) ≡ false → inRange (powZ a n) ≡ false
+stays-outside a j n l e =
+    ⊎-elim
+    (λ q. subst (λ (m : ℕ). inRange (powZ a m) ≡ false) q e)
+    (λ k. size-outside (powZ a n) (rw (pow-size a n) (grows (natAbs a) j n k (rw (pow-size a j) at (outside-size (powZ a j) e)))))
+    (eq-or-lt-of-le l)
+
+-- ---- the loop: after k of n turns it holds p
+pub record Reached (a : ℤ) (n k : ℕ) (p : ℤ) : Type 0 where
+  pub power : p ≡ powZ a k
+  pub fits : SFits w32 p
+  pub count : k ≤ n
+
+pub reached-none : (a : ℤ) (n : ℕ) → Reached a n 0 (pos 1)
+reached-none a n = record { power = refl; fits = record { sfits = lit< tt }; count = zero-le }
+
+module _ (a : ℤ) (n k : ℕ) (p : ℤ) (R : Reached a n k p) where
+  power-next : p *ℤ a ≡ powZ a (suc k)
+  power-next = ap (λ (z : ℤ). z *ℤ a) (R .power)
+
+  pub reached-next : k < n → inRange (p *ℤ a) ≡ true → Reached a n (k + 1) (p *ℤ a)
+  reached-next l e = rw (add-one k) (record { power = power-next; fits = range-sfits (p *ℤ a) e; count = l })
+
+  pub reached-outside : k < n → inRange (p *ℤ a) ≡ false → Stopped Overflow ≡ exactInt (powZ a n)
+  reached-outside l e = rw (stays-outside a (suc k) n l (rw power-next at e))
+
+  pub reached-all : n ≤ k → Done (Int p) ≡ exactInt (powZ a n)
+  reached-all l = exact-within p (R .fits) ∙ ap exactInt (R .power ∙ ap (powZ a) (le-antisymm (R .count) l))

@@ -1,0 +1,5 @@
+pub mod Digits
+pub mod Readings
+pub mod Operators
+pub mod Flips
+pub mod Shifts

@@ -1,0 +1,25 @@
+-- `values::singles::choose` meets its contract: the second only where the machine's comparison says so.
+use borrow.Author.Needs.{needs}
+use Rattle.values.proofs.singles.choose.Statement.{statement}
+use Rattle.values.proofs.singles.choose.Tie as tie
+
+enum-told : tie.Need-enum-told
+enum-told c = search needs
+
+enum-told-2 : tie.Need-enum-told-2
+enum-told-2 c = search needs
+
+returns : tie.Need-returns
+returns c = rw (c .before .enum-told .given .1, c .if1 .taken)
+
+returns-2 : tie.Need-returns-2
+returns-2 c = rw (c .before .enum-told .given .1, c .if1 .left)
+
+returns-3 : tie.Need-returns-3
+returns-3 c = rw (c .before .enum-told2 .given .1, c .if2 .taken)
+
+returns-4 : tie.Need-returns-4
+returns-4 c = rw (c .before .enum-told2 .given .1, c .if2 .left)
+
+pub choose-spec : {M : Type 1} → statement M
+choose-spec = tie.close (tie.spec enum-told enum-told-2 returns returns-2 returns-3 returns-4)

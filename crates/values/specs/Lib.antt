@@ -1,0 +1,5 @@
+pub mod Values
+pub mod Integers
+pub mod Patterns
+pub mod Singles
+pub mod Convert

@@ -1,0 +1,63 @@
+// Integers as 32-bit patterns: bitwise operators and shifts.
+ghost use mathlib.Core.Path.{_≡_};
+ghost use Rattle.values.specs.Patterns.{lowBits, signedOf, bitwiseInt, complementInt, shiftInt};
+use crate::BitOp;
+use crate::Fault;
+use crate::Outcome;
+use crate::ShiftOp;
+use crate::Value;
+
+pub fn bitwise(op: BitOp, a: i32, b: i32) -> i32
+    ensures { λ r. ⌜ r ≡ bitwiseInt op a b ⌝ }
+{
+    match op {
+        BitOp::And => a & b,
+        BitOp::Or => a | b,
+        BitOp::Xor => a ^ b,
+    }
+}
+
+pub fn complement(a: i32) -> i32
+    ensures { λ r. ⌜ r ≡ complementInt a ⌝ }
+{
+    !a
+}
+
+// The pattern of an integer.
+pub fn pattern(a: i32) -> u32
+    ensures { λ r. ⌜ r ≡ lowBits 32 a ⌝ }
+{
+    if 0 <= a {
+        a as u32
+    } else {
+        4294967295 - ((-1 - a) as u32)
+    }
+}
+
+// The integer of a pattern.
+pub fn from_pattern(n: u32) -> i32
+    ensures { λ r. ⌜ r ≡ signedOf 32 n ⌝ }
+{
+    if n < 2147483648 {
+        n as i32
+    } else {
+        -1 - ((4294967295 - n) as i32)
+    }
+}
+
+pub fn shift(op: ShiftOp, a: i32, s: i32) -> Outcome
+    ensures { λ r. ⌜ r ≡ shiftInt op a s ⌝ }
+{
+    if s < 0 {
+        return Outcome::Stopped(Fault::OutOfRange);
+    }
+    if 31 < s {
+        return Outcome::Stopped(Fault::OutOfRange);
+    }
+    let count = s as u32;
+    match op {
+        ShiftOp::Left => Outcome::Done(Value::Int(a << count)),
+        ShiftOp::Right => Outcome::Done(Value::Int(a >> count)),
+        ShiftOp::RightZero => Outcome::Done(Value::Int(from_pattern(pattern(a) >> count))),
+    }
+}
