@@ -14,8 +14,6 @@ use values::Outcome;
 use values::ShiftOp;
 use values::Value;
 
-mod text;
-
 // Around the bounds of shift counts and exponents, above the 24 bits of a single, and the limits of 32 bits.
 const INTEGERS: [i32; 15] = [
     0,
@@ -70,21 +68,13 @@ enum Function {
     Binary(BinaryOp, Value),
 }
 
-// The single of a pattern that is no NaN's. The table has no other.
-fn single(pattern: u32) -> f32 {
-    if pattern % 0x8000_0000 <= 0x7f80_0000 {
-        return f32::from_bits(pattern);
-    }
-    0.0
-}
-
 // The integers of the table, and then its singles.
 fn operand(n: usize) -> Value {
     if n < 15 {
         return Value::Int(INTEGERS[n]);
     }
     if n < 37 {
-        return Value::Real(single(SINGLES[n - 15]));
+        return Value::Real(case_lines::single(SINGLES[n - 15]));
     }
     Value::Int(0)
 }
@@ -119,22 +109,22 @@ fn apply(f: Function, v: Value) -> Outcome {
 fn results(line: &mut [u8; 512], at: usize, f: Function) {
     let mut end = at;
     for n in 0usize..37 {
-        end = text::put_outcome(line, end, apply(f, operand(n)));
+        end = case_lines::put_outcome(line, end, apply(f, operand(n)));
     }
-    text::write(line, end);
+    case_lines::write(line, end);
 }
 
 fn one(name: &[u8], f: Function) {
     let mut line = [0u8; 512];
-    let end = text::put_all(&mut line, 0, name);
+    let end = case_lines::put_all(&mut line, 0, name);
     results(&mut line, end, f);
 }
 
 fn left(name: &[u8], op: BinaryOp, a: Value) {
     let mut line = [0u8; 512];
-    let mut end = text::put_all(&mut line, 0, name);
-    end = text::put_outcome(&mut line, end, Outcome::Done(a));
-    end = text::put(&mut line, end, b':');
+    let mut end = case_lines::put_all(&mut line, 0, name);
+    end = case_lines::put_outcome(&mut line, end, Outcome::Done(a));
+    end = case_lines::put(&mut line, end, b':');
     results(&mut line, end, Function::Binary(op, a));
 }
 
@@ -148,12 +138,12 @@ fn two(name: &[u8], op: BinaryOp) {
 // The numbers of the faults. No operator gives the last, which is a bank's.
 fn faults() {
     let mut line = [0u8; 512];
-    let mut end = text::put_all(&mut line, 0, b"faults");
-    end = text::put_outcome(&mut line, end, Outcome::Stopped(Fault::DividedByZero));
-    end = text::put_outcome(&mut line, end, Outcome::Stopped(Fault::Overflow));
-    end = text::put_outcome(&mut line, end, Outcome::Stopped(Fault::OutOfRange));
-    end = text::put_outcome(&mut line, end, Outcome::Stopped(Fault::IndexError));
-    text::write(&mut line, end);
+    let mut end = case_lines::put_all(&mut line, 0, b"faults");
+    end = case_lines::put_outcome(&mut line, end, Outcome::Stopped(Fault::DividedByZero));
+    end = case_lines::put_outcome(&mut line, end, Outcome::Stopped(Fault::Overflow));
+    end = case_lines::put_outcome(&mut line, end, Outcome::Stopped(Fault::OutOfRange));
+    end = case_lines::put_outcome(&mut line, end, Outcome::Stopped(Fault::IndexError));
+    case_lines::write(&mut line, end);
 }
 
 // The first of these lines has the operands themselves.

@@ -1,0 +1,3 @@
+-- Laws for the proofs of cells.
+pub mod Signs
+pub mod Exponents

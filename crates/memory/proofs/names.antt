@@ -1,0 +1,3 @@
+-- Laws for the proofs of names.
+pub mod Decimals
+pub mod Words

@@ -1,0 +1,40 @@
+-- `memory::store::low16` meets its contract.
+use mathlib.Core.Path.{_≡_, ap}
+use Prim.Native.Nat.{ℕ, _%_}
+use native.Mathlib.Omega.{arith}
+use lib.IntN.{ℤ, pos, negsuc}
+use borrow.Author.Needs.{needs}
+use mir.Syntax.{w32}
+use mir.Val.{SFits}
+use mir.ValLaws.{toZ-ofZ}
+use Rattle.values.specs.Patterns.{lowBits}
+use Rattle.memory.specs.declared.store.Encoded.the-variants.{Pattern}
+use Rattle.memory.proofs.store.low16.Statement.{statement}
+use Rattle.memory.proofs.store.low16.Tie as tie
+
+-- the low 16 bits of the low 32
+low-low : (z : ℤ) → lowBits 32 z % 65536 ≡ lowBits 16 z
+low-low (pos n) = omega arith
+low-low (negsuc n) = omega arith
+
+enum-known-c : tie.Need-enum-known-c
+enum-known-c c = search needs
+
+pattern-requires : tie.Need-pattern-requires
+pattern-requires c κs = search needs
+
+enum-told : tie.Need-enum-told
+enum-told c = search needs
+
+returns : tie.Need-returns
+returns c =
+    let g = c .before .before .c .given in
+    let z = g .0 .0 in
+    let F : SFits w32 z = search needs in
+    rw (g .1, ← low-low z) (ap (λ (n : ℕ). Pattern (n % 65536)) (rw (toZ-ofZ w32 z F) at (c .pattern .ensures)))
+
+returns-2 : tie.Need-returns-2
+returns-2 c = rw (c .enum-told .given .1)
+
+pub low16-spec : {M : Type 1} → statement M
+low16-spec = tie.close (tie.spec enum-known-c pattern-requires enum-told returns returns-2)

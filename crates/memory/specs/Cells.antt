@@ -1,0 +1,71 @@
+-- Reading a cell (paper 01): "one byte a bit, any non-zero byte reads 1"; "V0-V255 unsigned 16; N0-N255 signed 16; D0-D255 signed 32; R0-R255 singles";
+-- "Reading an R cell that holds an infinity or NaN is 13." An element that is not there is 14.
+use mathlib.Core.Bool.{Bool, cond}
+use mathlib.Core.List.{List}
+use Prim.Native.Nat.{ℕ}
+use lib.Dec.{eqb}
+use lib.IntN.{ℤ, pos, negsuc}
+use lib.ListN.{take, drop}
+use lib.Ieee as Ieee
+use lib.Ieee.{Float, nan, inf, fin, binary32}
+use Rattle.words.specs.Words.{little}
+use Rattle.values.specs.declared.Kind.{Kind}
+use Rattle.values.specs.declared.Kind.the-variants as K
+use Rattle.values.specs.declared.Value.{Value}
+use Rattle.values.specs.declared.Value.the-variants.{Int, Real}
+use Rattle.values.specs.declared.Fault.the-variants.{OutOfRange, IndexError}
+use Rattle.values.specs.declared.Outcome.{Outcome}
+use Rattle.values.specs.declared.Outcome.the-variants.{Done, Stopped}
+use Rattle.values.specs.declared.Cut.{Cut}
+use Rattle.values.specs.declared.Cut.the-variants.{Whole, Outside}
+use Rattle.values.specs.Patterns.{signedOf}
+use Rattle.operators.specs.Operators.{indexRule}
+use Rattle.memory.specs.declared.Bank.{Bank}
+use Rattle.memory.specs.declared.Bank.the-variants.{X, C, «V», N, D, R}
+use Rattle.memory.specs.Layout.{layoutOf, cellAt, hasCell}
+
+-- "Bits, V, N, D and plain numerals are integers."
+abbrev pub bankKind : Bank → Kind
+bankKind X = K.Int
+bankKind C = K.Int
+bankKind «V» = K.Int
+bankKind N = K.Int
+bankKind D = K.Int
+bankKind R = K.Real
+
+-- the bytes of a cell
+abbrev pub bytesAt : List ℕ → Bank → ℕ → List ℕ
+bytesAt s b i = take (layoutOf b .width) (drop (cellAt b i) s)
+
+abbrev pub bitOf : ℕ → ℤ
+bitOf n = cond (eqb n 0) (pos 0) (pos 1)
+
+-- a finite single, or 13
+abbrev pub finiteOr13 : Float → Outcome
+finiteOr13 nan = Stopped OutOfRange
+finiteOr13 (inf s) = Stopped OutOfRange
+finiteOr13 (fin s m e) = Done (Real (fin s m e))
+
+abbrev pub realCell : ℕ → Outcome
+realCell n = finiteOr13 (Ieee.ofBits binary32 n)
+
+-- what a bank reads in the number of a cell's bytes
+abbrev pub cellValue : Bank → ℕ → Outcome
+cellValue X n = Done (Int (bitOf n))
+cellValue C n = Done (Int (bitOf n))
+cellValue «V» n = Done (Int (pos n))
+cellValue N n = Done (Int (signedOf 16 n))
+cellValue D n = Done (Int (signedOf 32 n))
+cellValue R n = realCell n
+
+abbrev pub readRule : List ℕ → Bank → ℕ → Outcome
+readRule s b i = cond (hasCell s b i) (cellValue b (little (bytesAt s b i))) (Stopped IndexError)
+
+-- "An index is truncated if real (13 outside 32 bits); then 14 if outside its bank."
+abbrev pub atIndex : (ℕ → Outcome) → Cut → Outcome
+atIndex f (Whole (pos i)) = f i
+atIndex f (Whole (negsuc i)) = Stopped IndexError
+atIndex f Outside = Stopped OutOfRange
+
+abbrev pub indexedRule : List ℕ → Bank → Value → Outcome
+indexedRule s b v = atIndex (readRule s b) (indexRule v)

@@ -1,0 +1,44 @@
+-- What holds of reading and storing, for the layers above: proofs/Laws.antt proves this record.
+use mathlib.Core.Path.{_≡_}
+use mathlib.Core.Logic.{_≢_, _⊎_}
+use mathlib.Core.Bool.{Bool, true, false}
+use mathlib.Core.List.{List}
+use Prim.Native.Nat.{ℕ, _+_, _≤_, _<_}
+use lib.Dec.{T}
+use lib.ListN.{length, getD}
+use Rattle.words.specs.Laws.{Bytes}
+use Rattle.values.specs.declared.Value.{Value}
+use Rattle.values.specs.declared.Fault.{Fault}
+use Rattle.operators.specs.Laws.{Proper, OfKind, AllProper}
+use Rattle.memory.specs.declared.Bank.{Bank}
+use Rattle.memory.specs.declared.Bank.the-variants.{C}
+use Rattle.memory.specs.declared.store.Encoded.the-variants.{Pattern}
+use Rattle.memory.specs.Layout.{layoutOf, cellAt, hasCell, flagAt}
+use Rattle.memory.specs.Cells.{bankKind, cellValue, readRule}
+use Rattle.memory.specs.Store.{encode, flagged, storeImage}
+
+-- two cells that are not the same
+abbrev pub Distinct : Bank → ℕ → Bank → ℕ → Type 0
+Distinct b i c j = (b ≢ c) ⊎ (i ≢ j)
+
+-- the byte k is one of the cell's
+pub record Within (b : Bank) (i k : ℕ) : Type 0 where
+  pub from : cellAt b i ≤ k
+  pub to : k < cellAt b i + layoutOf b .width
+
+pub record MemoryLaws : Type 0 where
+  -- distinct cells share no byte, and none is a flag's
+  pub apart : (b : Bank) (i : ℕ) (c : Bank) (j k : ℕ) → i < layoutOf b .elements → j < layoutOf c .elements → Distinct b i c j → Within b i k → Within c j k → ⊥
+  pub no-flag : (b : Bank) (i : ℕ) (f : Fault) → i < layoutOf b .elements → Within b i (flagAt f) → ⊥
+  -- a store then read gives what the bank holds of the value; every other cell reads as before, and so after a flag is set
+  pub read-stored : (s : List ℕ) (b : Bank) (i : ℕ) (v : Value) (p : ℕ) → T (hasCell s b i) → Proper v → encode b v ≡ Pattern p → readRule (storeImage s b i v) b i ≡ cellValue b p
+  pub read-other : (s : List ℕ) (b : Bank) (i : ℕ) (c : Bank) (j : ℕ) (v : Value) → Distinct b i c j → readRule (storeImage s b i v) c j ≡ readRule s c j
+  pub read-flagged : (s : List ℕ) (f : Fault) (c : Bank) (j : ℕ) → readRule (flagged s f) c j ≡ readRule s c j
+  -- a store that is done changes the cell's bytes only; the image keeps its length
+  pub others-kept : (s : List ℕ) (b : Bank) (i : ℕ) (v : Value) (p k : ℕ) → encode b v ≡ Pattern p → T (hasCell s b i) → (Within b i k → ⊥) → getD (storeImage s b i v) k 0 ≡ getD s k 0
+  pub same-length : (s : List ℕ) (b : Bank) (i : ℕ) (v : Value) → length (storeImage s b i v) ≡ length s
+  -- a bit is stored as 0 or 1
+  pub bit-stored : (v : Value) (p : ℕ) → encode C v ≡ Pattern p → p < 2
+  -- a cell of bytes reads a proper value of its bank's kind, or a fault
+  pub read-proper : (s : List ℕ) (b : Bank) (i : ℕ) → Bytes s → AllProper (readRule s b i)
+  pub read-kind : (s : List ℕ) (b : Bank) (i : ℕ) → OfKind (bankKind b) (readRule s b i)

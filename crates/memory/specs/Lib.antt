@@ -1,0 +1,6 @@
+pub mod Layout
+pub mod Cells
+pub mod Environment
+pub mod Store
+pub mod Names
+pub mod Laws

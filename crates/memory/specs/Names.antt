@@ -1,0 +1,77 @@
+-- Names of cells (paper 01): "a bank letter and a decimal number without a leading zero (`0` itself is good)", within its bank; and answer 2: "target is not exactly
+-- one word that is a C, V, N, D or R cell, no spaces".
+use mathlib.Core.Bool.{Bool, true, false, _&&_, cond}
+use mathlib.Core.List.{List, [], _∷_}
+use Prim.Native.Nat.{ℕ, _+_, _-_, _*_}
+use lib.Dec.{eqb, leb, ltb}
+use Rattle.memory.specs.declared.Bank.{Bank}
+use Rattle.memory.specs.declared.Bank.the-variants.{X, C, «V», N, D, R}
+use Rattle.memory.specs.declared.names.Letter.{Letter}
+use Rattle.memory.specs.declared.names.Letter.the-variants as L
+use Rattle.memory.specs.declared.names.Element.{Element}
+use Rattle.memory.specs.declared.names.Element.the-variants as E
+use Rattle.memory.specs.declared.names.Named.{Named}
+use Rattle.memory.specs.declared.names.Named.the-variants as A
+use Rattle.memory.specs.Layout.{layoutOf}
+
+-- the six letters, by their bytes
+unfoldable pub bankOf : ℕ → Letter
+bankOf c =
+    cond (eqb c 88) (L.Of X)
+    (cond (eqb c 67) (L.Of C)
+    (cond (eqb c 86) (L.Of «V»)
+    (cond (eqb c 78) (L.Of N)
+    (cond (eqb c 68) (L.Of D)
+    (cond (eqb c 82) (L.Of R)
+    L.Other)))))
+
+abbrev pub isDigit : ℕ → Bool
+isDigit c = leb 48 c && ltb c 58
+
+abbrev pub allDigits : List ℕ → Bool
+allDigits [] = true
+allDigits (c ∷ cs) = isDigit c && allDigits cs
+
+-- there is a digit, and no leading zero but in `0` itself
+abbrev pub plain : List ℕ → Bool
+plain [] = false
+plain (c ∷ []) = true
+plain (c ∷ d ∷ cs) = cond (eqb c 48) false true
+
+-- the number of decimal digits, after those that make n
+abbrev pub decimalFrom : ℕ → List ℕ → ℕ
+decimalFrom n [] = n
+decimalFrom n (c ∷ cs) = decimalFrom (n * 10 + (c - 48)) cs
+
+abbrev pub decimal : List ℕ → ℕ
+decimal cs = decimalFrom 0 cs
+
+-- a decimal number without a leading zero, below n
+abbrev pub numberBelow : ℕ → List ℕ → Bool
+numberBelow n cs = plain cs && allDigits cs && ltb (decimal cs) n
+
+abbrev pub elementRule : List ℕ → Element
+elementRule cs = cond (numberBelow 256 cs) (E.At (decimal cs)) E.Other
+
+-- the digits cs after a bank letter
+abbrev pub cellOf : List ℕ → Letter → Named
+cellOf cs (L.Of b) = cond (numberBelow (layoutOf b .elements) cs) (A.Cell b (decimal cs)) A.Other
+cellOf cs L.Other = A.Other
+
+unfoldable pub namedRule : List ℕ → Named
+unfolding bankOf
+namedRule [] = A.Other
+namedRule (c ∷ cs) = cellOf cs (bankOf c)
+
+-- X is read only
+abbrev pub storable : Named → Named
+storable (A.Cell X i) = A.Other
+storable (A.Cell C i) = A.Cell C i
+storable (A.Cell «V» i) = A.Cell «V» i
+storable (A.Cell N i) = A.Cell N i
+storable (A.Cell D i) = A.Cell D i
+storable (A.Cell R i) = A.Cell R i
+storable A.Other = A.Other
+
+abbrev pub targetRule : List ℕ → Named
+targetRule text = storable (namedRule text)

@@ -1,0 +1,79 @@
+-- The store (paper 01): "to D the integer; to V or N its low 16 bits; to C byte 1 if it is non-zero (0.5 is ON), else 0; to R promoted; a real to V, N or D
+-- truncated first", 13 where it lies outside 32 bits. "11 to 14 set their flag's byte to 1 and change nothing else in memory".
+-- An infinite or NaN real, which no formula gives, is 13 into any cell. X is stored to as C is, though no target names it. An image of another size stays as it is.
+use mathlib.Core.Bool.{Bool, true, false, cond}
+use mathlib.Core.List.{List}
+use Prim.Native.Nat.{ℕ}
+use lib.Dec.{eqb}
+use lib.IntN.{ℤ}
+use lib.ListN.{length, set}
+use lib.Seq.{sets}
+use lib.Ieee as Ieee
+use lib.Ieee.{binary32}
+use lib.Ieee.Scale.{finite}
+use Rattle.words.specs.Words.{bytesOf}
+use Rattle.values.specs.declared.Value.{Value}
+use Rattle.values.specs.declared.Value.the-variants.{Int, Real}
+use Rattle.values.specs.declared.Fault.{Fault}
+use Rattle.values.specs.declared.Fault.the-variants.{OutOfRange, IndexError}
+use Rattle.values.specs.declared.Cut.{Cut}
+use Rattle.values.specs.declared.Cut.the-variants.{Whole, Outside}
+use Rattle.values.specs.Patterns.{lowBits}
+use Rattle.values.specs.Convert.{truncated}
+use Rattle.operators.specs.Operators.{asReal, truthRule}
+use Rattle.memory.specs.declared.Bank.{Bank}
+use Rattle.memory.specs.declared.Bank.the-variants.{X, C, «V», N, D, R}
+use Rattle.memory.specs.declared.store.Encoded.{Encoded}
+use Rattle.memory.specs.declared.store.Encoded.the-variants as E
+use Rattle.memory.specs.declared.store.Stored.{Stored}
+use Rattle.memory.specs.declared.store.Stored.the-variants as S
+use Rattle.memory.specs.Layout.{imageSize, layoutOf, cellAt, hasCell, flagAt}
+
+abbrev pub boolPattern : Bool → ℕ
+boolPattern true = 1
+boolPattern false = 0
+
+-- the low k bits of an integer, or 13
+abbrev pub lowCut : ℕ → Cut → Encoded
+lowCut k (Whole z) = E.Pattern (lowBits k z)
+lowCut k Outside = E.Stopped OutOfRange
+
+-- "a real to V, N or D truncated first"
+abbrev pub integerOf : Value → Cut
+integerOf (Int z) = Whole z
+integerOf (Real x) = truncated x
+
+-- the pattern that a bank holds of a value that is finite
+abbrev pub encodeFinite : Bank → Value → Encoded
+encodeFinite X v = E.Pattern (boolPattern (truthRule v))
+encodeFinite C v = E.Pattern (boolPattern (truthRule v))
+encodeFinite «V» v = lowCut 16 (integerOf v)
+encodeFinite N v = lowCut 16 (integerOf v)
+encodeFinite D v = lowCut 32 (integerOf v)
+encodeFinite R v = E.Pattern (Ieee.toBits binary32 (asReal v))
+
+abbrev pub isFinite : Value → Bool
+isFinite (Int z) = true
+isFinite (Real x) = finite x
+
+abbrev pub encode : Bank → Value → Encoded
+encode b v = cond (isFinite v) (encodeFinite b v) (E.Stopped OutOfRange)
+
+-- the flag's byte is 1, every other byte as it was
+abbrev pub flagged : List ℕ → Fault → List ℕ
+flagged s f = cond (eqb (length s) imageSize) (set s (flagAt f) 1) s
+
+-- `sets s at bs`: the bytes bs from the place at on, every other byte as it was
+abbrev pub written : List ℕ → Bank → ℕ → Encoded → List ℕ
+written s b i (E.Pattern p) = sets s (cellAt b i) (bytesOf (layoutOf b .width) p)
+written s b i (E.Stopped f) = flagged s f
+
+abbrev pub storeImage : List ℕ → Bank → ℕ → Value → List ℕ
+storeImage s b i v = cond (hasCell s b i) (written s b i (encode b v)) (flagged s IndexError)
+
+abbrev pub answerOf : Encoded → Stored
+answerOf (E.Pattern p) = S.Done
+answerOf (E.Stopped f) = S.Stopped f
+
+abbrev pub storeAnswer : List ℕ → Bank → ℕ → Value → Stored
+storeAnswer s b i v = cond (hasCell s b i) (answerOf (encode b v)) (S.Stopped IndexError)

@@ -1,0 +1,85 @@
+// The memory image of paper 01: 3,204 bytes that the caller lends. This crate alone knows where a cell lies.
+ghost use mathlib.Core.Path.{_≡_};
+ghost use Rattle.memory.specs.Layout.{layoutOf, flagAt};
+use values::Fault;
+
+pub mod cells;
+pub mod names;
+pub mod store;
+
+pub enum Bank {
+    X,
+    C,
+    V,
+    N,
+    D,
+    R,
+}
+
+// A bank's place in the image, how many elements it has, and the bytes of each.
+pub struct Layout {
+    pub place: usize,
+    pub elements: u32,
+    pub width: usize,
+}
+
+pub const IMAGE_SIZE: usize = 3204;
+
+// In the order of Bank.
+const BANKS: [Layout; 6] = [
+    Layout {
+        place: 0,
+        elements: 64,
+        width: 1,
+    },
+    Layout {
+        place: 64,
+        elements: 64,
+        width: 1,
+    },
+    Layout {
+        place: 128,
+        elements: 256,
+        width: 2,
+    },
+    Layout {
+        place: 640,
+        elements: 256,
+        width: 2,
+    },
+    Layout {
+        place: 1152,
+        elements: 256,
+        width: 4,
+    },
+    Layout {
+        place: 2176,
+        elements: 256,
+        width: 4,
+    },
+];
+
+pub fn layout_of(bank: Bank) -> Layout
+    ensures { λ r. ⌜ r ≡ layoutOf bank ⌝ }
+{
+    match bank {
+        Bank::X => BANKS[0],
+        Bank::C => BANKS[1],
+        Bank::V => BANKS[2],
+        Bank::N => BANKS[3],
+        Bank::D => BANKS[4],
+        Bank::R => BANKS[5],
+    }
+}
+
+// The place of a fault's flag.
+pub fn flag_at(f: Fault) -> usize
+    ensures { λ r. ⌜ r ≡ flagAt f ⌝ }
+{
+    match f {
+        Fault::IndexError => 3200,
+        Fault::OutOfRange => 3201,
+        Fault::Overflow => 3202,
+        Fault::DividedByZero => 3203,
+    }
+}

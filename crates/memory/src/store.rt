@@ -1,0 +1,149 @@
+// Storing a value into a cell, and setting a fault's flag. Nothing else writes the image.
+ghost use mathlib.Core.Path.{_≡_};
+ghost use Prim.Native.Nat.{_+_, _≤_};
+ghost use lib.Dec.{T};
+ghost use lib.ListN.{length};
+ghost use lib.Seq.{sets};
+ghost use Rattle.words.specs.Words.{bytesOf};
+ghost use Rattle.memory.specs.Layout.{hasCell};
+ghost use Rattle.memory.specs.Store.{boolPattern, lowCut, integerOf, isFinite, encode, flagged, written, storeAnswer, storeImage};
+use crate::Bank;
+use crate::IMAGE_SIZE;
+use values::Cut;
+use values::Fault;
+use values::Value;
+
+// The pattern that a bank holds of a value.
+pub enum Encoded {
+    Pattern(u32),
+    Stopped(Fault),
+}
+
+pub enum Stored {
+    Done,
+    Stopped(Fault),
+}
+
+fn from_bool(b: bool) -> Encoded
+    ensures { λ r. ⌜ r ≡ Encoded.Pattern (boolPattern b) ⌝ }
+{
+    if b {
+        Encoded::Pattern(1)
+    } else {
+        Encoded::Pattern(0)
+    }
+}
+
+// A real is truncated first.
+fn integer_of(v: Value) -> Cut
+    ensures { λ r. ⌜ r ≡ integerOf v ⌝ }
+{
+    match v {
+        Value::Int(z) => Cut::Whole(z),
+        Value::Real(x) => values::convert::truncate(x),
+    }
+}
+
+fn low16(c: Cut) -> Encoded
+    ensures { λ r. ⌜ r ≡ lowCut 16 c ⌝ }
+{
+    match c {
+        Cut::Whole(z) => Encoded::Pattern(values::patterns::pattern(z) % 65536),
+        Cut::Outside => Encoded::Stopped(Fault::OutOfRange),
+    }
+}
+
+fn low32(c: Cut) -> Encoded
+    ensures { λ r. ⌜ r ≡ lowCut 32 c ⌝ }
+{
+    match c {
+        Cut::Whole(z) => Encoded::Pattern(values::patterns::pattern(z)),
+        Cut::Outside => Encoded::Stopped(Fault::OutOfRange),
+    }
+}
+
+fn is_finite(v: Value) -> bool
+    ensures { λ r. ⌜ r ≡ isFinite v ⌝ }
+{
+    match v {
+        Value::Int(_) => true,
+        Value::Real(x) => values::singles::is_finite(x),
+    }
+}
+
+pub fn pattern_of(bank: Bank, v: Value) -> Encoded
+    ensures { λ r. ⌜ r ≡ encode bank v ⌝ }
+{
+    if !is_finite(v) {
+        return Encoded::Stopped(Fault::OutOfRange);
+    }
+    match bank {
+        Bank::X => from_bool(operators::truth(v)),
+        Bank::C => from_bool(operators::truth(v)),
+        Bank::V => low16(integer_of(v)),
+        Bank::N => low16(integer_of(v)),
+        Bank::D => low32(integer_of(v)),
+        Bank::R => Encoded::Pattern(f32::to_bits(operators::as_real(v))),
+    }
+}
+
+fn put16(image: &mut [u8], at: usize, n: u32)
+    requires { ⌜ at + 2 ≤ length (now image) ⌝ }
+    ensures { λ r. ⌜ now (image .exit) ≡ sets (now (image .entry)) at (bytesOf 2 n) ⌝ }
+{
+    image[at] = words::byte(n);
+    image[at + 1] = words::byte(n / 256);
+}
+
+fn put32(image: &mut [u8], at: usize, n: u32)
+    requires { ⌜ at + 4 ≤ length (now image) ⌝ }
+    ensures { λ r. ⌜ now (image .exit) ≡ sets (now (image .entry)) at (bytesOf 4 n) ⌝ }
+{
+    put16(image, at, n);
+    put16(image, at + 2, n / 65536);
+}
+
+pub fn set_flag(image: &mut [u8], f: Fault)
+    ensures { λ r. ⌜ now (image .exit) ≡ flagged (now (image .entry)) f ⌝ }
+{
+    if image.len() == IMAGE_SIZE {
+        image[crate::flag_at(f)] = 1;
+    }
+}
+
+// The bytes of a cell that the image has.
+fn put(image: &mut [u8], bank: Bank, element: u32, pattern: u32)
+    requires { ⌜ T (hasCell (now image) bank element) ⌝ }
+    ensures { λ r. ⌜ now (image .exit) ≡ written (now (image .entry)) bank element (Encoded.Pattern pattern) ⌝ }
+{
+    let row = crate::layout_of(bank);
+    let at = row.place + (element as usize) * row.width;
+    match bank {
+        Bank::X => image[at] = words::byte(pattern),
+        Bank::C => image[at] = words::byte(pattern),
+        Bank::V => put16(image, at, pattern),
+        Bank::N => put16(image, at, pattern),
+        Bank::D => put32(image, at, pattern),
+        Bank::R => put32(image, at, pattern),
+    }
+}
+
+// A fault sets its flag; otherwise only the cell's bytes change.
+pub fn store(image: &mut [u8], bank: Bank, element: u32, v: Value) -> Stored
+    ensures { λ r. ⌜ (r ≡ storeAnswer (now (image .entry)) bank element v) × (now (image .exit) ≡ storeImage (now (image .entry)) bank element v) ⌝ }
+{
+    if !crate::cells::has_cell(image, bank, element) {
+        set_flag(image, Fault::IndexError);
+        return Stored::Stopped(Fault::IndexError);
+    }
+    match pattern_of(bank, v) {
+        Encoded::Pattern(p) => {
+            put(image, bank, element, p);
+            Stored::Done
+        }
+        Encoded::Stopped(f) => {
+            set_flag(image, f);
+            Stored::Stopped(f)
+        }
+    }
+}
