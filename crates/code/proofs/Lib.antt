@@ -1,0 +1,6 @@
+-- What the layers above may cite; below it, the steps that lead there.
+pub mod Laws
+pub mod Parts
+pub mod Decodes
+mod Numbers
+mod Finite

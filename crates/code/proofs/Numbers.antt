@@ -1,0 +1,89 @@
+-- The operands and their numbers: each has its own, and the list at a number is the operand with it.
+use mathlib.Core.Path.{_≡_, refl, sym, _∙_}
+use mathlib.Core.List.{List, [], _∷_, map}
+use Prim.Native.Nat.{ℕ, zero, suc, _+_, _<_}
+use native.Mathlib.Nat.{add-zero, zero-add, not-suc-le-zero, le-of-suc-le-suc}
+use native.Mathlib.Omega.{arith}
+use lib.ListN.{length, getD, List·getD-map}
+use Rattle.reals.specs.declared.ArithOp.the-variants.{Add, Sub, Mul, Div, Rem}
+use Rattle.values.specs.declared.BitOp.the-variants.{And, Or, Xor}
+use Rattle.values.specs.declared.ShiftOp.the-variants.{Left, Right, RightZero}
+use Rattle.values.specs.declared.CompareOp.the-variants.{Lt, Gt, Le, Ge, Eq, Ne}
+use Rattle.values.specs.declared.ChoiceOp.the-variants.{Max, Min}
+use Rattle.operators.specs.declared.UnaryOp.{UnaryOp}
+use Rattle.operators.specs.declared.UnaryOp.the-variants.{Neg, Complement, Not, Abs, ToReal, Trunc, Round, Frac}
+use Rattle.operators.specs.declared.BinaryOp.{BinaryOp}
+use Rattle.operators.specs.declared.BinaryOp.the-variants.{Arith, Power, Shift, Compare, Bits, Choice}
+use Rattle.memory.specs.declared.Bank.{Bank}
+use Rattle.memory.specs.declared.Bank.the-variants.{X, C, «V», N, D, R}
+use Rattle.code.specs.declared.BankOf.the-variants as BankOf
+use Rattle.operators.specs.declared.tables.UnaryOf.the-variants as UnaryOf
+use Rattle.operators.specs.declared.tables.BinaryOf.the-variants as BinaryOf
+use Rattle.operators.specs.Tables.{unaryOps, binaryOps, unaryOf, binaryOf}
+use Rattle.code.specs.Instructions.{banks, bankOf}
+use Rattle.code.specs.Encode.{bankNumber, unaryNumber, binaryNumber}
+
+-- ---- the operand of its number
+pub bank-back : (b : Bank) → bankOf (bankNumber b) ≡ BankOf.Is b
+bank-back X = refl
+bank-back C = refl
+bank-back «V» = refl
+bank-back N = refl
+bank-back D = refl
+bank-back R = refl
+
+pub unary-back : (o : UnaryOp) → unaryOf (unaryNumber o) ≡ UnaryOf.Is o
+unary-back Neg = refl
+unary-back Complement = refl
+unary-back Not = refl
+unary-back Abs = refl
+unary-back ToReal = refl
+unary-back Trunc = refl
+unary-back Round = refl
+unary-back Frac = refl
+
+pub binary-back : (o : BinaryOp) → binaryOf (binaryNumber o) ≡ BinaryOf.Is o
+binary-back Power = refl
+binary-back (Arith Mul) = refl
+binary-back (Arith Div) = refl
+binary-back (Arith Rem) = refl
+binary-back (Arith Add) = refl
+binary-back (Arith Sub) = refl
+binary-back (Shift Left) = refl
+binary-back (Shift Right) = refl
+binary-back (Shift RightZero) = refl
+binary-back (Compare Lt) = refl
+binary-back (Compare Gt) = refl
+binary-back (Compare Le) = refl
+binary-back (Compare Ge) = refl
+binary-back (Compare Eq) = refl
+binary-back (Compare Ne) = refl
+binary-back (Bits And) = refl
+binary-back (Bits Xor) = refl
+binary-back (Bits Or) = refl
+binary-back (Choice Max) = refl
+binary-back (Choice Min) = refl
+
+-- ---- the number of the operand at a place
+abbrev from : ℕ → ℕ → List ℕ
+from k zero = []
+from k (suc m) = k ∷ from (suc k) m
+
+from-at : (k m n d : ℕ) → n < m → getD (from k m) n d ≡ k + n
+from-at k zero n d h = absurd (not-suc-le-zero h)
+from-at k (suc m) zero d h = sym (add-zero k)
+from-at k (suc m) (suc n) d h = from-at (suc k) m n d (le-of-suc-le-suc h) ∙ omega arith
+
+-- a list is in order where its numbers are 0, 1, 2 and so on, which `refl` shows
+module _ {A : Type 0} (number : A → ℕ) (l : List A) (d : A) (in-order : map number l ≡ from 0 (length l)) where
+  number-at : (n : ℕ) → n < length l → number (getD l n d) ≡ n
+  number-at n h = sym (List·getD-map number l n d) ∙ rw in-order (from-at 0 (length l) n (number d) h) ∙ zero-add n
+
+pub bank-forth : (n : ℕ) → n < 6 → bankNumber (getD banks n X) ≡ n
+bank-forth = number-at bankNumber banks X refl
+
+pub unary-forth : (n : ℕ) → n < 8 → unaryNumber (getD unaryOps n Neg) ≡ n
+unary-forth = number-at unaryNumber unaryOps Neg refl
+
+pub binary-forth : (n : ℕ) → n < 20 → binaryNumber (getD binaryOps n (Arith Add)) ≡ n
+binary-forth = number-at binaryNumber binaryOps (Arith Add) refl

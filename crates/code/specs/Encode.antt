@@ -1,0 +1,110 @@
+-- The eight bytes of an instruction, and that bytes and instructions correspond: proofs/Laws.antt proves `EncodeLaws`.
+use mathlib.Core.Path.{_≡_}
+use mathlib.Core.Logic.{_≢_}
+use mathlib.Core.Bool.{Bool, true, false}
+use mathlib.Core.List.{List, [], _∷_}
+use Prim.Native.Nat.{ℕ, _^_, _<_}
+use lib.Dec.{T}
+use lib.IntN.{ℤ}
+use lib.ListN.{length}
+use lib.Ieee as Ieee
+use lib.Ieee.{Float, binary32}
+use Rattle.reals.specs.declared.ArithOp.{ArithOp}
+use Rattle.reals.specs.declared.ArithOp.the-variants.{Add, Sub, Mul, Div, Rem}
+use Rattle.reals.specs.Singles.{Single}
+use Rattle.values.specs.declared.BitOp.{BitOp}
+use Rattle.values.specs.declared.BitOp.the-variants.{And, Or, Xor}
+use Rattle.values.specs.declared.ShiftOp.{ShiftOp}
+use Rattle.values.specs.declared.ShiftOp.the-variants.{Left, Right, RightZero}
+use Rattle.values.specs.declared.CompareOp.{CompareOp}
+use Rattle.values.specs.declared.CompareOp.the-variants.{Lt, Gt, Le, Ge, Eq, Ne}
+use Rattle.values.specs.declared.ChoiceOp.{ChoiceOp}
+use Rattle.values.specs.declared.ChoiceOp.the-variants.{Max, Min}
+use Rattle.values.specs.Integers.{inRange}
+use Rattle.values.specs.Patterns.{lowBits}
+use Rattle.operators.specs.declared.UnaryOp.{UnaryOp}
+use Rattle.operators.specs.declared.UnaryOp.the-variants.{Neg, Complement, Not, Abs, ToReal, Trunc, Round, Frac}
+use Rattle.operators.specs.declared.BinaryOp.{BinaryOp}
+use Rattle.operators.specs.declared.BinaryOp.the-variants.{Arith, Power, Shift, Compare, Bits, Choice}
+use Rattle.words.specs.Words.{bytesOf}
+use Rattle.words.specs.Laws.{Bytes}
+use Rattle.memory.specs.declared.Bank.{Bank}
+use Rattle.memory.specs.declared.Bank.the-variants.{X, C, «V», N, D, R}
+use Rattle.memory.specs.Layout.{layoutOf}
+use Rattle.code.specs.declared.Instr.{Instr}
+use Rattle.code.specs.declared.Instr.the-variants.{PushInt, PushReal, Load, LoadIndexed, Unary, Binary, Jump, JumpIf, Unknown}
+use Rattle.code.specs.Instructions.{decodeAt}
+
+-- the numbers of the operands, as docs/INSTRUCTIONS.md has them
+abbrev pub bankNumber : Bank → ℕ
+bankNumber X = 0
+bankNumber C = 1
+bankNumber «V» = 2
+bankNumber N = 3
+bankNumber D = 4
+bankNumber R = 5
+
+abbrev pub unaryNumber : UnaryOp → ℕ
+unaryNumber Neg = 0
+unaryNumber Complement = 1
+unaryNumber Not = 2
+unaryNumber Abs = 3
+unaryNumber ToReal = 4
+unaryNumber Trunc = 5
+unaryNumber Round = 6
+unaryNumber Frac = 7
+
+abbrev pub binaryNumber : BinaryOp → ℕ
+binaryNumber Power = 0
+binaryNumber (Arith Mul) = 1
+binaryNumber (Arith Div) = 2
+binaryNumber (Arith Rem) = 3
+binaryNumber (Arith Add) = 4
+binaryNumber (Arith Sub) = 5
+binaryNumber (Shift Left) = 6
+binaryNumber (Shift Right) = 7
+binaryNumber (Shift RightZero) = 8
+binaryNumber (Compare Lt) = 9
+binaryNumber (Compare Gt) = 10
+binaryNumber (Compare Le) = 11
+binaryNumber (Compare Ge) = 12
+binaryNumber (Compare Eq) = 13
+binaryNumber (Compare Ne) = 14
+binaryNumber (Bits And) = 15
+binaryNumber (Bits Xor) = 16
+binaryNumber (Bits Or) = 17
+binaryNumber (Choice Max) = 18
+binaryNumber (Choice Min) = 19
+
+-- opcode, operand, two bytes of 0, word
+abbrev pub eight : ℕ → ℕ → ℕ → List ℕ
+eight o a w = o ∷ a ∷ 0 ∷ 0 ∷ bytesOf 4 w
+
+abbrev pub encode : Instr → List ℕ
+encode (PushInt z) = eight 1 0 (lowBits 32 z)
+encode (PushReal x) = eight 2 0 (Ieee.toBits binary32 x)
+encode (Load b i) = eight 3 (bankNumber b) i
+encode (LoadIndexed b) = eight 4 (bankNumber b) 0
+encode (Unary o) = eight 5 (unaryNumber o) 0
+encode (Binary o) = eight 6 (binaryNumber o) 0
+encode (Jump d) = eight 7 0 d
+encode (JumpIf false d) = eight 8 0 d
+encode (JumpIf true d) = eight 9 0 d
+encode Unknown = eight 0 0 0
+
+-- an instruction that eight bytes can hold
+pub data Encodable : Instr → Type 0 where
+  push-int : (z : ℤ) → T (inRange z) → Encodable (PushInt z)
+  push-real : (x : Float) → Single x → Encodable (PushReal x)
+  load : (b : Bank) (i : ℕ) → i < layoutOf b .elements → Encodable (Load b i)
+  load-indexed : (b : Bank) → Encodable (LoadIndexed b)
+  unary : (o : UnaryOp) → Encodable (Unary o)
+  binary : (o : BinaryOp) → Encodable (Binary o)
+  jump : (d : ℕ) → d < 2 ^ 32 → Encodable (Jump d)
+  jump-if : (t : Bool) (d : ℕ) → d < 2 ^ 32 → Encodable (JumpIf t d)
+
+pub record EncodeLaws : Type 0 where
+  -- decoding undoes encoding
+  pub decoded : (i : Instr) → Encodable i → decodeAt (encode i) 0 ≡ i
+  -- eight bytes are the encoding of one instruction, or of none
+  pub encoded : (bs : List ℕ) → length bs ≡ 8 → Bytes bs → decodeAt bs 0 ≢ Unknown → (encode (decodeAt bs 0) ≡ bs) × Encodable (decodeAt bs 0)

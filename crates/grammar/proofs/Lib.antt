@@ -1,0 +1,13 @@
+pub mod Tests
+pub mod Nesting
+pub mod Levels
+pub mod Ends
+pub mod Good
+pub mod Sound
+pub mod Keep
+pub mod Enough
+pub mod Local
+pub mod Complete
+pub mod Laws
+pub mod Theorems
+pub mod Samples

@@ -1,0 +1,104 @@
+-- The tree of a list of tokens, by precedence climbing, with fuel; the nesting is limited to eight. It computes; that it finds just the trees of the grammar, and stops just where no formula goes
+-- on, is Theorems.
+use mathlib.Core.Bool.{Bool, true, false, _&&_}
+use mathlib.Core.List.{List, [], _∷_}
+use Prim.Native.Nat.{ℕ, zero, suc, _+_, _-_, _*_}
+use lib.Dec.{leb}
+use lib.ListN.{length}
+use Rattle.tokens.specs.declared.Token.{Token}
+use Rattle.tokens.specs.declared.Token.the-variants.{Number, Cell, Letter, Name, Symbol}
+use Rattle.tokens.specs.Scan.{Tok}
+use Rattle.grammar.specs.Tree.{Tree, literal, cell, indexed, unary}
+use Rattle.grammar.specs.Symbols.{group, loosest, isSymbol, openParen, closeParen, openIndex, closeIndex, comma, prefixOf, is, none, infixTree, moreArguments, Arguments, one, more, callTree}
+
+-- a tree and the tokens left; the tokens from the first that no formula has there; the tokens from an opener met with eight still open; or too little fuel
+pub data Result (X : Type 0) : Type 0 where
+  ok : X → List Tok → Result X
+  bad : List Tok → Result X
+  deep : List Tok → Result X
+  starved : Result X
+
+abbrev pub andThen : {X Y : Type 0} → Result X → (X → List Tok → Result Y) → Result Y
+andThen (ok x r) k = k x r
+andThen (bad r) k = bad r
+andThen (deep r) k = deep r
+andThen starved k = starved
+
+-- the symbol n comes next
+abbrev pub expect : {X : Type 0} → ℕ → List Tok → (List Tok → Result X) → Result X
+expect n [] k = bad []
+expect n (x ∷ xs) k = elim (isSymbol n (x .token)) [ true ↦ k xs | false ↦ bad (x ∷ xs) ]
+
+-- "more than eight open"
+abbrev pub mostOpen : ℕ
+mostOpen = 8
+
+-- the opener n comes next, with room for d brackets more, and one less after it
+abbrev pub enter : {X : Type 0} → ℕ → ℕ → List Tok → (ℕ → List Tok → Result X) → Result X
+enter zero n ts k = expect n ts (λ r. deep ts)
+enter (suc d) n ts k = expect n ts (λ r. k d r)
+
+-- the symbol's number; 0 for a token that is none, whose group is 0
+abbrev pub symbolNumber : Token → ℕ
+symbolNumber (Number v) = 0
+symbolNumber (Cell b i) = 0
+symbolNumber (Letter b) = 0
+symbolNumber (Name f) = 0
+symbolNumber (Symbol n) = n
+
+-- a binary operator of the group l or tighter
+abbrev pub binds : ℕ → Token → Bool
+binds l x = leb 1 (group x) && leb (group x) l
+
+unfoldable mutual
+  -- an expression of the group l at the loosest, with room for d brackets
+  pub expression : ℕ → ℕ → ℕ → List Tok → Result Tree
+  expression zero d l ts = starved
+  expression (suc f) d l ts = andThen (operand f d ts) (λ t r. climb f d l t r)
+
+  -- what follows the tree t: operators of the group l or tighter, each with a right side of a tighter group
+  pub climb : ℕ → ℕ → ℕ → Tree → List Tok → Result Tree
+  climb zero d l t ts = starved
+  climb (suc f) d l t [] = ok t []
+  climb (suc f) d l t (x ∷ xs) =
+      elim (binds l (x .token)) [
+        | true ↦ andThen (expression f d (group (x .token) - 1) xs) (λ u r. climb f d l (infixTree (symbolNumber (x .token)) (x .place) t u) r)
+        | false ↦ ok t (x ∷ xs)
+      ]
+
+  -- unary operators and a primary
+  pub operand : ℕ → ℕ → List Tok → Result Tree
+  operand zero d ts = starved
+  operand (suc f) d [] = bad []
+  operand (suc f) d (x ∷ xs) = elim (prefixOf (x .token)) [ is o ↦ andThen (operand f d xs) (λ t r. ok (unary (x .place) o t) r) | none ↦ primary f d x xs ]
+
+  pub primary : ℕ → ℕ → Tok → List Tok → Result Tree
+  primary zero d x xs = starved
+  primary (suc f) d x xs =
+      elim (x .token) [
+        | Number v ↦ ok (literal (x .place) v) xs
+        | Cell b i ↦ ok (cell b i) xs
+        | Letter b ↦ enter d openIndex xs (λ e r. andThen (bracket f e closeIndex r) (λ t q. ok (indexed b t) q))
+        | Name g ↦ enter d openParen xs (λ e r. andThen (arguments f e (moreArguments g) r) (λ ts q. ok (callTree g (x .place) ts) q))
+        | Symbol n ↦ enter d openParen (x ∷ xs) (λ e r. bracket f e closeParen r)
+      ]
+
+  -- an expression and the closing symbol n
+  pub bracket : ℕ → ℕ → ℕ → List Tok → Result Tree
+  bracket zero d n ts = starved
+  bracket (suc f) d n ts = andThen (expression f d loosest ts) (λ t r. expect n r (λ q. ok t q))
+
+  -- m arguments after this one, and the closing parenthesis
+  pub arguments : ℕ → ℕ → ℕ → List Tok → Result Arguments
+  arguments zero d m ts = starved
+  arguments (suc f) d zero ts = andThen (expression f d loosest ts) (λ t r. expect closeParen r (λ q. ok (one t) q))
+  arguments (suc f) d (suc m) ts = andThen (expression f d loosest ts) (λ t r. expect comma r (λ q. andThen (arguments f d m q) (λ us p. ok (more t us) p)))
+
+-- four steps a token are fuel enough
+abbrev pub fuel : List Tok → ℕ
+fuel ts = length ts * 4 + 4
+
+-- a formula, no more and no less
+unfoldable pub parse : List Tok → Result Tree
+unfolding expression
+parse ts = expression (fuel ts) mostOpen loosest ts

@@ -1,0 +1,57 @@
+-- The values held: the first h of the array, the last first.
+use mathlib.Core.Path.{_≡_, refl, ap}
+use mathlib.Core.List.{List, [], _∷_}
+use Prim.Native.Nat.{ℕ, zero, suc, _+_, _-_, _≤_, _<_}
+use native.Mathlib.Nat.{sub-zero, suc-sub-suc}
+use native.Mathlib.Numerals.{add-one}
+use native.Mathlib.Omega.{arith}
+use lib.IntN.{pos}
+use lib.ListN.{length, getD, set, drop}
+use lib.Seq.{getD-set-other, getD-set-same}
+use borrow.Author.Tests.{ne-eqb}
+use Rattle.values.specs.declared.Value.{Value}
+use Rattle.values.specs.declared.Value.the-variants.{Int}
+use Rattle.machine.specs.Machine.{finish}
+use Rattle.machine.specs.Steps.{finishOf}
+
+-- what is read past the end
+abbrev pub none : Value
+none = Int (pos 0)
+
+unfoldable pub held : ℕ → List Value → List Value
+held zero s = []
+held (suc h) s = getD s h none ∷ held h s
+
+pub length-held : (h : ℕ) (s : List Value) → length (held h s) ≡ h
+unfolding held
+length-held zero s = refl
+length-held (suc h) s = ap suc (length-held h s)
+
+-- the value that k others lie on
+pub held-at : (h k : ℕ) (s : List Value) → k < h → getD (held h s) k none ≡ getD s (h - suc k) none
+unfolding held
+held-at zero k s p = absurd (omega arith)
+held-at (suc h) zero s p = rw (suc-sub-suc h 0, sub-zero)
+held-at (suc h) (suc k) s p = rw (suc-sub-suc h (suc k)) (held-at h k s (omega arith))
+
+-- the t last ones taken
+pub held-drop : (h t : ℕ) (s : List Value) → t ≤ h → drop t (held h s) ≡ held (h - t) s
+unfolding held
+held-drop h zero s p = rw sub-zero
+held-drop zero (suc t) s p = absurd (omega arith)
+held-drop (suc h) (suc t) s p = rw suc-sub-suc (held-drop h t s (omega arith))
+
+held-set : (h : ℕ) (s : List Value) (i : ℕ) (v : Value) → h ≤ i → held h (set s i v) ≡ held h s
+unfolding held
+held-set zero s i v p = refl
+held-set (suc h) s i v p = rw (getD-set-other s i h v none (λ e. omega arith), held-set h s i v (omega arith))
+
+pub held-push : (h : ℕ) (s : List Value) (v : Value) → h < length s → held (h + 1) (set s h v) ≡ v ∷ held h s
+unfolding held
+held-push h s v p = rw (add-one h, getD-set-same s h v none, held-set h s h v (omega arith))
+
+pub held-finish : (h : ℕ) (s : List Value) → finish (held h s) ≡ finishOf h (getD s 0 none)
+unfolding held
+held-finish zero s = refl
+held-finish (suc zero) s = refl
+held-finish (suc (suc h)) s = rw (ne-eqb (suc (suc h)) 1 (λ e. omega arith))

@@ -1,0 +1,6 @@
+-- What other crates may cite, and the steps to the proof of run.
+pub mod Laws
+mod Held
+mod Acts
+mod Rest
+mod Turn

@@ -1,0 +1,74 @@
+-- The machine of docs/INSTRUCTIONS.md: one rule an instruction on the values held (the last pushed first), and what is left of the code. The state is the
+-- instructions left and how many of them to skip, so no place is named. Paper 01: "An instruction .. sees only itself, the values held and the memory";
+-- "Instructions executed are those begun, the faulting one included". Total for any bytes: `Stuck` is what the verifier rules out.
+use mathlib.Core.Bool.{cond, Bool·beq}
+use mathlib.Core.List.{List, [], _∷_}
+use Prim.Native.Nat.{ℕ, zero, suc}
+use lib.Dec.{ltb}
+use lib.ListN.{length}
+use Rattle.values.specs.declared.Value.{Value}
+use Rattle.values.specs.declared.Value.the-variants.{Int, Real}
+use Rattle.values.specs.declared.Outcome.{Outcome}
+use Rattle.values.specs.declared.Outcome.the-variants as Outcome
+use Rattle.operators.specs.Operators.{unaryRule, binaryRule, truthRule}
+use Rattle.memory.specs.Environment.{Environment, memoryOf}
+use Rattle.code.specs.declared.Instr.{Instr}
+use Rattle.code.specs.declared.Instr.the-variants.{PushInt, PushReal, Load, LoadIndexed, Unary, Binary, Jump, JumpIf, Unknown}
+use Rattle.code.specs.Instructions.{instructions}
+use Rattle.machine.specs.declared.Ended.{Ended}
+use Rattle.machine.specs.declared.Ended.the-variants.{Done, Stopped, Stuck}
+use Rattle.machine.specs.declared.Ran.{Ran}
+
+-- "the height never exceeds 128"
+abbrev pub most : ℕ
+most = 128
+
+-- what an instruction leads to: instructions to skip and values held, or the end
+pub data Next : Type 0 where
+  goes : ℕ → List Value → Next
+  halts : Ended → Next
+
+abbrev pub pushed : Value → List Value → Next
+pushed v st = cond (ltb (length st) most) (goes 0 (v ∷ st)) (halts Stuck)
+
+abbrev pub given : Outcome → List Value → Next
+given (Outcome.Done v) st = pushed v st
+given (Outcome.Stopped f) st = halts (Stopped f)
+given Outcome.WrongKind st = halts Stuck
+
+unfoldable pub act : Environment → Instr → List Value → Next
+act E (PushInt z) st = pushed (Int z) st
+act E (PushReal x) st = pushed (Real x) st
+act E (Load b i) st = given (E .cell b i) st
+act E (LoadIndexed b) [] = halts Stuck
+act E (LoadIndexed b) (v ∷ st) = given (E .indexed b v) st
+act E (Unary o) [] = halts Stuck
+act E (Unary o) (v ∷ st) = given (unaryRule o v) st
+act E (Binary o) [] = halts Stuck
+act E (Binary o) (w ∷ []) = halts Stuck
+act E (Binary o) (w ∷ (v ∷ st)) = given (binaryRule o v w) st
+act E (Jump d) st = goes d st
+act E (JumpIf t d) [] = halts Stuck
+act E (JumpIf t d) (v ∷ st) = cond (Bool·beq (truthRule v) t) (goes d st) (goes 0 st)
+act E Unknown st = halts Stuck
+
+-- "the end has one value"
+abbrev pub finish : List Value → Ended
+finish [] = Stuck
+finish (v ∷ []) = Done v
+finish (v ∷ (w ∷ st)) = Stuck
+
+abbrev pub counted : Ran → Ran
+counted r = record { end = r .end; count = suc (r .count) }
+
+-- the instructions left, how many of them to skip, the values held
+unfoldable pub exec : Environment → List Instr → ℕ → List Value → Ran
+unfolding act
+exec E [] zero st = record { end = finish st; count = 0 }
+exec E [] (suc k) st = record { end = Stuck; count = 0 }
+exec E (i ∷ c) (suc k) st = exec E c k st
+exec E (i ∷ c) zero st = elim (act E i st) [ goes k st′ ↦ counted (exec E c k st′) | halts e ↦ record { end = e; count = 1 } ]
+
+-- the first n instructions of the code, from no values held
+abbrev pub runs : List ℕ → ℕ → List ℕ → Ran
+runs code n memory = exec (memoryOf memory) (instructions code n) 0 []

@@ -1,0 +1,136 @@
+-- Samples, by computing: texts that are easily misread, and what they are.
+use mathlib.Core.Path.{_≡_, refl}
+use mathlib.Core.List.{[], _∷_}
+use lib.IntN.{pos, negsuc}
+use lib.Ieee as Ieee
+use lib.Ieee.{binary32}
+use Rattle.values.specs.declared.Value.the-variants.{Int, Real}
+use Rattle.memory.specs.declared.Bank.the-variants.{D}
+use Rattle.memory.specs.Names.{bankOf, namedRule}
+use Rattle.tokens.specs.declared.Function.the-variants.{Max}
+use Rattle.tokens.specs.declared.Token.the-variants.{Number, Cell, Letter, Name, Symbol}
+use Rattle.tokens.specs.declared.Scanned.the-variants.{Good, Bad}
+use Rattle.tokens.specs.declared.Lexeme.the-variants.{Found, Wrong}
+use Rattle.tokens.specs.Numerals.{literal, numeralOf}
+use Rattle.tokens.specs.Words.{otherWord, wordOf}
+use Rattle.tokens.specs.Scan.{lexemeOf, lexemeAt, tokens, wrong, scanFrom, scan}
+
+-- ---- numerals
+-- `2147483647` is the largest decimal, `2147483648` is 5; `007` is 7
+largest : numeralOf (50 ∷ 49 ∷ 52 ∷ 55 ∷ 52 ∷ 56 ∷ 51 ∷ 54 ∷ 52 ∷ 55 ∷ []) ≡ Good (Number (Int (pos 2147483647)))
+largest = refl
+
+too-large : numeralOf (50 ∷ 49 ∷ 52 ∷ 55 ∷ 52 ∷ 56 ∷ 51 ∷ 54 ∷ 52 ∷ 56 ∷ []) ≡ Bad 5
+too-large = refl
+
+zeros-first : numeralOf (48 ∷ 48 ∷ 55 ∷ []) ≡ Good (Number (Int (pos 7)))
+zeros-first = refl
+
+-- `0x80000000` is the least integer, `0x012345678` is 5, `0x` and `0X1` are 4
+least : numeralOf (48 ∷ 120 ∷ 56 ∷ 48 ∷ 48 ∷ 48 ∷ 48 ∷ 48 ∷ 48 ∷ 48 ∷ []) ≡ Good (Number (Int (negsuc 2147483647)))
+least = refl
+
+nine-hex : numeralOf (48 ∷ 120 ∷ 48 ∷ 49 ∷ 50 ∷ 51 ∷ 52 ∷ 53 ∷ 54 ∷ 55 ∷ 56 ∷ []) ≡ Bad 5
+nine-hex = refl
+
+no-hex : numeralOf (48 ∷ 120 ∷ []) ≡ Bad 4
+no-hex = refl
+
+upper-x : numeralOf (48 ∷ 88 ∷ 49 ∷ []) ≡ Bad 4
+upper-x = refl
+
+-- `0.5` has the pattern 0x3F000000; `1.234567` is good, `1.2345678` is 5; `1.` and `1.2.3` are 4, and so is `12345678.`
+half : numeralOf (48 ∷ 46 ∷ 53 ∷ []) ≡ Good (Number (Real (literal 5 1)))
+half = refl
+
+half-bits : Ieee.toBits binary32 (literal 5 1) ≡ 0x3f00_0000
+unfolding Ieee.toBits Ieee.div Ieee.ofInt
+half-bits = refl
+
+seven-digits : numeralOf (49 ∷ 46 ∷ 50 ∷ 51 ∷ 52 ∷ 53 ∷ 54 ∷ 55 ∷ []) ≡ Good (Number (Real (literal 1234567 6)))
+seven-digits = refl
+
+eight-digits : numeralOf (49 ∷ 46 ∷ 50 ∷ 51 ∷ 52 ∷ 53 ∷ 54 ∷ 55 ∷ 56 ∷ []) ≡ Bad 5
+eight-digits = refl
+
+no-part : numeralOf (49 ∷ 46 ∷ []) ≡ Bad 4
+no-part = refl
+
+two-dots : numeralOf (49 ∷ 46 ∷ 50 ∷ 46 ∷ 51 ∷ []) ≡ Bad 4
+two-dots = refl
+
+long-no-part : numeralOf (49 ∷ 50 ∷ 51 ∷ 52 ∷ 53 ∷ 54 ∷ 55 ∷ 56 ∷ 46 ∷ []) ≡ Bad 4
+long-no-part = refl
+
+-- ---- words
+-- `MAX` is a function, `max` and `ABS2` are 6; `D` is a bank letter, `D255` a cell, `D256`, `D01` and `X64` are 6
+function : wordOf (77 ∷ 65 ∷ 88 ∷ []) ≡ Good (Name Max)
+unfolding wordOf
+function = refl
+
+lower-case : wordOf (109 ∷ 97 ∷ 120 ∷ []) ≡ Bad 6
+unfolding wordOf otherWord namedRule bankOf
+lower-case = refl
+
+longer : wordOf (65 ∷ 66 ∷ 83 ∷ 50 ∷ []) ≡ Bad 6
+unfolding wordOf otherWord namedRule bankOf
+longer = refl
+
+letter : wordOf (68 ∷ []) ≡ Good (Letter D)
+unfolding wordOf otherWord bankOf
+letter = refl
+
+cell : wordOf (68 ∷ 50 ∷ 53 ∷ 53 ∷ []) ≡ Good (Cell D 255)
+unfolding wordOf otherWord namedRule bankOf
+cell = refl
+
+beyond : wordOf (68 ∷ 50 ∷ 53 ∷ 54 ∷ []) ≡ Bad 6
+unfolding wordOf otherWord namedRule bankOf
+beyond = refl
+
+leading-zero : wordOf (68 ∷ 48 ∷ 49 ∷ []) ≡ Bad 6
+unfolding wordOf otherWord namedRule bankOf
+leading-zero = refl
+
+beyond-bits : wordOf (88 ∷ 54 ∷ 52 ∷ []) ≡ Bad 6
+unfolding wordOf otherWord namedRule bankOf
+beyond-bits = refl
+
+-- ---- lexemes
+-- `>>>=`: the longest match, then a byte that forms no token
+shift : lexemeAt (62 ∷ 62 ∷ 62 ∷ 61 ∷ []) 0 ≡ Found (Symbol 8) 0 3
+unfolding lexemeOf
+shift = refl
+
+then-equals : lexemeAt (62 ∷ 62 ∷ 62 ∷ 61 ∷ []) 3 ≡ Wrong 4 3
+unfolding lexemeOf
+then-equals = refl
+
+-- `D0.5`: a cell, then a dot that starts no token
+dotted : lexemeAt (68 ∷ 48 ∷ 46 ∷ 53 ∷ []) 0 ≡ Found (Cell D 0) 0 2
+unfolding lexemeOf wordOf otherWord namedRule bankOf
+dotted = refl
+
+then-dot : lexemeAt (68 ∷ 48 ∷ 46 ∷ 53 ∷ []) 2 ≡ Wrong 4 2
+unfolding lexemeOf
+then-dot = refl
+
+-- `3MAX(`: letters belong to the run of a numeral
+run-on : lexemeAt (51 ∷ 77 ∷ 65 ∷ 88 ∷ 40 ∷ []) 0 ≡ Wrong 4 0
+unfolding lexemeOf
+run-on = refl
+
+-- a tab and a space before `7`
+blank : lexemeAt (9 ∷ 32 ∷ 55 ∷ []) 0 ≡ Found (Number (Int (pos 7))) 2 3
+unfolding lexemeOf
+blank = refl
+
+-- `-2147483648`: the minus is a token, so 5 at place 1
+minus-first : scan (45 ∷ 50 ∷ 49 ∷ 52 ∷ 55 ∷ 52 ∷ 56 ∷ 51 ∷ 54 ∷ 52 ∷ 56 ∷ []) ≡ wrong 5 1
+unfolding scanFrom lexemeOf
+minus-first = refl
+
+-- `1 +D0`
+sum : scan (49 ∷ 32 ∷ 43 ∷ 68 ∷ 48 ∷ []) ≡ tokens (record { token = Number (Int (pos 1)); place = 0 } ∷ record { token = Symbol 4; place = 2 } ∷ record { token = Cell D 0; place = 3 } ∷ [])
+unfolding scanFrom lexemeOf wordOf otherWord namedRule bankOf
+sum = refl

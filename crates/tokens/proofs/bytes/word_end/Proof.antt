@@ -1,0 +1,55 @@
+-- `bytes::word_end` meets its contract: the run that has come to i ends where the run from `at` does.
+use mathlib.Core.Path.{sym, _∙_}
+use Prim.Native.Nat.{_+_, _-_}
+use lib.ListN.{length, drop}
+use borrow.Author.Needs.{needs}
+use borrow.Author.Tests.{not-true, not-false}
+use Rattle.tokens.specs.Bytes.{isWord, runLen}
+use Rattle.tokens.proofs.Runs.{Reaches, from, more, stop, end}
+use Rattle.tokens.proofs.bytes.word_end.Statement.{statement}
+use Rattle.tokens.proofs.bytes.word_end.Tie as tie
+
+abbrev Inv-loop : tie.InvT-loop
+Inv-loop text at i₀ i = Reaches isWord text (at + runLen isWord (drop at text)) i
+
+abbrev μ-loop : tie.MeasureT-loop
+μ-loop text at i₀ i = length text - i
+
+loop-holds : tie.Need-loop-holds Inv-loop μ-loop
+loop-holds c = from isWord _ _ (c .before .pre)
+
+shared-slice-read-is-word : tie.Need-shared-slice-read-is-word Inv-loop μ-loop
+shared-slice-read-is-word c = search needs
+
+is-word-requires : tie.Need-is-word-requires Inv-loop μ-loop
+is-word-requires c κs = search needs
+
+returns : tie.Need-returns Inv-loop μ-loop
+returns c = stop (c .before .before .before .before .loop .inv) (c .before .before .before .loop-test .taken) (sym (c .before .is-word .ensures) ∙ not-true _ (c .if1 .taken))
+
+add-i : tie.Need-add-i Inv-loop μ-loop
+add-i c = search needs
+
+loop-less : tie.Need-loop-less Inv-loop μ-loop
+loop-less c = search needs
+
+loop-again : tie.Need-loop-again Inv-loop μ-loop
+loop-again c = more (c .before .before .before .before .loop .inv) (c .before .before .before .loop-test .taken) (sym (c .before .is-word .ensures) ∙ not-false _ (c .if1 .left))
+
+returns-2 : tie.Need-returns-2 Inv-loop μ-loop
+returns-2 c = end (c .before .loop .inv) (c .loop-test .left)
+
+pub word-end-spec : {M : Type 1} → statement M
+word-end-spec =
+    tie.close
+    (tie.spec
+    Inv-loop
+    μ-loop
+    loop-holds
+    shared-slice-read-is-word
+    is-word-requires
+    returns
+    add-i
+    loop-less
+    loop-again
+    returns-2)

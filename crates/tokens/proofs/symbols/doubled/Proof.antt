@@ -1,0 +1,13 @@
+-- `symbols::doubled` meets its contract.
+use borrow.Author.Tests.{eq-eqb, ne-eqb}
+use Rattle.tokens.proofs.symbols.doubled.Statement.{statement}
+use Rattle.tokens.proofs.symbols.doubled.Tie as tie
+
+returns : tie.Need-returns
+returns c = rw (eq-eqb _ _ (c .if1 .taken))
+
+returns-2 : tie.Need-returns-2
+returns-2 c = rw (ne-eqb _ _ (c .if1 .left))
+
+pub doubled-spec : {M : Type 1} → statement M
+doubled-spec = tie.close (tie.spec returns returns-2)

@@ -1,0 +1,33 @@
+-- Classes of bytes and longest runs (paper 01): "Spaces and tabs separate." "A word is the longest run of letters and digits that starts with a letter"; "A numeral is the
+-- longest run of letters, digits and dots that starts with a digit".
+use mathlib.Core.Bool.{Bool, true, false, _&&_, _||_, cond}
+use mathlib.Core.List.{List, [], _∷_}
+use Prim.Native.Nat.{ℕ, zero, suc}
+use lib.Dec.{eqb, leb}
+use Rattle.memory.specs.Names.{isDigit}
+
+abbrev pub inside : ℕ → ℕ → ℕ → Bool
+inside lo hi c = leb lo c && leb c hi
+
+-- A to Z and a to z
+abbrev pub isLetter : ℕ → Bool
+isLetter c = inside 65 90 c || inside 97 122 c
+
+abbrev pub isSpace : ℕ → Bool
+isSpace c = eqb c 32 || eqb c 9
+
+abbrev pub isWord : ℕ → Bool
+isWord c = isLetter c || isDigit c
+
+-- with the dot
+abbrev pub isRun : ℕ → Bool
+isRun c = isWord c || eqb c 46
+
+-- how many of the first bytes pass a test
+abbrev pub runLen : (ℕ → Bool) → List ℕ → ℕ
+runLen p [] = 0
+runLen p (c ∷ cs) = cond (p c) (suc (runLen p cs)) 0
+
+abbrev pub all : (ℕ → Bool) → List ℕ → Bool
+all p [] = true
+all p (c ∷ cs) = p c && all p cs

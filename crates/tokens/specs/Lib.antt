@@ -1,0 +1,5 @@
+pub mod Bytes
+pub mod Symbols
+pub mod Numerals
+pub mod Words
+pub mod Scan

@@ -1,0 +1,54 @@
+-- Words (paper 01): "a function name, a bank letter, or a bank letter and a decimal number without a leading zero (`0` itself is good). Any other word is 6. Case counts."
+use mathlib.Core.Bool.{Bool, true, false, cond}
+use mathlib.Core.List.{List, [], _∷_}
+use Prim.Native.Nat.{ℕ}
+use Rattle.memory.specs.declared.names.Letter.{Letter}
+use Rattle.memory.specs.declared.names.Letter.the-variants as L
+use Rattle.memory.specs.declared.names.Named.{Named}
+use Rattle.memory.specs.declared.names.Named.the-variants as A
+use Rattle.memory.specs.Names.{bankOf, namedRule}
+use Rattle.tokens.specs.declared.Function.{Function}
+use Rattle.tokens.specs.declared.Function.the-variants.{Abs, ToReal, ToInt, Trunc, Round, Frac, Max, Min, If}
+use Rattle.tokens.specs.declared.Token.the-variants.{Cell, Letter as LetterToken, Name}
+use Rattle.tokens.specs.declared.Scanned.{Scanned}
+use Rattle.tokens.specs.declared.Scanned.the-variants.{Good, Bad}
+use Rattle.tokens.specs.Symbols.{same}
+
+-- ABS TOREAL TOINT TRUNC ROUND FRAC MAX MIN IF
+abbrev pub nameOf : Function → List ℕ
+nameOf Abs = 65 ∷ 66 ∷ 83 ∷ []
+nameOf ToReal = 84 ∷ 79 ∷ 82 ∷ 69 ∷ 65 ∷ 76 ∷ []
+nameOf ToInt = 84 ∷ 79 ∷ 73 ∷ 78 ∷ 84 ∷ []
+nameOf Trunc = 84 ∷ 82 ∷ 85 ∷ 78 ∷ 67 ∷ []
+nameOf Round = 82 ∷ 79 ∷ 85 ∷ 78 ∷ 68 ∷ []
+nameOf Frac = 70 ∷ 82 ∷ 65 ∷ 67 ∷ []
+nameOf Max = 77 ∷ 65 ∷ 88 ∷ []
+nameOf Min = 77 ∷ 73 ∷ 78 ∷ []
+nameOf If = 73 ∷ 70 ∷ []
+
+abbrev pub cellWord : Named → Scanned
+cellWord (A.Cell b i) = Good (Cell b i)
+cellWord A.Other = Bad 6
+
+abbrev pub letterWord : Letter → Scanned
+letterWord (L.Of b) = Good (LetterToken b)
+letterWord L.Other = Bad 6
+
+-- no function's name
+unfoldable pub otherWord : List ℕ → Scanned
+unfolding bankOf namedRule
+otherWord [] = Bad 6
+otherWord (c ∷ []) = letterWord (bankOf c)
+otherWord (c ∷ d ∷ cs) = cellWord (namedRule (c ∷ d ∷ cs))
+
+-- the function that has the name, among these
+abbrev pub named : List Function → List ℕ → Scanned → Scanned
+named [] cs other = other
+named (f ∷ fs) cs other = cond (same (nameOf f) cs) (Good (Name f)) (named fs cs other)
+
+abbrev pub functions : List Function
+functions = Abs ∷ ToReal ∷ ToInt ∷ Trunc ∷ Round ∷ Frac ∷ Max ∷ Min ∷ If ∷ []
+
+unfoldable pub wordOf : List ℕ → Scanned
+unfolding otherWord
+wordOf cs = named functions cs (otherWord cs)
