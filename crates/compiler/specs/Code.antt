@@ -1,0 +1,50 @@
+-- The code of a tree, by recursion on it. A jump's number is how many instructions it skips.
+use mathlib.Core.Bool.{Bool, true, false, not}
+use mathlib.Core.List.{List, [], _∷_, _++_}
+use Prim.Native.Nat.{ℕ, _+_}
+use lib.IntN.{pos}
+use lib.ListN.{length}
+use Rattle.values.specs.declared.Kind.{Kind}
+use Rattle.values.specs.declared.Kind.the-variants as K
+use Rattle.values.specs.declared.Value.{Value}
+use Rattle.values.specs.declared.Value.the-variants as V'
+use Rattle.operators.specs.declared.UnaryOp.the-variants.{ToReal}
+use Rattle.code.specs.declared.Instr.{Instr}
+use Rattle.code.specs.declared.Instr.the-variants.{PushInt, PushReal, Load, LoadIndexed, Unary, Binary, Jump, JumpIf}
+use Rattle.grammar.specs.Tree.{Tree, literal, cell, indexed, unary, binary, logic, choice, treeKind}
+
+abbrev pub push : Value → Instr
+push (V'.Int z) = PushInt z
+push (V'.Real x) = PushReal x
+
+abbrev pub pushBool : Bool → Instr
+pushBool true = PushInt (pos 1)
+pushBool false = PushInt (pos 0)
+
+-- after both sides of `&&` or `||`, where d decides: d if the right side's truth is d, otherwise the other
+abbrev pub settled : Bool → List Instr
+settled d = JumpIf d 2 ∷ pushBool (not d) ∷ Jump 1 ∷ pushBool d ∷ []
+
+-- after the branches of IF, of the kinds given: what promotes an integer branch, and how many instructions the first branch skips of it
+abbrev pub tail : Kind → Kind → List Instr
+tail K.Int K.Int = []
+tail K.Int K.Real = Jump 1 ∷ Unary ToReal ∷ []
+tail K.Real K.Int = Unary ToReal ∷ []
+tail K.Real K.Real = []
+
+abbrev pub over : Kind → Kind → ℕ
+over K.Int K.Int = 0
+over K.Int K.Real = 1
+over K.Real K.Int = 1
+over K.Real K.Real = 0
+
+unfoldable pub codeOf : Tree → List Instr
+unfolding treeKind
+codeOf (literal p v) = push v ∷ []
+codeOf (cell b i) = Load b i ∷ []
+codeOf (indexed b t) = codeOf t ++ LoadIndexed b ∷ []
+codeOf (unary p o t) = codeOf t ++ Unary o ∷ []
+codeOf (binary p o t u) = codeOf t ++ (codeOf u ++ Binary o ∷ [])
+codeOf (logic p d t u) = codeOf t ++ JumpIf d (length (codeOf u) + 3) ∷ (codeOf u ++ settled d)
+codeOf (choice p c t u) =
+    codeOf c ++ JumpIf false (length (codeOf t) + 1) ∷ (codeOf t ++ Jump (length (codeOf u) + over (treeKind t) (treeKind u)) ∷ (codeOf u ++ tail (treeKind t) (treeKind u)))

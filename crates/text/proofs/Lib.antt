@@ -1,0 +1,11 @@
+mod Scanning
+mod Carrying
+mod Infixes
+mod Ahead
+mod Binding
+mod Told
+mod Steps
+mod Climbing
+mod Prefixing
+mod Whole
+pub mod Theorems

@@ -1,0 +1,92 @@
+-- The theorems about texts, from those about the grammar.
+use mathlib.Core.Path.{_≡_, refl, sym, ap, subst, _∙_}
+use mathlib.Core.Bool.{Bool, true, false, _&&_, cond}
+use mathlib.Core.List.{List, [], _∷_, _++_, append-assoc}
+use Prim.Native.Nat.{ℕ, suc, _-_, _<_}
+use native.Mathlib.Omega.{arith}
+use lib.Dec.{leb}
+use lib.ListN.{length}
+use borrow.Author.Tests.{le-leb, leb-true}
+use Rattle.tokens.specs.Scan.{Tok, Scan, tokens, wrong, scan}
+use Rattle.grammar.specs.Tree.{Tree, Place, nowhere, at, wrongKind}
+use Rattle.grammar.specs.Grammar.{Formula, Viable}
+use Rattle.grammar.specs.Parse.{Result, mostOpen}
+use Rattle.grammar.specs.Theorems as G
+use Rattle.grammar.specs.Theorems.{isOpener, isCloser, openAfter, Shallow, opens, goes-on, Found}
+use Rattle.grammar.proofs.Theorems.{grammar-theorems}
+use Rattle.text.specs.Judge.{accepted, refused, ofKinds, ofParse, ofScan, judge}
+use Rattle.text.specs.Theorems.{Sized, Reads, Accepts, Outcome, wrong-size, wrong-token, wrong-end, wrong-next, too-deep, wrong-kind, formula, TextTheorems}
+
+-- the test of the length
+fits : (s : List ℕ) → Sized s → (leb 1 (length s) && leb (length s) 1024) ≡ true
+fits s h = rw (le-leb 1 (length s) (h .some), le-leb (length s) 1024 (h .short)) refl
+
+sized : (s : List ℕ) → (leb 1 (length s) && leb (length s) 1024) ≡ true → Sized s
+sized s e = go (leb 1 (length s)) (leb (length s) 1024) refl refl e
+  where
+    go : (a b : Bool) → leb 1 (length s) ≡ a → leb (length s) 1024 ≡ b → (a && b) ≡ true → Sized s
+    go true true p q e = record { some = leb-true 1 (length s) p; short = leb-true (length s) 1024 q }
+    go true false p q e = let z : _≡_ {A = ℕ} 0 1 = cc in absurd (omega arith)
+    go false b p q e = let z : _≡_ {A = ℕ} 0 1 = cc in absurd (omega arith)
+
+-- what each result of the parser says
+found-outcome : (s : List ℕ) (w : List Tok) {q : Result Tree} → Reads s w → Found w q → Outcome s (ofParse s q)
+unfolding ofParse
+found-outcome s w h (G.formula {t = t} a sh) = go (wrongKind t) refl
+  where
+    go : (p : Place) → wrongKind t ≡ p → Outcome s (ofKinds t p)
+    go nowhere e = formula (record { words = w; reads = h; formula = a; shallow = sh; kinds = e })
+    go (at p) e = wrong-kind w t h a sh e
+found-outcome s w h (G.unfinished v n sh) = wrong-end w h v n sh
+found-outcome s w h (G.surplus {x = x} {ys = ys} p e v n sh) = wrong-next p x ys (subst (Reads s) e h) v n sh
+found-outcome s w h (G.refused {x = x} {ys = ys} p e v n sh) = wrong-next p x ys (subst (Reads s) e h) v n sh
+found-outcome s w h (G.too-deep {x = x} {ys = ys} p e v sh o le) = too-deep p x ys (subst (Reads s) e h) v sh o le
+
+outcome : (s : List ℕ) → Outcome s (judge s)
+unfolding judge ofScan
+outcome s = go (leb 1 (length s) && leb (length s) 1024) refl
+  where
+    read : Sized s → (z : Scan) → scan s ≡ z → Outcome s (ofScan s z)
+    read h (tokens w) e = found-outcome s w (record { sized = h; scanned = e }) (grammar-theorems .found w)
+    read h (wrong a p) e = wrong-token h e
+
+    go : (b : Bool) → (leb 1 (length s) && leb (length s) 1024) ≡ b → Outcome s (cond b (ofScan s (scan s)) (refused 3 0))
+    go true e = read (sized s e) (scan s) refl
+    go false e = wrong-size (λ h. let f = fits s h in let z : _≡_ {A = ℕ} 0 1 = cc in omega arith)
+
+-- an opener of a shallow text is met with fewer than eight open
+room : (d : ℕ) (p : List Tok) (x : Tok) (ys : List Tok) → Shallow d (p ++ x ∷ ys) → isOpener x ≡ true → openAfter d p < mostOpen
+room d [] x ys (opens e lt h) o = lt
+room d [] x ys (goes-on e h) o = let z : _≡_ {A = ℕ} 0 1 = cc in absurd (omega arith)
+room d (y ∷ p) x ys (opens e lt h) o = rw e (room (suc d) p x ys h o)
+room d (y ∷ p) x ys (goes-on e h) o = rw e (room (cond (isCloser y) (d - 1) d) p x ys h o)
+
+-- a formula is found
+module _ (s : List ℕ) {w : List Tok} {t : Tree} (a : Formula w t) (sh : Shallow 0 w) (k : wrongKind t ≡ nowhere) where
+  begins : (p : List Tok) (x : Tok) (ys : List Tok) → w ≡ p ++ x ∷ ys → Viable (p ++ x ∷ [])
+  begins p x ys e = (ys, t, rw append-assoc (subst (λ (v : List Tok). Formula v t) e a))
+
+  found-formula : {q : Result Tree} → Found w q → ofParse s q ≡ accepted t
+  unfolding ofParse
+  found-formula (G.formula {t = u} b z) =
+      let e : u ≡ t = grammar-theorems .unambiguous w u t b a in
+      subst (λ (x : Tree). ofKinds x (wrongKind x) ≡ accepted t) (sym e) (rw k refl)
+  found-formula (G.unfinished v n z) = absurd (n t a)
+  found-formula (G.surplus {x = x} {ys = ys} p e v n z) = absurd (n (begins p x ys e))
+  found-formula (G.refused {x = x} {ys = ys} p e v n z) = absurd (n (begins p x ys e))
+  found-formula (G.too-deep {x = x} {ys = ys} p e v z o le) = absurd (let r = room 0 p x ys (subst (Shallow 0) e sh) o in omega arith)
+
+accepts-all : (s : List ℕ) (t : Tree) → Accepts s t → judge s ≡ accepted t
+unfolding judge ofScan
+accepts-all s t h =
+    let f = fits s (h .reads .sized) in
+    rw f (ap (ofScan s) (h .reads .scanned) ∙ found-formula s (h .formula) (h .shallow) (h .kinds) (grammar-theorems .found (h .words)))
+
+accepts-only : (s : List ℕ) (t : Tree) → judge s ≡ accepted t → Accepts s t
+accepts-only s t e = go (subst (Outcome s) e (outcome s))
+  where
+    go : Outcome s (accepted t) → Accepts s t
+    go (formula h) = h
+
+pub text-theorems : TextTheorems
+text-theorems = record { outcome = outcome; accepts = λ s t. (accepts-only s t, accepts-all s t) }

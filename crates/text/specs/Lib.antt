@@ -1,0 +1,4 @@
+pub mod Judge
+pub mod Carried
+pub mod Reading
+pub mod Theorems

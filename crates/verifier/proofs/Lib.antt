@@ -1,0 +1,11 @@
+-- Safe is what other crates may cite; the others are the laws that lead to it and to `check`.
+pub mod Safe
+pub mod Moves
+pub mod Pass
+pub mod Onward
+pub mod Held
+pub mod Bits
+pub mod Joining
+pub mod Merging
+pub mod Stepping
+pub mod Checking

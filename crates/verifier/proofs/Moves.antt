@@ -1,0 +1,78 @@
+-- Places: whether two are the same, and where a move leads, which is forward, and within the code where each instruction stands.
+use mathlib.Core.Path.{_≡_, refl, sym, subst}
+use mathlib.Core.Bool.{Bool, true, false, cond}
+use mathlib.Core.List.{[], _∷_}
+use Prim.Native.Nat.{ℕ, suc, _+_, _-_, _≤_, _<_}
+use native.Mathlib.Omega.{arith}
+use lib.Dec.{ltb, eqb}
+use lib.ListN.{length}
+use borrow.Author.Tests.{leb-true, eqb-true, eqb-false}
+use Rattle.operators.specs.Kinds.{unaryTakes, binaryTakes}
+use Rattle.code.specs.declared.Instr.{Instr}
+use Rattle.code.specs.declared.Instr.the-variants.{PushInt, PushReal, Load, LoadIndexed, Unary, Binary, Jump, JumpIf, Unknown}
+use Rattle.machine.specs.Machine.{most}
+use Rattle.verifier.specs.Typing.{Shape, Move, refused, next, leap, fork, moveOf, stands}
+use Rattle.verifier.specs.Accepts.{Leads, on, over, stay, away}
+
+-- a place is another, or it is not
+pub compare : {X : Type 0} (q t : ℕ) → (q ≡ t → X) → ((q ≡ t → ⊥) → X) → X
+compare {X} q t f g = go (eqb q t) refl
+  where
+    go : (b : Bool) → eqb q t ≡ b → X
+    go true e = f (eqb-true q t e)
+    go false e = g (eqb-false q t e)
+
+-- what holds below p, and of p, holds below the next
+pub upto : (X : ℕ → Type 0) (p : ℕ) → ((q : ℕ) → q < p → X q) → X p → (q : ℕ) → q < suc p → X q
+upto X p f x q l = compare q p (λ e. subst X (sym e) x) (λ n. f q (omega arith))
+
+-- ---- a move
+
+pub able : {p q : ℕ} {m : Move} {r : Shape} → Leads p m q r → m ≡ refused → ⊥
+able on e = let z : _≡_ {A = ℕ} 0 1 = cc in omega arith
+able over e = let z : _≡_ {A = ℕ} 0 1 = cc in omega arith
+able stay e = let z : _≡_ {A = ℕ} 0 1 = cc in omega arith
+able away e = let z : _≡_ {A = ℕ} 0 1 = cc in omega arith
+
+pub forward : {p q : ℕ} {m : Move} {r : Shape} → Leads p m q r → p < q
+forward on = omega arith
+forward over = omega arith
+forward stay = omega arith
+forward away = omega arith
+
+-- how many instructions a move can skip
+abbrev pub span : Move → ℕ
+span refused = 0
+span (next r) = 0
+span (leap d r) = d
+span (fork d r) = d
+
+pub reach : {p q : ℕ} {m : Move} {r : Shape} → Leads p m q r → q ≤ suc p + span m
+reach on = omega arith
+reach over = omega arith
+reach stay = omega arith
+reach away = omega arith
+
+flat : (b : Bool) (r : Shape) (k : ℕ) → span (cond b (next r) refused) ≤ k
+flat true r k = omega arith
+flat false r k = omega arith
+
+pub spanned : (i : Instr) (s : Shape) (k : ℕ) → stands k i ≡ true → span (moveOf i s) ≤ k
+unfolding moveOf
+spanned (PushInt z) s k e = flat (ltb (length s) most) _ k
+spanned (PushReal x) s k e = flat (ltb (length s) most) _ k
+spanned (Load b i) s k e = flat (ltb (length s) most) _ k
+spanned (LoadIndexed b) [] k e = omega arith
+spanned (LoadIndexed b) (x ∷ s) k e = omega arith
+spanned (Unary o) [] k e = omega arith
+spanned (Unary o) (x ∷ s) k e = flat (unaryTakes o x) _ k
+spanned (Binary o) [] k e = omega arith
+spanned (Binary o) (x ∷ []) k e = omega arith
+spanned (Binary o) (x ∷ (y ∷ s)) k e = flat (binaryTakes o y x) _ k
+spanned (Jump d) s k e = leb-true d k e
+spanned (JumpIf t d) [] k e = omega arith
+spanned (JumpIf t d) (x ∷ s) k e = leb-true d k e
+spanned Unknown s k e = omega arith
+
+pub within : (i : Instr) (s : Shape) {n p q : ℕ} {r : Shape} → p < n → stands (n - suc p) i ≡ true → Leads p (moveOf i s) q r → q ≤ n
+within i s {n} {p} l e w = omega (arith, reach w, spanned i s (n - suc p) e)

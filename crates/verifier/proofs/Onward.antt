@@ -1,0 +1,139 @@
+-- From one place to the next: where the pass knows what is reached at p, a step of it leaves the pass with what comes to the next place.
+use mathlib.Core.Path.{_≡_, refl, sym, ap, _∙_, subst}
+use mathlib.Core.Logic.{_⊎_, inl, inr}
+use mathlib.Core.Bool.{true, false}
+use mathlib.Core.List.{List}
+use Prim.Native.Nat.{ℕ, suc, _+_, _-_, _≤_, _<_}
+use native.Mathlib.Omega.{arith}
+use lib.ListN.{length}
+use Rattle.values.specs.declared.Kind.{Kind}
+use Rattle.code.specs.declared.Instr.{Instr}
+use Rattle.verifier.specs.Typing.{Shape, Move, refused, next, leap, fork, moveOf, stands}
+use Rattle.verifier.specs.Accepts.{Leads, on, over, stay, away, instrAt, Reached, onward, Accepts}
+use Rattle.verifier.specs.Shapes.{State, rejected, unreached, holds}
+use Rattle.verifier.specs.Pass.{Merges, adds, has, clashes, Steps, fails, skips, stuck, goes, leaps, forks, leap-clash, fork-clash}
+use Rattle.verifier.proofs.Moves.{compare, upto, able}
+use Rattle.verifier.proofs.Pass.{holds-same, unheld, unfailed, Arrives, first, from, In, flows, jumped, Comes, Knows, Or, refuses, passes, exact, unique}
+
+-- ---- what is asked of a step, whatever the instruction
+
+module _ (c : List Instr) (p : ℕ) (before : ℕ → State) (o : State) (k : Knows c p before o) (known : stands (length c - suc p) (instrAt c p) ≡ true) where
+  -- the instruction at p acts, where it leads is known after it, and all that is new is reached
+  pub record Onward (after : ℕ → State) (o′ : State) : Type 0 where
+    pub acts : (s : Shape) → Reached c p s → moveOf (instrAt c p) s ≡ refused → ⊥
+    pub led : (s : Shape) (q : ℕ) (r : Shape) → Reached c p s → Leads p (moveOf (instrAt c p) s) q r → In (suc p) after o′ q r
+    pub kept : (q : ℕ) (r : Shape) → before q ≡ holds r → after q ≡ holds r
+    pub flow : (r : Shape) → o′ ≡ holds r → Reached c (suc p) r
+    pub table : (q : ℕ) (r : Shape) → after q ≡ holds r → Reached c q r
+
+  advance : {after : ℕ → State} {o′ : State} → Onward after o′ → Comes c (suc p) after o′
+  advance {after} {o′} w = record {
+    each = upto (λ q. stands (length c - suc q) (instrAt c q) ≡ true) p (k .comes .each) known;
+    acts = λ q s l. upto (λ q. Reached c q s → moveOf (instrAt c q) s ≡ refused → ⊥) p (λ q l. k .comes .acts q s l) (w .acts s) q l;
+    one = λ q s r l. upto (λ q. Reached c q s → Reached c q r → s ≡ r) p (λ q l. k .comes .one q s r l) (unique k s r) q l;
+    flow = w .flow;
+    table = w .table;
+    arrived = there;
+  }
+    where
+      here : (q : ℕ) → q ≡ p → suc p ≤ q → ⊥
+      here q e l = omega arith
+
+      old : (q : ℕ) (r : Shape) → suc p ≤ q → In p before o q r → In (suc p) after o′ q r
+      old q r l (flows e f) = absurd (here q e l)
+      old q r l (jumped e) = jumped (w .kept q r e)
+
+      there : (q : ℕ) (r : Shape) → suc p ≤ q → Arrives c (suc p) q r → In (suc p) after o′ q r
+      there _ _ l first = absurd (omega arith)
+      there q r l (from {o = q₀} {s = s} m d x) =
+          upto (λ q₀. Reached c q₀ s → Leads q₀ (moveOf (instrAt c q₀) s) q r → In (suc p) after o′ q r) p
+          (λ q₀ m d x. old q r l (k .comes .arrived q r (omega arith) (from m d x))) (w .led s q r) q₀ m d x
+
+-- ---- a jump that is merged: what was brought stays, and the jump is all that is new
+
+module _ {before : ℕ → State} {r : Shape} {t : ℕ} where
+  there : {after : ℕ → State} → Merges r t before true after → after t ≡ holds r
+  there (adds e f o) = f
+  there (has e) = e
+
+  keeps : {after : ℕ → State} → Merges r t before true after → (q : ℕ) (x : Shape) → before q ≡ holds x → after q ≡ holds x
+  keeps (adds e f o) q x g = compare q t (λ i. unheld (sym e ∙ sym (ap before i) ∙ g)) (λ n. o q n ∙ g)
+  keeps (has e) q x g = g
+
+  grows : {after : ℕ → State} {p : ℕ} {m : Move} → Merges r t before true after → Leads p m t r → (q : ℕ) (x : Shape) → after q ≡ holds x → (before q ≡ holds x) ⊎ Leads p m q x
+  grows {after} {p} {m} (adds e f o) w q x g = compare q t
+      (λ i. inr (subst (λ q. Leads p m q x) (sym i) (subst (Leads p m t) (holds-same (sym f ∙ ap after (sym i) ∙ g)) w)))
+      (λ n. inl (sym (o q n) ∙ g))
+  grows (has e) w q x g = inl g
+
+-- ---- each instruction
+
+module _ (c : List Instr) (p : ℕ) (before : ℕ → State) (inside : p < length c) (known : stands (length c - suc p) (instrAt c p) ≡ true) where
+  -- with the kinds s, which are those that p is reached with, the instruction's move is m
+  module _ {s : Shape} (k : Knows c p before (holds s)) {m : Move} (e : moveOf (instrAt c p) s ≡ m) where
+    to : {q : ℕ} {r : Shape} → Leads p m q r → Reached c q r
+    to {q} {r} w = onward (k .comes .flow s refl) inside (subst (λ m. Leads p m q r) (sym e) w)
+
+    clash : {r : Shape} {t : ℕ} {after : ℕ → State} → Leads p m t r → Merges r t before false after → (j : Kind) → Accepts c j → ⊥
+    clash {r} {t} w (clashes {x = x} f n) j a = n (a .one t r x (to w) (k .comes .table t x f))
+
+    moved : {after : ℕ → State} {o : State} {t : ℕ} {x : Shape} → Leads p m t x
+        → ((q : ℕ) (r : Shape) → Leads p m q r → In (suc p) after o q r)
+        → ((q : ℕ) (r : Shape) → before q ≡ holds r → after q ≡ holds r)
+        → ((r : Shape) → o ≡ holds r → Leads p m (suc p) r)
+        → ((q : ℕ) (r : Shape) → after q ≡ holds r → (before q ≡ holds r) ⊎ Leads p m q r)
+        → Comes c (suc p) after o
+    moved a led kept flow table = advance c p before (holds s) k known (record {
+      acts = λ x d f. able a (sym e ∙ ap (moveOf (instrAt c p)) (only d) ∙ f);
+      led = λ x q r d w. led q r (subst (λ m. Leads p m q r) (ap (moveOf (instrAt c p)) (sym (only d)) ∙ e) w);
+      kept = kept;
+      flow = λ r f. to (flow r f);
+      table = λ q r f. new q r (table q r f);
+    })
+      where
+        only : {x : Shape} → Reached c p x → s ≡ x
+        only {x} d = holds-same (exact k x d)
+
+        new : (q : ℕ) (r : Shape) → (before q ≡ holds r) ⊎ Leads p m q r → Reached c q r
+        new q r (inl f) = k .comes .table q r f
+        new q r (inr w) = to w
+
+  module _ {s r : Shape} (k : Knows c p before (holds s)) where
+    goes-on : moveOf (instrAt c p) s ≡ next r → Comes c (suc p) before (holds r)
+    goes-on e = moved k e on led (λ q x f. f) (λ x f. subst (Leads p (next r) (suc p)) (holds-same f) on) (λ q x f. inl f)
+      where
+        led : (q : ℕ) (x : Shape) → Leads p (next r) q x → In (suc p) before (holds r) q x
+        led _ _ on = flows refl refl
+
+    leaps-on : {d : ℕ} {after : ℕ → State} → moveOf (instrAt c p) s ≡ leap d r → Merges r (suc p + d) before true after → Comes c (suc p) after unreached
+    leaps-on {d} {after} e b = moved k e over led (keeps b) (λ x f. unheld f) (grows b over)
+      where
+        led : (q : ℕ) (x : Shape) → Leads p (leap d r) q x → In (suc p) after unreached q x
+        led _ _ over = jumped (there b)
+
+    forks-on : {d : ℕ} {after : ℕ → State} → moveOf (instrAt c p) s ≡ fork d r → Merges r (suc p + d) before true after → Comes c (suc p) after (holds r)
+    forks-on {d} {after} e b = moved k e stay led (keeps b) (λ x f. subst (Leads p (fork d r) (suc p)) (holds-same f) stay) (grows b away)
+      where
+        led : (q : ℕ) (x : Shape) → Leads p (fork d r) q x → In (suc p) after (holds r) q x
+        led _ _ stay = flows refl refl
+        led _ _ away = jumped (there b)
+
+  pub stepped : {o o′ : State} {after : ℕ → State} → Or c (Knows c p before) o → Steps (instrAt c p) (suc p) before o o′ after → Or c (Comes c (suc p) after) o′
+  stepped (refuses f) fails = refuses f
+  stepped (passes n k) fails = absurd (n refl)
+  stepped (passes n k) skips = passes n (advance c p before unreached k known (record {
+    acts = λ s d. unheld (exact k s d);
+    led = λ s q r d. unheld (exact k s d);
+    kept = λ q r e. e;
+    flow = λ r e. unheld e;
+    table = k .comes .table;
+  }))
+  stepped (passes n k) (stuck {s = s} e) = refuses (λ h a. a .acts p s (k .comes .flow s refl) inside e)
+  stepped (passes n k) (goes e) = passes (λ e. unfailed e) (goes-on k e)
+  stepped (passes n k) (leaps e b) = passes (λ e. other e) (leaps-on k e b)
+    where
+      other : unreached ≡ rejected → ⊥
+      other e = let z : _≡_ {A = ℕ} 0 1 = cc in omega arith
+  stepped (passes n k) (forks e b) = passes (λ e. unfailed e) (forks-on k e b)
+  stepped (passes n k) (leap-clash {d = d} e b) = refuses (clash k e (over {d = d}) b)
+  stepped (passes n k) (fork-clash {d = d} e b) = refuses (clash k e (away {d = d}) b)

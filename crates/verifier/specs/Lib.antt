@@ -1,0 +1,5 @@
+pub mod Typing
+pub mod Accepts
+pub mod Safety
+pub mod Shapes
+pub mod Pass

@@ -1,0 +1,34 @@
+-- What accepted code does, whatever the memory holds (demand 3's second half): it "reaches its end or a fault. It executes at most as many instructions as it has, is
+-- never short of a value and never holds more than 128". Being short of a value, given one of a wrong kind, past 128 or past the end are all `Stuck` to the machine.
+-- proofs/Safe.antt proves `Safe`.
+use mathlib.Core.Path.{_≡_}
+use mathlib.Core.List.{List, []}
+use Prim.Native.Nat.{ℕ, _≤_}
+use lib.ListN.{length}
+use Rattle.values.specs.declared.Kind.{Kind}
+use Rattle.values.specs.declared.Value.{Value}
+use Rattle.values.specs.declared.Fault.{Fault}
+use Rattle.values.specs.Values.{kindOf}
+use Rattle.operators.specs.Laws.{OfKind}
+use Rattle.memory.specs.declared.Bank.{Bank}
+use Rattle.memory.specs.Cells.{bankKind}
+use Rattle.code.specs.declared.Instr.{Instr}
+use Rattle.machine.specs.declared.Ended.{Ended}
+use Rattle.machine.specs.declared.Ended.the-variants.{Done, Stopped}
+use Rattle.memory.specs.Environment.{Environment}
+use Rattle.machine.specs.Machine.{exec}
+use Rattle.verifier.specs.Accepts.{Accepts}
+
+-- what is read of a bank is of its kind
+pub record Kinded (E : Environment) : Type 0 where
+  pub cell : (b : Bank) (i : ℕ) → OfKind (bankKind b) (E .cell b i)
+  pub indexed : (b : Bank) (v : Value) → OfKind (bankKind b) (E .indexed b v)
+
+-- a value of the kind k, or a fault
+pub data EndsWell (k : Kind) : Ended → Type 0 where
+  value : (v : Value) → kindOf v ≡ k → EndsWell k (Done v)
+  fault : (f : Fault) → EndsWell k (Stopped f)
+
+pub record Safe : Type 0 where
+  pub ends : (E : Environment) (c : List Instr) (k : Kind) → Kinded E → Accepts c k → EndsWell k (exec E c 0 [] .end)
+  pub counts : (E : Environment) (c : List Instr) → exec E c 0 [] .count ≤ length c
