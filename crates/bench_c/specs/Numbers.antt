@@ -1,0 +1,29 @@
+-- The numbers that the exported functions give for the answers of the reader and the verifier.
+use mathlib.Core.Path.{_≡_}
+use mathlib.Core.List.{List}
+use Prim.Native.Nat.{ℕ}
+use Rattle.values.specs.declared.Kind.{Kind}
+use Rattle.values.specs.declared.Kind.the-variants.{Int, Real}
+use Rattle.text.specs.declared.Judged.{Judged}
+use Rattle.text.specs.declared.Judged.the-variants as Judged
+use Rattle.verifier.specs.declared.Verdict.{Verdict}
+use Rattle.verifier.specs.declared.Verdict.the-variants as Verdict
+use Rattle.verifier.specs.Accepts.{Right}
+
+abbrev pub judgedNumber : Judged → ℕ
+judgedNumber (Judged.Accepted k) = 0
+judgedNumber (Judged.Refused a p) = a
+
+abbrev pub kindNumber : Kind → ℕ
+kindNumber Int = 0
+kindNumber Real = 1
+
+abbrev pub verdictNumber : Verdict → ℕ
+verdictNumber (Verdict.Accepted k) = kindNumber k
+verdictNumber Verdict.Refused = 15
+
+-- r is the number of the right verdict on n instructions
+pub record Checked (code : List ℕ) (n : ℕ) (r : ℕ) : Type 0 where
+  pub verdict : Verdict
+  pub right : Right code n verdict
+  pub number : r ≡ verdictNumber verdict

@@ -1,0 +1,54 @@
+// The reader, the verifier and the machine for a host program that measures them (tests/bench). A slice passes as a pointer and then a length.
+ghost use mathlib.Core.Path.{_≡_};
+ghost use Rattle.text.specs.Judge.{judge, answer};
+ghost use Rattle.machine.specs.Machine.{runs};
+ghost use Rattle.bench_c.specs.Numbers.{judgedNumber, verdictNumber, Checked};
+use text::Judged;
+use values::Kind;
+use verifier::Verdict;
+
+fn judged_number(j: Judged) -> u32
+    ensures { λ r. ⌜ r ≡ judgedNumber j ⌝ }
+{
+    match j {
+        Judged::Accepted(_) => 0,
+        Judged::Refused(a, _) => a,
+    }
+}
+
+fn verdict_number(v: Verdict) -> u32
+    ensures { λ r. ⌜ r ≡ verdictNumber v ⌝ }
+{
+    match v {
+        Verdict::Accepted(k) => match k {
+            Kind::Int => 0,
+            Kind::Real => 1,
+        },
+        Verdict::Refused => 15,
+    }
+}
+
+// 0 for a formula, else the answer that refuses the text.
+#[no_mangle]
+pub extern "C" fn bench_judge(text: &[u8]) -> u32
+    ensures { λ r. ⌜ r ≡ judgedNumber (answer (judge (now (text .entry)))) ⌝ }
+{
+    judged_number(text::judge(text))
+}
+
+// 0 or 1 for code that ends with an integer or a real, 15 for code that is refused.
+#[no_mangle]
+pub extern "C" fn bench_check(code: &[u8], n: usize) -> u32
+    ensures { λ r. ⌜ Checked (now (code .entry)) n r ⌝ }
+{
+    verdict_number(verifier::check(code, n))
+}
+
+// The instructions begun.
+#[no_mangle]
+pub extern "C" fn bench_run(code: &[u8], n: usize, memory: &[u8]) -> usize
+    ensures { λ r. ⌜ r ≡ runs (now (code .entry)) n (now (memory .entry)) .count ⌝ }
+{
+    let ran = machine::run(code, n, memory);
+    ran.count
+}
