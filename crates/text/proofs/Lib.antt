@@ -1,3 +1,4 @@
+-- Other crates cite Theorems; the others are the laws that the functions' proofs cite.
 mod Scanning
 mod Carrying
 mod Infixes

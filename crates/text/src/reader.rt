@@ -2,7 +2,7 @@
 // unary or binary, is a loop.
 ghost use mathlib.Core.Path.{_≡_};
 ghost use Prim.Native.Nat.{ℕ};
-ghost use Rattle.grammar.specs.Symbols.{moreArguments, callTree};
+ghost use Rattle.grammar.specs.Symbols.{openParen, moreArguments, callTree};
 ghost use Rattle.grammar.specs.Parse.{ok, andThen, enter, expression, operand, bracket, arguments, parse};
 ghost use Rattle.text.specs.Judge.{answer, ofParse};
 ghost use Rattle.text.specs.Carried.{earlierOf, prefixedKind, prefixedWrong, applied, infixKind, infixWrong, joined, followedKind, followed, callKind, ofKind, ofCall};
@@ -93,7 +93,7 @@ fn prefixed_kind(integer: bool, kind: Kind) -> Kind
     if integer { Kind::Int } else { kind }
 }
 
-// The first wrong place under unary operators, w that of the primary.
+// The first wrong place under unary operators.
 fn prefixed_wrong(complement: Place, kind: Kind, wrong: Place) -> Place
     ensures { λ r. ⌜ r ≡ prefixedWrong complement kind wrong ⌝ }
 {
@@ -461,7 +461,7 @@ fn bracket(text: &[u8], at: usize, room: u8, opener: u8, closer: u8) -> Read
 // A function's arguments, in their parentheses.
 fn called(text: &[u8], at: usize, room: u8, f: Function) -> Read
     requires { ⌜ Ready (now text) at ⌝ }
-    ensures { λ r. ⌜ ((p : ℕ) → Reads Means (λ n ts. enter room 22 ts (λ e q. andThen (arguments n e (moreArguments f) q) (λ us z. ok (callTree f p us) z))) 0 (now (text .entry)) at r) ⌝ }
+    ensures { λ r. ⌜ ((p : ℕ) → Reads Means (λ n ts. enter room openParen ts (λ e q. andThen (arguments n e (moreArguments f) q) (λ us z. ok (callTree f p us) z))) 0 (now (text .entry)) at r) ⌝ }
 {
     match enter(text, at, room, symbols::OPEN) {
         Opened::Inside(j) => of_call(f, arguments(text, j, room - 1, more_arguments(f))),

@@ -94,13 +94,13 @@ module _ (code : List ℕ) (n : ℕ) where
     here : i ≡ instrAt (instructions code n) p
     here = is ∙ sym (at inside)
 
-    follow : length (instructions code n) - suc p ≡ n - (p + 1)
+    follow : length (instructions code n) - suc p ≡ n - p - 1
     follow = omega (arith, size)
 
-    pub unknown : stands (n - (p + 1)) i ≡ false → Right code n Refused
+    pub unknown : stands (n - p - 1) i ≡ false → Right code n Refused
     unknown e = refused (λ k a. true≢false (sym (a .each p (omega (arith, size))) ∙ rw (follow, ← here) e))
 
-    pub turn : {before after : ℕ → State} {o o′ o″ : State} → stands (n - (p + 1)) i ≡ true → Known p before o → Steps i (p + 1) before o o′ after → Joins o′ (after (p + 1)) o″
+    pub turn : {before after : ℕ → State} {o o′ o″ : State} → stands (n - p - 1) i ≡ true → Known p before o → Steps i (p + 1) before o o′ after → Joins o′ (after (p + 1)) o″
         → Known (p + 1) after o″
     turn {before} {after} {o} {o′} {o″} e k w j =
         let l : p < length (instructions code n) = omega (arith, size) in

@@ -4,9 +4,9 @@ use mathlib.Core.Bool.{Bool, true, false, cond}
 use mathlib.Core.List.{[], _∷_}
 use Prim.Native.Nat.{ℕ, suc, _+_, _-_, _≤_, _<_}
 use native.Mathlib.Omega.{arith}
-use lib.Dec.{ltb, eqb}
+use lib.Dec.{ltb, leb, eqb}
 use lib.ListN.{length}
-use borrow.Author.Tests.{leb-true, eqb-true, eqb-false}
+use borrow.Author.Tests.{ltb-true, ltb-false, leb-true, le-leb, lt-leb, eqb-true, eqb-false}
 use Rattle.operators.specs.Kinds.{unaryTakes, binaryTakes}
 use Rattle.code.specs.declared.Instr.{Instr}
 use Rattle.code.specs.declared.Instr.the-variants.{PushInt, PushReal, Load, LoadIndexed, Unary, Binary, Jump, JumpIf, Unknown}
@@ -21,6 +21,13 @@ compare {X} q t f g = go (eqb q t) refl
     go : (b : Bool) → eqb q t ≡ b → X
     go true e = f (eqb-true q t e)
     go false e = g (eqb-false q t e)
+
+pub below : (d m : ℕ) → 1 ≤ m → ltb d m ≡ leb d (m - 1)
+below d m l = go (ltb d m) refl
+  where
+    go : (b : Bool) → ltb d m ≡ b → b ≡ leb d (m - 1)
+    go true e = sym (le-leb d (m - 1) (omega (arith, ltb-true d m e)))
+    go false e = sym (lt-leb d (m - 1) (omega (arith, ltb-false d m e)))
 
 -- what holds below p, and of p, holds below the next
 pub upto : (X : ℕ → Type 0) (p : ℕ) → ((q : ℕ) → q < p → X q) → X p → (q : ℕ) → q < suc p → X q

@@ -28,11 +28,10 @@ use Rattle.memory.proofs.Laws.{memory-laws}
 use Rattle.code.specs.declared.Instr.{Instr}
 use Rattle.code.specs.declared.Instr.the-variants.{PushInt, PushReal, Load, LoadIndexed, Unary, Binary, Jump, JumpIf, Unknown}
 use Rattle.machine.specs.declared.Ended.the-variants.{Stopped}
-use Rattle.machine.specs.declared.Ran.{Ran}
-use Rattle.machine.specs.Machine.{most, Next, goes, halts, pushed, given, act, finish, counted, exec}
+use Rattle.machine.specs.Machine.{most, Next, goes, halts, pushed, given, act, finish, exec}
+use Rattle.machine.proofs.Laws.{onward as after, count-most}
 use Rattle.verifier.specs.Typing.{Shape, Move, refused, next, fork, pushing, moveOf}
-use Rattle.verifier.specs.Accepts.{Leads, on, over, stay, away, instrAt, Reached, start, Accepts}
-use Rattle.verifier.specs.Accepts.{onward}
+use Rattle.verifier.specs.Accepts.{Leads, on, over, stay, away, instrAt, Reached, start, onward, Accepts}
 use Rattle.verifier.specs.Safety.{Kinded, EndsWell, value, fault, Safe}
 use Rattle.verifier.proofs.Moves.{within}
 
@@ -127,12 +126,12 @@ module _ (E : Environment) (K : Kinded E) (c : List Instr) (k : Kind) (acc : Acc
     room : length st ≤ most
     in-code : p ≤ length c
 
-  goes-on : (i : Instr) (left : List Instr) (p : ℕ) (st : List Value) → At p st → Split i left c p
+  goes-on : {i : Instr} {left : List Instr} (p : ℕ) (st : List Value) → At p st → Split i left c p
       → ((d : ℕ) (st′ : List Value) → At (suc p + d) st′ → EndsWell k (exec E left d st′ .end))
       → (x : Next) → Follows p (moveOf (instrAt c p) (kindsOf st)) x
-      → EndsWell k ((elim x as (λ x. Ran) [ goes d st′ ↦ counted (exec E left d st′) | halts e ↦ record { end = e; count = 1 } ]) .end)
-  goes-on i left p st a s ih (halts _) (ends f) = fault f
-  goes-on i left p st a s ih (goes d st′) (leads w h) =
+      → EndsWell k (after E left x .end)
+  goes-on p st a s ih (halts _) (ends f) = fault f
+  goes-on p st a s ih (goes d st′) (leads w h) =
       ih d st′ (record {
         reached = onward (a .reached) (s .inside) w;
         room = h;
@@ -151,26 +150,14 @@ module _ (E : Environment) (K : Kinded E) (c : List Instr) (k : Kind) (acc : Acc
   runs (i ∷ left) p zero st e a =
       let s = split i left c p e in
       let a₀ : At p st = subst (λ n. At n st) (add-zero p) a in
-      subst (λ i. EndsWell k ((elim (act E i st) as (λ x. Ran) [ goes d st′ ↦ counted (exec E left d st′) | halts e ↦ record { end = e; count = 1 } ]) .end)) (sym (s .first))
-      (goes-on i left p st a₀ s (λ d st′ b. runs left (suc p) d st′ (s .rest) b) (act E (instrAt c p) st)
+      subst (λ i. EndsWell k (after E left (act E i st) .end)) (sym (s .first))
+      (goes-on p st a₀ s (λ d st′ b. runs left (suc p) d st′ (s .rest) b) (act E (instrAt c p) st)
       (follows E K p (instrAt c p) st (a₀ .room) (acc .acts p (kindsOf st) (a₀ .reached) (s .inside))))
-
-counts : (E : Environment) (left : List Instr) (d : ℕ) (st : List Value) → exec E left d st .count ≤ length left
-unfolding exec
-counts E [] zero st = omega arith
-counts E [] (suc d) st = omega arith
-counts E (i ∷ left) (suc d) st = omega (arith, counts E left d st)
-counts E (i ∷ left) zero st = go (act E i st) (λ d st′. counts E left d st′)
-  where
-    go : (x : Next) → ((d : ℕ) (st′ : List Value) → exec E left d st′ .count ≤ length left)
-        → (elim x as (λ x. Ran) [ goes d st′ ↦ counted (exec E left d st′) | halts e ↦ record { end = e; count = 1 } ]) .count ≤ suc (length left)
-    go (goes d st′) ih = omega (arith, ih d st′)
-    go (halts e) ih = omega arith
 
 pub safe : Safe
 safe = record {
   ends = λ E c k K acc. runs E K c k acc c 0 0 [] refl (record { reached = start; room = omega arith; in-code = omega arith });
-  counts = λ E c. counts E c 0 [];
+  counts = λ E c. count-most E c 0 [];
 }
 
 -- ---- an actual memory

@@ -21,7 +21,7 @@ pub enum Verdict {
 }
 
 // What is known at a place: the code is refused, the place is not reached as yet, or it is reached with so many values held.
-pub enum Flow {
+enum Flow {
     Refused,
     Unreached,
     Holds(usize),
@@ -165,10 +165,10 @@ pub fn check(code: &[u8], n: usize) -> Verdict
     let mut place: usize = 0;
     while place < n {
         let i = code::decode(code, place);
-        place += 1;
         if !typing::known(i, n - place) {
             return Verdict::Refused;
         }
+        place += 1;
         flow = step(i, flow, place, &mut kinds, &mut tops, &mut lows, &mut highs);
         let packed = Packed {
             low: lows[place],

@@ -1,5 +1,6 @@
 // What an instruction asks and makes of the kinds of the values held: an array, of which the first h count, 0 for an integer and 1 for a real.
 ghost use mathlib.Core.Path.{_≡_};
+ghost use Prim.Native.Nat.{_-_, _≤_};
 ghost use lib.Dec.{leb};
 ghost use lib.ListN.{length};
 ghost use Rattle.verifier.specs.Typing.{pushing, moveOf, stands};
@@ -33,16 +34,18 @@ fn number(k: Kind) -> u8
     }
 }
 
-// A jump stays within the code or goes to its end: so many instructions follow it.
-fn stays(distance: u32, follow: usize) -> bool
-    ensures { λ r. ⌜ r ≡ leb distance follow ⌝ }
+// A jump stays within the code or goes to its end: so many instructions are left, this one among them.
+fn stays(distance: u32, left: usize) -> bool
+    requires { ⌜ 1 ≤ left ⌝ }
+    ensures { λ r. ⌜ r ≡ leb distance (left - 1) ⌝ }
 {
-    distance as usize <= follow
+    (distance as usize) < left
 }
 
 // An instruction is known, whether or not it is reached.
-pub fn known(i: Instr, follow: usize) -> bool
-    ensures { λ r. ⌜ r ≡ stands follow i ⌝ }
+pub fn known(i: Instr, left: usize) -> bool
+    requires { ⌜ 1 ≤ left ⌝ }
+    ensures { λ r. ⌜ r ≡ stands (left - 1) i ⌝ }
 {
     match i {
         Instr::PushInt(_) => true,
@@ -51,8 +54,8 @@ pub fn known(i: Instr, follow: usize) -> bool
         Instr::LoadIndexed(_) => true,
         Instr::Unary(_) => true,
         Instr::Binary(_) => true,
-        Instr::Jump(d) => stays(d, follow),
-        Instr::JumpIf(_, d) => stays(d, follow),
+        Instr::Jump(d) => stays(d, left),
+        Instr::JumpIf(_, d) => stays(d, left),
         Instr::Unknown => false,
     }
 }

@@ -50,19 +50,19 @@ loop-holds c = first _ _
 decode-requires : tie.Need-decode-requires Inv-loop μ-loop
 decode-requires c κs = search needs
 
-add-place : tie.Need-add-place Inv-loop μ-loop
-add-place c = omega arith
-
 sub-known : tie.Need-sub-known Inv-loop μ-loop
 sub-known c = omega arith
 
 known-requires : tie.Need-known-requires Inv-loop μ-loop
-known-requires c κs = search needs
+known-requires c κs = omega arith
 
 returns-3 : tie.Need-returns-3 Inv-loop μ-loop
 returns-3 c =
     let k = c .before in
     unknown _ _ (k .before .before .loop-test .taken) (k .before .decode .ensures) (sym (k .known .ensures) ∙ not-true _ (c .if3 .taken))
+
+add-place : tie.Need-add-place Inv-loop μ-loop
+add-place c = omega arith
 
 step-requires : tie.Need-step-requires Inv-loop μ-loop
 step-requires c κs =
@@ -124,10 +124,10 @@ check-spec =
     returns-2
     loop-holds
     decode-requires
-    add-place
     sub-known
     known-requires
     returns-3
+    add-place
     step-requires
     mul-t13
     array-read-t21

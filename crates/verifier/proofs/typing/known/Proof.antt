@@ -1,5 +1,6 @@
 -- `verifier::typing::known` meets its contract, case by case.
 use mathlib.Core.Path.{sym, ap, _∙_}
+use Prim.Native.Nat.{_-_}
 use borrow.Author.Needs.{needs}
 use Rattle.verifier.specs.Typing.{stands}
 use Rattle.verifier.proofs.typing.known.Statement.{statement}
@@ -57,10 +58,10 @@ returns-6 : tie.Need-returns-6
 returns-6 c = search needs
 
 returns-7 : tie.Need-returns-7
-returns-7 c = c .stays .ensures ∙ ap (stands (c .before .before .before .before .args .follow)) (sym (c .before .before .i .given .1))
+returns-7 c = c .stays .ensures ∙ ap (stands (c .before .before .before .before .args .left - 1)) (sym (c .before .before .i .given .1))
 
 returns-8 : tie.Need-returns-8
-returns-8 c = c .stays2 .ensures ∙ ap (stands (c .before .before .before .before .args .follow)) (sym (c .before .before .i2 .given .1))
+returns-8 c = c .stays2 .ensures ∙ ap (stands (c .before .before .before .before .args .left - 1)) (sym (c .before .before .i2 .given .1))
 
 returns-9 : tie.Need-returns-9
 returns-9 c = search needs
