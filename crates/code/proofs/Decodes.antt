@@ -26,14 +26,15 @@ use Rattle.memory.specs.declared.Bank.the-variants.{X}
 use Rattle.memory.specs.Layout.{layoutOf}
 use Rattle.code.specs.declared.Instr.{Instr}
 use Rattle.code.specs.declared.Instr.the-variants.{PushInt, Load, Unknown}
-use Rattle.code.specs.declared.BankOf.{BankOf}
-use Rattle.code.specs.declared.BankOf.the-variants as BankOf
+use Rattle.memory.specs.declared.numbers.BankOf.{BankOf}
+use Rattle.memory.specs.declared.numbers.BankOf.the-variants as BankOf
 use Rattle.operators.specs.declared.tables.UnaryOf.{UnaryOf}
 use Rattle.operators.specs.declared.tables.UnaryOf.the-variants as UnaryOf
 use Rattle.operators.specs.declared.tables.BinaryOf.{BinaryOf}
 use Rattle.operators.specs.declared.tables.BinaryOf.the-variants as BinaryOf
-use Rattle.operators.specs.Tables.{unaryOps, binaryOps, unaryOf, binaryOf}
-use Rattle.code.specs.Instructions.{banks, bankOf, alone, finiteOnly, pushReal, loadOf, indexedOf, unaryInstr, binaryInstr, instruction, decodeAt}
+use Rattle.operators.specs.Tables.{unaryOps, binaryOps, unaryOf, binaryOf, unaryNumber, binaryNumber}
+use Rattle.memory.specs.Numbers.{banks, bankNumbered}
+use Rattle.code.specs.Instructions.{alone, finiteOnly, pushReal, loadOf, indexedOf, unaryInstr, binaryInstr, instruction, decodeAt}
 use Rattle.code.specs.Encode.{eight, encode, Encodable, push-int, push-real, load, load-indexed, unary, binary, jump, jump-if}
 use Rattle.code.proofs.Numbers.{bank-forth, unary-forth, binary-forth}
 use Rattle.code.proofs.Parts.{bytesAt, eight-bytes, decode-bytes}
@@ -62,7 +63,7 @@ real w h = by (ofBits binary32 w) (ofBits-fits binary32 w) (toBits-ofBits binary
     by (inf s) f b = none
     by (fin s m e) f b = one (push-real (fin s m e) (record { fit = f; real = tt })) (ap (eight 2 0) (b tt))
 
-element : (a w : ℕ) → Decodes (eight 3 a w) (loadOf (bankOf a) w)
+element : (a w : ℕ) → Decodes (eight 3 a w) (loadOf (bankNumbered a) w)
 element a w =
     let b = getD banks a X in
     when (λ (o : BankOf). Decodes (eight 3 a w) (loadOf o w)) (ltb a 6) (BankOf.Is b) BankOf.Nothing
@@ -72,7 +73,7 @@ element a w =
     none)
     none
 
-indexed : (a : ℕ) → Decodes (eight 4 a 0) (indexedOf (bankOf a))
+indexed : (a : ℕ) → Decodes (eight 4 a 0) (indexedOf (bankNumbered a))
 indexed a =
     let b = getD banks a X in
     when (λ (o : BankOf). Decodes (eight 4 a 0) (indexedOf o)) (ltb a 6) (BankOf.Is b) BankOf.Nothing

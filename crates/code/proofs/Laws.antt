@@ -25,7 +25,9 @@ use Rattle.memory.specs.Layout.{layoutOf}
 use Rattle.code.specs.declared.Instr.{Instr}
 use Rattle.code.specs.declared.Instr.the-variants.{PushInt, Unknown}
 use Rattle.code.specs.Instructions.{finiteOnly, indexedOf, unaryInstr, binaryInstr, instruction, decodeAt}
-use Rattle.code.specs.Encode.{bankNumber, unaryNumber, binaryNumber, eight, encode, Encodable, push-int, push-real, load, load-indexed, unary, binary, jump, jump-if, EncodeLaws}
+use Rattle.memory.specs.Numbers.{bankNumber}
+use Rattle.operators.specs.Tables.{unaryNumber, binaryNumber}
+use Rattle.code.specs.Encode.{eight, encode, Encodable, push-int, push-real, load, load-indexed, unary, binary, jump, jump-if, EncodeLaws}
 use Rattle.code.proofs.Finite.{finite-kept}
 use Rattle.code.proofs.Numbers.{bank-back, unary-back, binary-back}
 use Rattle.code.proofs.Parts.{decode-beyond}

@@ -16,15 +16,14 @@ use Rattle.operators.specs.declared.BinaryOp.{BinaryOp}
 use Rattle.operators.specs.declared.BinaryOp.the-variants.{Arith, Power, Shift, Compare, Bits, Choice}
 use Rattle.memory.specs.declared.Bank.{Bank}
 use Rattle.memory.specs.declared.Bank.the-variants.{X, C, «V», N, D, R}
-use Rattle.code.specs.declared.BankOf.the-variants as BankOf
+use Rattle.memory.specs.declared.numbers.BankOf.the-variants as BankOf
 use Rattle.operators.specs.declared.tables.UnaryOf.the-variants as UnaryOf
 use Rattle.operators.specs.declared.tables.BinaryOf.the-variants as BinaryOf
-use Rattle.operators.specs.Tables.{unaryOps, binaryOps, unaryOf, binaryOf}
-use Rattle.code.specs.Instructions.{banks, bankOf}
-use Rattle.code.specs.Encode.{bankNumber, unaryNumber, binaryNumber}
+use Rattle.operators.specs.Tables.{unaryOps, binaryOps, unaryOf, binaryOf, unaryNumber, binaryNumber}
+use Rattle.memory.specs.Numbers.{banks, bankNumbered, bankNumber}
 
 -- ---- the operand of its number
-pub bank-back : (b : Bank) → bankOf (bankNumber b) ≡ BankOf.Is b
+pub bank-back : (b : Bank) → bankNumbered (bankNumber b) ≡ BankOf.Is b
 bank-back X = refl
 bank-back C = refl
 bank-back «V» = refl

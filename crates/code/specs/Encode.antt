@@ -31,50 +31,11 @@ use Rattle.words.specs.Laws.{Bytes}
 use Rattle.memory.specs.declared.Bank.{Bank}
 use Rattle.memory.specs.declared.Bank.the-variants.{X, C, «V», N, D, R}
 use Rattle.memory.specs.Layout.{layoutOf}
+use Rattle.memory.specs.Numbers.{bankNumber}
+use Rattle.operators.specs.Tables.{unaryNumber, binaryNumber}
 use Rattle.code.specs.declared.Instr.{Instr}
 use Rattle.code.specs.declared.Instr.the-variants.{PushInt, PushReal, Load, LoadIndexed, Unary, Binary, Jump, JumpIf, Unknown}
 use Rattle.code.specs.Instructions.{decodeAt}
-
--- the numbers of the operands, as docs/INSTRUCTIONS.md has them
-abbrev pub bankNumber : Bank → ℕ
-bankNumber X = 0
-bankNumber C = 1
-bankNumber «V» = 2
-bankNumber N = 3
-bankNumber D = 4
-bankNumber R = 5
-
-abbrev pub unaryNumber : UnaryOp → ℕ
-unaryNumber Neg = 0
-unaryNumber Complement = 1
-unaryNumber Not = 2
-unaryNumber Abs = 3
-unaryNumber ToReal = 4
-unaryNumber Trunc = 5
-unaryNumber Round = 6
-unaryNumber Frac = 7
-
-abbrev pub binaryNumber : BinaryOp → ℕ
-binaryNumber Power = 0
-binaryNumber (Arith Mul) = 1
-binaryNumber (Arith Div) = 2
-binaryNumber (Arith Rem) = 3
-binaryNumber (Arith Add) = 4
-binaryNumber (Arith Sub) = 5
-binaryNumber (Shift Left) = 6
-binaryNumber (Shift Right) = 7
-binaryNumber (Shift RightZero) = 8
-binaryNumber (Compare Lt) = 9
-binaryNumber (Compare Gt) = 10
-binaryNumber (Compare Le) = 11
-binaryNumber (Compare Ge) = 12
-binaryNumber (Compare Eq) = 13
-binaryNumber (Compare Ne) = 14
-binaryNumber (Bits And) = 15
-binaryNumber (Bits Xor) = 16
-binaryNumber (Bits Or) = 17
-binaryNumber (Choice Max) = 18
-binaryNumber (Choice Min) = 19
 
 -- opcode, operand, two bytes of 0, word
 abbrev pub eight : ℕ → ℕ → ℕ → List ℕ

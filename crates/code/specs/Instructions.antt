@@ -15,19 +15,13 @@ use Rattle.memory.specs.declared.Bank.the-variants.{X, C, «V», N, D, R}
 use Rattle.memory.specs.Layout.{layoutOf}
 use Rattle.code.specs.declared.Instr.{Instr}
 use Rattle.code.specs.declared.Instr.the-variants.{PushInt, PushReal, Load, LoadIndexed, Unary, Binary, Jump, JumpIf, Unknown}
-use Rattle.code.specs.declared.BankOf.{BankOf}
-use Rattle.code.specs.declared.BankOf.the-variants as BankOf
+use Rattle.memory.specs.declared.numbers.BankOf.{BankOf}
+use Rattle.memory.specs.declared.numbers.BankOf.the-variants as BankOf
+use Rattle.memory.specs.Numbers.{bankNumbered}
 use Rattle.operators.specs.declared.tables.UnaryOf.{UnaryOf}
 use Rattle.operators.specs.declared.tables.UnaryOf.the-variants as UnaryOf
 use Rattle.operators.specs.declared.tables.BinaryOf.{BinaryOf}
 use Rattle.operators.specs.declared.tables.BinaryOf.the-variants as BinaryOf
-
--- the banks, by number from 0; the operators are those of the crate operators' Tables
-abbrev pub banks : List Bank
-banks = X ∷ C ∷ «V» ∷ N ∷ D ∷ R ∷ []
-
-abbrev pub bankOf : ℕ → BankOf
-bankOf n = cond (ltb n 6) (BankOf.Is (getD banks n X)) BankOf.Nothing
 
 -- the rest of the eight bytes must be 0
 abbrev pub alone : ℕ → Instr → Instr
@@ -62,8 +56,8 @@ unfoldable pub instruction : ℕ → ℕ → ℕ → Instr
 instruction o a w =
     cond (eqb o 1) (alone a (PushInt (signedOf 32 w)))
     (cond (eqb o 2) (alone a (pushReal w))
-    (cond (eqb o 3) (loadOf (bankOf a) w)
-    (cond (eqb o 4) (alone w (indexedOf (bankOf a)))
+    (cond (eqb o 3) (loadOf (bankNumbered a) w)
+    (cond (eqb o 4) (alone w (indexedOf (bankNumbered a)))
     (cond (eqb o 5) (alone w (unaryInstr (unaryOf a)))
     (cond (eqb o 6) (alone w (binaryInstr (binaryOf a)))
     (cond (eqb o 7) (alone a (Jump w))

@@ -1,7 +1,9 @@
 // Instructions and their eight bytes. docs/INSTRUCTIONS.md is the page of them.
 ghost use mathlib.Core.Path.{_≡_};
-ghost use Rattle.code.specs.Instructions.{bankOf, alone, pushReal, loadOf, indexedOf, unaryInstr, binaryInstr, instruction, decodeAt};
+ghost use Rattle.code.specs.Instructions.{alone, pushReal, loadOf, indexedOf, unaryInstr, binaryInstr, instruction, decodeAt};
 use memory::Bank;
+use memory::numbers;
+use memory::numbers::BankOf;
 use operators::BinaryOp;
 use operators::UnaryOp;
 use operators::tables::BinaryOf;
@@ -18,24 +20,6 @@ pub enum Instr {
     Jump(u32),
     JumpIf(bool, u32),
     Unknown,
-}
-
-pub enum BankOf {
-    Is(Bank),
-    Nothing,
-}
-
-// The banks by number; the operators' numbers are those of operators::tables.
-const BANKS: [Bank; 6] = [Bank::X, Bank::C, Bank::V, Bank::N, Bank::D, Bank::R];
-
-pub fn bank_of(n: u8) -> BankOf
-    ensures { λ r. ⌜ r ≡ bankOf n ⌝ }
-{
-    if n < 6 {
-        BankOf::Is(BANKS[n as usize])
-    } else {
-        BankOf::Nothing
-    }
 }
 
 // A part of the eight bytes that must be 0.
@@ -112,8 +96,8 @@ pub fn instruction_of(opcode: u8, operand: u8, word: u32) -> Instr
             Instr::PushInt(values::patterns::from_pattern(word)),
         ),
         2 => alone8(operand, push_real(word)),
-        3 => load(bank_of(operand), word),
-        4 => alone32(word, load_indexed(bank_of(operand))),
+        3 => load(numbers::bank_numbered(operand), word),
+        4 => alone32(word, load_indexed(numbers::bank_numbered(operand))),
         5 => alone32(word, unary(operators::tables::unary_of(operand))),
         6 => alone32(word, binary(operators::tables::binary_of(operand))),
         7 => alone8(operand, Instr::Jump(word)),

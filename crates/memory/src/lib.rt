@@ -5,6 +5,7 @@ use values::Fault;
 
 pub mod cells;
 pub mod names;
+pub mod numbers;
 pub mod store;
 
 pub enum Bank {

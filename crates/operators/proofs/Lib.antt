@@ -1,4 +1,5 @@
 -- The laws of the rules: other crates cite Laws.
+pub mod Arms
 pub mod Keys
 pub mod Cases
 pub mod Gives

@@ -31,3 +31,35 @@ unaryOf n = cond (ltb n 8) (U.Is (getD unaryOps n Neg)) U.Nothing
 
 abbrev pub binaryOf : ℕ → BinaryOf
 binaryOf n = cond (ltb n 20) (B.Is (getD binaryOps n (Arith Add))) B.Nothing
+
+abbrev pub unaryNumber : UnaryOp → ℕ
+unaryNumber Neg = 0
+unaryNumber Complement = 1
+unaryNumber Not = 2
+unaryNumber Abs = 3
+unaryNumber ToReal = 4
+unaryNumber Trunc = 5
+unaryNumber Round = 6
+unaryNumber Frac = 7
+
+abbrev pub binaryNumber : BinaryOp → ℕ
+binaryNumber Power = 0
+binaryNumber (Arith Mul) = 1
+binaryNumber (Arith Div) = 2
+binaryNumber (Arith Rem) = 3
+binaryNumber (Arith Add) = 4
+binaryNumber (Arith Sub) = 5
+binaryNumber (Shift Left) = 6
+binaryNumber (Shift Right) = 7
+binaryNumber (Shift RightZero) = 8
+binaryNumber (Compare Lt) = 9
+binaryNumber (Compare Gt) = 10
+binaryNumber (Compare Le) = 11
+binaryNumber (Compare Ge) = 12
+binaryNumber (Compare Eq) = 13
+binaryNumber (Compare Ne) = 14
+binaryNumber (Bits And) = 15
+binaryNumber (Bits Xor) = 16
+binaryNumber (Bits Or) = 17
+binaryNumber (Choice Max) = 18
+binaryNumber (Choice Min) = 19

@@ -1,6 +1,6 @@
-// The operators by number: specs/Tables.antt.
+// The operators by number: specs/Tables.antt. Each way is a match: a table would be copied at every use.
 ghost use mathlib.Core.Path.{_≡_};
-ghost use Rattle.operators.specs.Tables.{unaryOf, binaryOf};
+ghost use Rattle.operators.specs.Tables.{unaryOf, binaryOf, unaryNumber, binaryNumber};
 use crate::BinaryOp;
 use crate::UnaryOp;
 use reals::ArithOp;
@@ -19,56 +19,98 @@ pub enum BinaryOf {
     Nothing,
 }
 
-const UNARY: [UnaryOp; 8] = [
-    UnaryOp::Neg,
-    UnaryOp::Complement,
-    UnaryOp::Not,
-    UnaryOp::Abs,
-    UnaryOp::ToReal,
-    UnaryOp::Trunc,
-    UnaryOp::Round,
-    UnaryOp::Frac,
-];
-
-const BINARY: [BinaryOp; 20] = [
-    BinaryOp::Power,
-    BinaryOp::Arith(ArithOp::Mul),
-    BinaryOp::Arith(ArithOp::Div),
-    BinaryOp::Arith(ArithOp::Rem),
-    BinaryOp::Arith(ArithOp::Add),
-    BinaryOp::Arith(ArithOp::Sub),
-    BinaryOp::Shift(ShiftOp::Left),
-    BinaryOp::Shift(ShiftOp::Right),
-    BinaryOp::Shift(ShiftOp::RightZero),
-    BinaryOp::Compare(CompareOp::Lt),
-    BinaryOp::Compare(CompareOp::Gt),
-    BinaryOp::Compare(CompareOp::Le),
-    BinaryOp::Compare(CompareOp::Ge),
-    BinaryOp::Compare(CompareOp::Eq),
-    BinaryOp::Compare(CompareOp::Ne),
-    BinaryOp::Bits(BitOp::And),
-    BinaryOp::Bits(BitOp::Xor),
-    BinaryOp::Bits(BitOp::Or),
-    BinaryOp::Choice(ChoiceOp::Max),
-    BinaryOp::Choice(ChoiceOp::Min),
-];
-
 pub fn unary_of(n: u8) -> UnaryOf
     ensures { λ r. ⌜ r ≡ unaryOf n ⌝ }
 {
-    if n < 8 {
-        UnaryOf::Is(UNARY[n as usize])
-    } else {
-        UnaryOf::Nothing
+    match n {
+        0 => UnaryOf::Is(UnaryOp::Neg),
+        1 => UnaryOf::Is(UnaryOp::Complement),
+        2 => UnaryOf::Is(UnaryOp::Not),
+        3 => UnaryOf::Is(UnaryOp::Abs),
+        4 => UnaryOf::Is(UnaryOp::ToReal),
+        5 => UnaryOf::Is(UnaryOp::Trunc),
+        6 => UnaryOf::Is(UnaryOp::Round),
+        7 => UnaryOf::Is(UnaryOp::Frac),
+        _ => UnaryOf::Nothing,
     }
 }
 
 pub fn binary_of(n: u8) -> BinaryOf
     ensures { λ r. ⌜ r ≡ binaryOf n ⌝ }
 {
-    if n < 20 {
-        BinaryOf::Is(BINARY[n as usize])
-    } else {
-        BinaryOf::Nothing
+    match n {
+        0 => BinaryOf::Is(BinaryOp::Power),
+        1 => BinaryOf::Is(BinaryOp::Arith(ArithOp::Mul)),
+        2 => BinaryOf::Is(BinaryOp::Arith(ArithOp::Div)),
+        3 => BinaryOf::Is(BinaryOp::Arith(ArithOp::Rem)),
+        4 => BinaryOf::Is(BinaryOp::Arith(ArithOp::Add)),
+        5 => BinaryOf::Is(BinaryOp::Arith(ArithOp::Sub)),
+        6 => BinaryOf::Is(BinaryOp::Shift(ShiftOp::Left)),
+        7 => BinaryOf::Is(BinaryOp::Shift(ShiftOp::Right)),
+        8 => BinaryOf::Is(BinaryOp::Shift(ShiftOp::RightZero)),
+        9 => BinaryOf::Is(BinaryOp::Compare(CompareOp::Lt)),
+        10 => BinaryOf::Is(BinaryOp::Compare(CompareOp::Gt)),
+        11 => BinaryOf::Is(BinaryOp::Compare(CompareOp::Le)),
+        12 => BinaryOf::Is(BinaryOp::Compare(CompareOp::Ge)),
+        13 => BinaryOf::Is(BinaryOp::Compare(CompareOp::Eq)),
+        14 => BinaryOf::Is(BinaryOp::Compare(CompareOp::Ne)),
+        15 => BinaryOf::Is(BinaryOp::Bits(BitOp::And)),
+        16 => BinaryOf::Is(BinaryOp::Bits(BitOp::Xor)),
+        17 => BinaryOf::Is(BinaryOp::Bits(BitOp::Or)),
+        18 => BinaryOf::Is(BinaryOp::Choice(ChoiceOp::Max)),
+        19 => BinaryOf::Is(BinaryOp::Choice(ChoiceOp::Min)),
+        _ => BinaryOf::Nothing,
+    }
+}
+
+pub fn unary_number(op: UnaryOp) -> u8
+    ensures { λ r. ⌜ r ≡ unaryNumber op ⌝ }
+{
+    match op {
+        UnaryOp::Neg => 0,
+        UnaryOp::Complement => 1,
+        UnaryOp::Not => 2,
+        UnaryOp::Abs => 3,
+        UnaryOp::ToReal => 4,
+        UnaryOp::Trunc => 5,
+        UnaryOp::Round => 6,
+        UnaryOp::Frac => 7,
+    }
+}
+
+pub fn binary_number(op: BinaryOp) -> u8
+    ensures { λ r. ⌜ r ≡ binaryNumber op ⌝ }
+{
+    match op {
+        BinaryOp::Power => 0,
+        BinaryOp::Arith(o) => match o {
+            ArithOp::Mul => 1,
+            ArithOp::Div => 2,
+            ArithOp::Rem => 3,
+            ArithOp::Add => 4,
+            ArithOp::Sub => 5,
+        },
+        BinaryOp::Shift(o) => match o {
+            ShiftOp::Left => 6,
+            ShiftOp::Right => 7,
+            ShiftOp::RightZero => 8,
+        },
+        BinaryOp::Compare(o) => match o {
+            CompareOp::Lt => 9,
+            CompareOp::Gt => 10,
+            CompareOp::Le => 11,
+            CompareOp::Ge => 12,
+            CompareOp::Eq => 13,
+            CompareOp::Ne => 14,
+        },
+        BinaryOp::Bits(o) => match o {
+            BitOp::And => 15,
+            BitOp::Xor => 16,
+            BitOp::Or => 17,
+        },
+        BinaryOp::Choice(o) => match o {
+            ChoiceOp::Max => 18,
+            ChoiceOp::Min => 19,
+        },
     }
 }

@@ -19,14 +19,14 @@ push-real-requires c κs = search needs
 alone8-requires-2 : tie.Need-alone8-requires-2
 alone8-requires-2 c κs = search needs
 
-bank-of-requires : tie.Need-bank-of-requires
-bank-of-requires c κs = search needs
+bank-numbered-requires : tie.Need-bank-numbered-requires
+bank-numbered-requires c κs = search needs
 
 load-requires : tie.Need-load-requires
 load-requires c κs = search needs
 
-bank-of-requires-2 : tie.Need-bank-of-requires-2
-bank-of-requires-2 c κs = search needs
+bank-numbered-requires-2 : tie.Need-bank-numbered-requires-2
+bank-numbered-requires-2 c κs = search needs
 
 load-indexed-requires : tie.Need-load-indexed-requires
 load-indexed-requires c κs = search needs
@@ -71,11 +71,11 @@ returns-2 c = rw (c .alone82 .ensures, c .before .push-real .ensures, c .before 
 
 returns-3 : tie.Need-returns-3
 unfolding instruction
-returns-3 c = rw (c .load .ensures, c .before .bank-of .ensures, c .before .before .match .keys3)
+returns-3 c = rw (c .load .ensures, c .before .bank-numbered .ensures, c .before .before .match .keys3)
 
 returns-4 : tie.Need-returns-4
 unfolding instruction
-returns-4 c = rw (c .alone32 .ensures, c .before .load-indexed .ensures, c .before .before .bank-of2 .ensures, c .before .before .before .match .keys4)
+returns-4 c = rw (c .alone32 .ensures, c .before .load-indexed .ensures, c .before .before .bank-numbered2 .ensures, c .before .before .before .match .keys4)
 
 returns-5 : tie.Need-returns-5
 unfolding instruction
@@ -111,9 +111,9 @@ instruction-of-spec =
     alone8-requires
     push-real-requires
     alone8-requires-2
-    bank-of-requires
+    bank-numbered-requires
     load-requires
-    bank-of-requires-2
+    bank-numbered-requires-2
     load-indexed-requires
     alone32-requires
     unary-of-requires

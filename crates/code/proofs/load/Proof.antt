@@ -6,8 +6,8 @@ use borrow.Author.Tests.{lt-ltb, le-ltb}
 use Rattle.memory.specs.declared.Bank.{Bank}
 use Rattle.memory.specs.declared.Layout.{Layout}
 use Rattle.memory.specs.Layout.{layoutOf}
-use Rattle.code.specs.declared.BankOf.{BankOf}
-use Rattle.code.specs.declared.BankOf.the-variants.{Is}
+use Rattle.memory.specs.declared.numbers.BankOf.{BankOf}
+use Rattle.memory.specs.declared.numbers.BankOf.the-variants.{Is}
 use Rattle.code.specs.declared.Instr.the-variants.{Load, Unknown}
 use Rattle.code.specs.Instructions.{loadOf}
 use Rattle.code.proofs.load.Statement.{statement}
