@@ -9,6 +9,8 @@ use operators::UnaryOp;
 use operators::tables::BinaryOf;
 use operators::tables::UnaryOf;
 
+pub mod encoding;
+
 // A jump's number is how many instructions it skips after itself. JumpIf takes a value, and jumps if its truth is the one given.
 pub enum Instr {
     PushInt(i32),

@@ -2,11 +2,12 @@
 use mathlib.Core.Path.{_≡_, refl, sym, subst, _∙_}
 use mathlib.Core.Bool.{Bool, true, false}
 use mathlib.Core.List.{List, [], _∷_}
-use Prim.Native.Nat.{ℕ, zero, suc, _-_, _≤_}
+use Prim.Native.Nat.{ℕ, zero, suc, _+_, _-_, _≤_}
 use native.Mathlib.Omega.{arith}
 use borrow.Author.Tests.{eq-eqb}
 use Rattle.values.specs.declared.Kind.{Kind}
 use Rattle.tokens.specs.Scan.{Tok}
+use Rattle.token_table.specs.Table.{from}
 use Rattle.grammar.specs.Tree.{Tree}
 use Rattle.grammar.specs.Symbols.{isSymbol}
 use Rattle.grammar.specs.Parse.{Result, ok, bad, deep, starved, andThen, expect, enter}
@@ -15,7 +16,7 @@ use Rattle.text.specs.declared.reader.Place.{Place}
 use Rattle.text.specs.declared.reader.Read.{Read}
 use Rattle.text.specs.declared.reader.Read.the-variants.{Done, Bad, Deep}
 use Rattle.text.specs.Carried.{carried}
-use Rattle.text.specs.Reading.{from, Splits, Same, same-done, same-bad, same-deep, Span, span-done, span-bad, span-deep, and, headIs, symbolAt}
+use Rattle.text.specs.Reading.{Splits, Same, same-done, same-bad, same-deep, Span, span-done, span-bad, span-deep, and, headIs, symbolAt}
 
 pub widen : {s : List ℕ} {lo hi : ℕ} {r : Read} → lo ≤ hi → Span s hi r → Span s lo r
 widen le (span-done {j = j} a h) = span-done {j = j} (omega arith) h
@@ -27,15 +28,22 @@ span-carried K W (span-done a h) = span-done a h
 span-carried K W span-bad = span-bad
 span-carried K W span-deep = span-deep
 
+-- a result that refuses
+pub data Stopped : Read → Type 0 where
+  at-bad : {i : ℕ} → Stopped (Bad i)
+  at-deep : {i : ℕ} → Stopped (Deep i)
+
+pub span-stopped : {s : List ℕ} {lo : ℕ} {o : Read} → Stopped o → Span s lo o
+span-stopped at-bad = span-bad
+span-stopped at-deep = span-deep
+
 module _ {X Y : Type 0} {Is : Kind → Place → X → Type 0} {Js : Kind → Place → Y → Type 0} {s : List ℕ} where
   pub bind-done : {j : ℕ} {k : Kind} {w : Place} {o : Read} {q : Result X} (c : X → List Tok → Result Y) → Same Is s (Done j k w) q → ((x : X) → Is k w x → Same Js s o (c x (from s j))) → Same Js s o (andThen q c)
   bind-done {o = o} c (same-done {x = x} i e) h = subst (λ (r : List Tok). Same Js s o (c x r)) (sym e) (h x i)
 
-  pub bind-bad : {p : ℕ} {q : Result X} (c : X → List Tok → Result Y) → Same Is s (Bad p) q → Same Js s (Bad p) (andThen q c)
-  bind-bad c (same-bad e) = same-bad e
-
-  pub bind-deep : {p : ℕ} {q : Result X} (c : X → List Tok → Result Y) → Same Is s (Deep p) q → Same Js s (Deep p) (andThen q c)
-  bind-deep c (same-deep e) = same-deep e
+  pub bind-stopped : {o : Read} {q : Result X} (c : X → List Tok → Result Y) → Stopped o → Same Is s o q → Same Js s o (andThen q c)
+  bind-stopped c at-bad (same-bad e) = same-bad e
+  bind-stopped c at-deep (same-deep e) = same-deep e
 
   -- one thing made of another, with its kind and place
   pub carry : {r : Read} {q : Result X} (K : Kind → Kind) (W : Kind → Place → Place) (g : X → Y) → ((k : Kind) (w : Place) (x : X) → Is k w x → Js (K k) (W k w) (g x)) → Same Is s r q → Same Js s (carried K W r) (andThen q (λ x z. ok (g x) z))
@@ -48,7 +56,7 @@ module _ {X Y : Type 0} {Is : Kind → Place → X → Type 0} {Js : Kind → Pl
   wrap g h (same-bad e) = same-bad e
   wrap g h (same-deep e) = same-deep e
 
-pub expect-past : {X : Type 0} {s : List ℕ} {at n p e : ℕ} (c : List Tok → Result X) → Splits s at (symbolAt n p) e → expect n (from s at) c ≡ c (from s e)
+pub expect-past : {X : Type 0} {s : List ℕ} {at n p : ℕ} (c : List Tok → Result X) → Splits s at (symbolAt n p) → expect n (from s at) c ≡ c (from s (at + 1))
 expect-past {n = n} c h = rw (h .split, expect, eq-eqb n n refl) refl
 
 pub expect-other : {X : Type 0} (n : ℕ) (ts : List Tok) (c : List Tok → Result X) → headIs n ts ≡ false → expect n ts c ≡ bad ts
@@ -79,10 +87,10 @@ pub enter-then : {X Y : Type 0} (d n : ℕ) (ts : List Tok) (k : ℕ → List To
 enter-then zero n ts k c = expect-then n ts (λ r. deep ts) c
 enter-then (suc d) n ts k c = expect-then n ts (λ r. k d r) c
 
-pub enter-inside : {X : Type 0} {s : List ℕ} {at n p e : ℕ} (d : ℕ) (k : ℕ → List Tok → Result X) → Splits s at (symbolAt n p) e → (d ≡ 0 → ⊥) → enter d n (from s at) k ≡ k (d - 1) (from s e)
+pub enter-inside : {X : Type 0} {s : List ℕ} {at n p : ℕ} (d : ℕ) (k : ℕ → List Tok → Result X) → Splits s at (symbolAt n p) → (d ≡ 0 → ⊥) → enter d n (from s at) k ≡ k (d - 1) (from s (at + 1))
 enter-inside {s = s} {at = at} {n = n} d k h e = enter-some d n (from s at) k e ∙ expect-past (λ r. k (d - 1) r) h
 
-pub enter-full : {X : Type 0} {s : List ℕ} {at n p e : ℕ} (d : ℕ) (k : ℕ → List Tok → Result X) → Splits s at (symbolAt n p) e → d ≡ 0 → enter d n (from s at) k ≡ deep (from s at)
+pub enter-full : {X : Type 0} {s : List ℕ} {at n p : ℕ} (d : ℕ) (k : ℕ → List Tok → Result X) → Splits s at (symbolAt n p) → d ≡ 0 → enter d n (from s at) k ≡ deep (from s at)
 enter-full {s = s} {at = at} zero k h e = expect-past (λ r. deep (from s at)) h
 enter-full (suc d) k h e = absurd (omega arith)
 

@@ -1,5 +1,6 @@
 -- A law for each way through each function of the reader's cycle, on lists alone.
-use mathlib.Core.Path.{_≡_, refl, sym, ap, subst}
+use mathlib.Core.Path.{_≡_, refl, sym, subst}
+use mathlib.Core.Bool.{true, false}
 use mathlib.Core.List.{List, [], _∷_}
 use Prim.Native.Nat.{ℕ, zero, suc, _+_, _-_, _*_, _≤_}
 use native.Mathlib.Omega.{arith}
@@ -12,6 +13,8 @@ use Rattle.memory.specs.Cells.{bankKind}
 use Rattle.tokens.specs.declared.Function.{Function}
 use Rattle.tokens.specs.declared.Token.the-variants.{Number, Cell, Letter, Name, Symbol}
 use Rattle.tokens.specs.Scan.{Tok}
+use Rattle.token_table.specs.Table.{from}
+use Rattle.token_table.proofs.Laws.{tok}
 use Rattle.grammar.specs.Tree.{Tree, literal, cell, indexed, treeKind, wrongKind}
 use Rattle.grammar.specs.Symbols.{loosest, openParen, closeParen, openIndex, closeIndex, comma, none, moreArguments, Arguments, one, more, callTree}
 use Rattle.grammar.specs.Parse.{Result, ok, andThen, expect, enter, expression, operand, primary, bracket, arguments}
@@ -20,64 +23,67 @@ use Rattle.text.specs.declared.reader.Place.the-variants.{Nowhere}
 use Rattle.text.specs.declared.reader.Prefixes.{Prefixes}
 use Rattle.text.specs.declared.reader.Read.{Read}
 use Rattle.text.specs.declared.reader.Read.the-variants.{Done, Bad, Deep}
-use Rattle.text.specs.declared.reader.Next.the-variants as N
-use Rattle.text.specs.declared.reader.Opened.the-variants as O
-use Rattle.text.specs.Judge.{placeOf}
 use Rattle.text.specs.Carried.{applied, followed, followedKind, callKind, earlierOf, ofKind, ofCall}
-use Rattle.text.specs.Reading.{from, Splits, Means, Mean, last, next, Same, same-done, same-bad, same-deep, Span, span-done, span-bad, span-deep, Reads, primaryOf, and, Closes, headSign, symbolAt, Expects, past, other, Enters, shut, full, Chain}
-use Rattle.text.proofs.Scanning.{tok}
+use Rattle.text.specs.Reading.{Splits, Means, Mean, last, next, Same, same-done, same-bad, same-deep, Span, span-done, span-bad, span-deep, Reads, primaryOf, and, Closes, headIs, headSign, Chain}
+use Rattle.text.proofs.Entries.{There, symbol-there}
 use Rattle.text.proofs.Carrying.{applied-means, call-means}
-use Rattle.text.proofs.Binding.{widen, span-carried, bind-done, bind-bad, bind-deep, carry, wrap, expect-past, expect-other, and-then, enter-then, enter-inside, enter-full, enter-other}
+use Rattle.text.proofs.Binding.{widen, span-carried, Stopped, span-stopped, bind-done, bind-stopped, carry, wrap, expect-past, expect-other, and-then, enter-then, enter-inside, enter-full, enter-other}
 
 -- closed
-module _ {n : ℕ} {s : List ℕ} where
-  pub close-past : {j p e : ℕ} {k : Kind} {w : Place} → Expects n s j (N.Past p e) → Closes n s (Done j k w) (Done e k w)
-  close-past {j} {p} {e} {k} {w} (past h) = record { span = wide; same = same }
+module _ {n : ℕ} {s : List ℕ} {j : ℕ} {k : Kind} {w : Place} where
+  pub close-past : headIs n (from s j) ≡ true → Closes n s (Done j k w) (Done (j + 1) k w)
+  close-past e = record { span = wide; same = same }
     where
-      wide : (lo : ℕ) → Span s lo (Done j k w) → Span s lo (Done e k w)
-      wide lo (span-done a r) = span-done {j = e} (omega (arith, h .later)) (h .ready)
+      h : There n s j
+      h = symbol-there n s j e
 
-      same : (q : Result Tree) → Same Means s (Done j k w) q → Same Means s (Done e k w) (and n q)
-      same _ m = bind-done (λ t r. expect n r (λ z. ok t z)) m (λ t i. rw (expect-past (λ z. ok t z) h) (same-done i refl))
+      wide : (lo : ℕ) → Span s lo (Done j k w) → Span s lo (Done (j + 1) k w)
+      wide lo (span-done a r) = span-done {j = j + 1} (omega arith) (omega (arith, h .splits .within))
 
-  pub close-other : {j p : ℕ} {k : Kind} {w : Place} → Expects n s j (N.Other p) → Closes n s (Done j k w) (Bad p)
-  close-other {j} {p} {k} {w} (other h e) = record { span = λ lo m. span-bad; same = λ q m. bind-done (λ t r. expect n r (λ z. ok t z)) m (λ t i. rw (expect-other n (from s j) (λ z. ok t z) h) (same-bad e)) }
+      same : (q : Result Tree) → Same Means s (Done j k w) q → Same Means s (Done (j + 1) k w) (and n q)
+      same _ m = bind-done (λ t r. expect n r (λ z. ok t z)) m (λ t i. rw (expect-past (λ z. ok t z) (h .splits)) (same-done i refl))
 
-  pub close-bad : {p : ℕ} → Closes n s (Bad p) (Bad p)
-  close-bad = record { span = λ lo m. m; same = λ q m. bind-bad (λ t r. expect n r (λ z. ok t z)) m }
+  pub close-other : headIs n (from s j) ≡ false → Closes n s (Done j k w) (Bad j)
+  close-other h = record { span = λ lo m. span-bad; same = λ q m. bind-done (λ t r. expect n r (λ z. ok t z)) m (λ t i. rw (expect-other n (from s j) (λ z. ok t z) h) (same-bad refl)) }
 
-  pub close-deep : {p : ℕ} → Closes n s (Deep p) (Deep p)
-  close-deep = record { span = λ lo m. m; same = λ q m. bind-deep (λ t r. expect n r (λ z. ok t z)) m }
+pub close-stopped : {n : ℕ} {s : List ℕ} {o : Read} → Stopped o → Closes n s o o
+close-stopped {n} h = record { span = λ lo m. m; same = λ q m. bind-stopped (λ t r. expect n r (λ z. ok t z)) h m }
 
 pub close-of : {n : ℕ} {s : List ℕ} {r r′ o : Read} → r ≡ r′ → Closes n s r′ o → Closes n s r o
 close-of {n} {s} {o = o} e h = subst (λ (x : Read). Closes n s x o) (sym e) h
 
 -- an opener, and what stands in its place
 module _ {X : Type 0} {Is : Kind → Place → X → Type 0} (d n : ℕ) {s : List ℕ} {at : ℕ} (k : ℕ → ℕ → List Tok → Result X) where
-  pub shut-reads : {p : ℕ} → Enters d n s at (O.Bad p) → Reads Is (λ f ts. enter d n ts (k f)) 0 s at (Bad p)
-  shut-reads (shut h e) = record { span = span-bad; same = λ f le. rw (enter-other d n (from s at) (k f) h) (same-bad e) }
+  pub shut-reads : headIs n (from s at) ≡ false → Reads Is (λ f ts. enter d n ts (k f)) 0 s at (Bad at)
+  shut-reads h = record { span = span-bad; same = λ f le. rw (enter-other d n (from s at) (k f) h) (same-bad refl) }
 
-  pub full-reads : {p : ℕ} → Enters d n s at (O.Deep p) → Reads Is (λ f ts. enter d n ts (k f)) 0 s at (Deep p)
-  full-reads (full h e) = record { span = span-deep; same = λ f le. rw (enter-full d (k f) h e) (same-deep (ap (placeOf s) (sym (h .split)))) }
+  pub full-reads : headIs n (from s at) ≡ true → d ≡ 0 → Reads Is (λ f ts. enter d n ts (k f)) 0 s at (Deep at)
+  full-reads h e = record { span = span-deep; same = λ f le. rw (enter-full d (k f) (symbol-there n s at h .splits) e) (same-deep refl) }
 
-pub bracket-inside : (d c : ℕ) {n : ℕ} {s : List ℕ} {at p e : ℕ} {r o : Read} → Splits s at (symbolAt n p) e → (d ≡ 0 → ⊥) → Reads Means (λ f ts. expression f (d - 1) loosest ts) 3 s e r → Closes c s r o → Reads Means (λ f ts. enter d n ts (λ e q. bracket f e c q)) 0 s at o
+pub bracket-inside : (d n c : ℕ) {s : List ℕ} {at : ℕ} {r o : Read} → headIs n (from s at) ≡ true → (d ≡ 0 → ⊥) → Reads Means (λ f ts. expression f (d - 1) loosest ts) 3 s (at + 1) r → Closes c s r o → Reads Means (λ f ts. enter d n ts (λ e q. bracket f e c q)) 0 s at o
 unfolding bracket
-bracket-inside d c {n} {s} {at} {p} {e} {r} {o} h z x y = record { span = y .span (at + 1) (widen (omega (arith, h .later)) (x .span)); same = go }
+bracket-inside d n c {s} {at} {r} {o} e z x y = record { span = y .span (at + 1) (widen (omega arith) (x .span)); same = go }
   where
-    go : (f : ℕ) → (length s - at) * 8 + 0 ≤ f → Same Means s o (enter d n (from s at) (λ e q. bracket f e c q))
-    go zero le = absurd (omega (arith, h .later, h .ready .within))
-    go (suc f) le = rw (enter-inside d (λ e q. bracket (suc f) e c q) h z) (y .same (expression f (d - 1) loosest (from s e)) (x .same f (omega (arith, h .later, h .ready .within))))
+    h : There n s at
+    h = symbol-there n s at e
 
-pub called-inside : (d : ℕ) (g : Function) (m : ℕ) {s : List ℕ} {at p e : ℕ} {r : Read} → m ≡ moreArguments g → Splits s at (symbolAt openParen p) e → (d ≡ 0 → ⊥) → Reads (Mean m) (λ f ts. arguments f (d - 1) m ts) 4 s e r
+    go : (f : ℕ) → (length s - at) * 8 + 0 ≤ f → Same Means s o (enter d n (from s at) (λ e q. bracket f e c q))
+    go zero le = absurd (omega (arith, h .splits .within))
+    go (suc f) le = rw (enter-inside d (λ e q. bracket (suc f) e c q) (h .splits) z) (y .same (expression f (d - 1) loosest (from s (at + 1))) (x .same f (omega (arith, h .splits .within))))
+
+pub called-inside : (d : ℕ) (g : Function) (m : ℕ) {s : List ℕ} {at : ℕ} {r : Read} → m ≡ moreArguments g → headIs openParen (from s at) ≡ true → (d ≡ 0 → ⊥) → Reads (Mean m) (λ f ts. arguments f (d - 1) m ts) 4 s (at + 1) r
     → (i : ℕ) → Reads Means (λ f ts. enter d openParen ts (λ e q. andThen (arguments f e (moreArguments g) q) (λ us z. ok (callTree g i us) z))) 0 s at (ofCall g r)
-called-inside d g m {s} {at} {p} {e} {r} q h z x i = record { span = span-carried (callKind g) (λ k w. w) (widen (omega (arith, h .later)) (x .span)); same = go }
+called-inside d g m {s} {at} {r} q e z x i = record { span = span-carried (callKind g) (λ k w. w) (widen (omega arith) (x .span)); same = go }
   where
-    given : (f : ℕ) → (length s - e) * 8 + 4 ≤ f → Same (Mean (moreArguments g)) s r (arguments f (d - 1) (moreArguments g) (from s e))
-    given f le = subst (λ (n : ℕ). Same (Mean n) s r (arguments f (d - 1) n (from s e))) q (x .same f le)
+    h : There openParen s at
+    h = symbol-there openParen s at e
+
+    given : (f : ℕ) → (length s - (at + 1)) * 8 + 4 ≤ f → Same (Mean (moreArguments g)) s r (arguments f (d - 1) (moreArguments g) (from s (at + 1)))
+    given f le = subst (λ (n : ℕ). Same (Mean n) s r (arguments f (d - 1) n (from s (at + 1)))) q (x .same f le)
 
     go : (f : ℕ) → (length s - at) * 8 + 0 ≤ f → Same Means s (ofCall g r) (enter d openParen (from s at) (λ e q. andThen (arguments f e (moreArguments g) q) (λ us z. ok (callTree g i us) z)))
-    go f le = rw (enter-inside d (λ e q. andThen (arguments f e (moreArguments g) q) (λ us z. ok (callTree g i us) z)) h z)
-        (carry (callKind g) (λ k w. w) (callTree g i) (λ k w us v. call-means g i v) (given f (omega (arith, h .later, h .ready .within))))
+    go f le = rw (enter-inside d (λ e q. andThen (arguments f e (moreArguments g) q) (λ us z. ok (callTree g i us) z)) (h .splits) z)
+        (carry (callKind g) (λ k w. w) (callTree g i) (λ k w us v. call-means g i v) (given f (omega (arith, h .splits .within))))
 
 -- arguments
 abbrev rest : (d f m : ℕ) → Tree → List Tok → Result Arguments
@@ -103,7 +109,7 @@ module _ (d : ℕ) {s : List ℕ} {at : ℕ} {r : Read} (x : Reads Means (λ f t
       reach (span-done a h) = span-carried (followedKind m k) (λ l v. earlierOf w v) (widen (omega arith) (u .span))
 
       room : (f : ℕ) → Span s (at + 1) (Done j k w) → (length s - at) * 8 + 4 ≤ suc f → (length s - j) * 8 + 4 ≤ f
-      room f (span-done a h) le = omega (arith, h .within)
+      room f (span-done a h) le = omega (arith, a, h)
 
       go : (m : ℕ) → (m ≡ 0 → ⊥) → Reads (Mean (m - 1)) (λ f ts. arguments f d (m - 1) ts) 4 s j o → (f : ℕ) → (length s - at) * 8 + 4 ≤ f → Same (Mean m) s (followed m k w o) (arguments f d m (from s at))
       go m z u zero le = absurd (omega arith)
@@ -115,27 +121,16 @@ module _ (d : ℕ) {s : List ℕ} {at : ℕ} {r : Read} (x : Reads Means (λ f t
           (bind-done (rest d f m) (y .same (expression f d loosest (from s at)) (x .same f (omega arith)))
           (λ t i. carry (followedKind (suc m) k) (λ l v. earlierOf w v) (more t) (λ l v us h. next i h refl refl) v))
 
-  pub args-bad : (m : ℕ) {p : ℕ} → (m ≡ 0 → ⊥) → Closes comma s r (Bad p) → Reads (Mean m) (λ f ts. arguments f d m ts) 4 s at (Bad p)
+  pub args-stopped : (m : ℕ) {o : Read} → (m ≡ 0 → ⊥) → Closes comma s r o → Stopped o → Reads (Mean m) (λ f ts. arguments f d m ts) 4 s at o
   unfolding arguments
-  args-bad m {p} z y = record { span = span-bad; same = go m z }
+  args-stopped m {o} z y h = record { span = span-stopped h; same = go m z }
     where
-      go : (m : ℕ) → (m ≡ 0 → ⊥) → (f : ℕ) → (length s - at) * 8 + 4 ≤ f → Same (Mean m) s (Bad p) (arguments f d m (from s at))
+      go : (m : ℕ) → (m ≡ 0 → ⊥) → (f : ℕ) → (length s - at) * 8 + 4 ≤ f → Same (Mean m) s o (arguments f d m (from s at))
       go m z zero le = absurd (omega arith)
       go zero z (suc f) le = absurd (z refl)
       go (suc m) z (suc f) le =
-          subst (Same (Mean (suc m)) s (Bad p)) (and-then comma (expression f d loosest (from s at)) (rest d f m))
-          (bind-bad (rest d f m) (y .same (expression f d loosest (from s at)) (x .same f (omega arith))))
-
-  pub args-deep : (m : ℕ) {p : ℕ} → (m ≡ 0 → ⊥) → Closes comma s r (Deep p) → Reads (Mean m) (λ f ts. arguments f d m ts) 4 s at (Deep p)
-  unfolding arguments
-  args-deep m {p} z y = record { span = span-deep; same = go m z }
-    where
-      go : (m : ℕ) → (m ≡ 0 → ⊥) → (f : ℕ) → (length s - at) * 8 + 4 ≤ f → Same (Mean m) s (Deep p) (arguments f d m (from s at))
-      go m z zero le = absurd (omega arith)
-      go zero z (suc f) le = absurd (z refl)
-      go (suc m) z (suc f) le =
-          subst (Same (Mean (suc m)) s (Deep p)) (and-then comma (expression f d loosest (from s at)) (rest d f m))
-          (bind-deep (rest d f m) (y .same (expression f d loosest (from s at)) (x .same f (omega arith))))
+          subst (Same (Mean (suc m)) s o) (and-then comma (expression f d loosest (from s at)) (rest d f m))
+          (bind-stopped (rest d f m) h (y .same (expression f d loosest (from s at)) (x .same f (omega arith))))
 
 -- operand
 plain : (f d : ℕ) (ts : List Tok) → headSign ts ≡ none → operand (suc f) d ts ≡ primaryOf f d ts
@@ -155,49 +150,49 @@ operand-way d {s} {at} {b} {r} h x = record { span = span-carried _ _ (widen (om
 
     go : (f : ℕ) → (length s - at) * 8 + 2 ≤ f → Same Means s (applied b r) (operand f d (from s at))
     go f le =
-        let e : n + (f - n) ≡ f = omega (arith, h .passed .far, h .passed .ready .within) in
+        let e : n + (f - n) ≡ f = omega (arith, h .passed .far, h .passed .within) in
         subst (λ (m : ℕ). Same Means s (applied b r) (operand m d (from s at))) e
-        (rw (h .passed .steps (f - n) d) (carry _ _ (h .passed .make) (λ k w t i. applied-means (h .passed .makes) i) (inner (f - n) (omega (arith, h .passed .far, h .passed .ready .within)))))
+        (rw (h .passed .steps (f - n) d) (carry _ _ (h .passed .make) (λ k w t i. applied-means (h .passed .makes) i) (inner (f - n) (omega (arith, h .passed .far, h .passed .within)))))
 
 -- primary
 module _ (d : ℕ) {s : List ℕ} {at : ℕ} where
-  leaf : {x : Tok} {e : ℕ} {k : Kind} (t : Tree) → Splits s at x e → Means k Nowhere t → ((f : ℕ) (xs : List Tok) → primary (suc f) d x xs ≡ ok t xs) → Reads Means (λ f ts. primaryOf f d ts) 1 s at (Done e k Nowhere)
-  leaf {x} {e} {k} t h m q = record { span = span-done {j = e} (omega (arith, h .later)) (h .ready); same = go }
+  leaf : {x : Tok} {k : Kind} (t : Tree) → Splits s at x → Means k Nowhere t → ((f : ℕ) (xs : List Tok) → primary (suc f) d x xs ≡ ok t xs) → Reads Means (λ f ts. primaryOf f d ts) 1 s at (Done (at + 1) k Nowhere)
+  leaf {x} {k} t h m q = record { span = span-done {j = at + 1} (omega arith) (omega (arith, h .within)); same = go }
     where
-      go : (f : ℕ) → (length s - at) * 8 + 1 ≤ f → Same Means s (Done e k Nowhere) (primaryOf f d (from s at))
+      go : (f : ℕ) → (length s - at) * 8 + 1 ≤ f → Same Means s (Done (at + 1) k Nowhere) (primaryOf f d (from s at))
       go zero le = absurd (omega arith)
-      go (suc f) le = rw (h .split, q f (from s e)) (same-done m refl)
+      go (suc f) le = rw (h .split, q f (from s (at + 1))) (same-done m refl)
 
-  pub primary-number : {p e : ℕ} {v : Value} {k : Kind} → Splits s at (tok (Number v) p) e → k ≡ kindOf v → Reads Means (λ f ts. primaryOf f d ts) 1 s at (Done e k Nowhere)
+  pub primary-number : {p : ℕ} {v : Value} {k : Kind} → Splits s at (tok (Number v) p) → k ≡ kindOf v → Reads Means (λ f ts. primaryOf f d ts) 1 s at (Done (at + 1) k Nowhere)
   unfolding primary treeKind wrongKind
   primary-number {p} {v = v} h q = leaf (literal p v) h (record { kind = sym q; wrong = refl }) (λ f xs. refl)
 
-  pub primary-cell : {p e i : ℕ} {b : Bank} {k : Kind} → Splits s at (tok (Cell b i) p) e → k ≡ bankKind b → Reads Means (λ f ts. primaryOf f d ts) 1 s at (Done e k Nowhere)
+  pub primary-cell : {p i : ℕ} {b : Bank} {k : Kind} → Splits s at (tok (Cell b i) p) → k ≡ bankKind b → Reads Means (λ f ts. primaryOf f d ts) 1 s at (Done (at + 1) k Nowhere)
   unfolding primary treeKind wrongKind
   primary-cell {i = i} {b = b} h q = leaf (cell b i) h (record { kind = sym q; wrong = refl }) (λ f xs. refl)
 
-  pub primary-letter : {p e : ℕ} {b : Bank} {k : Kind} {r : Read} → Splits s at (tok (Letter b) p) e → k ≡ bankKind b → Reads Means (λ f ts. enter d openIndex ts (λ e q. bracket f e closeIndex q)) 0 s e r → Reads Means (λ f ts. primaryOf f d ts) 1 s at (ofKind k r)
+  pub primary-letter : {p : ℕ} {b : Bank} {k : Kind} {r : Read} → Splits s at (tok (Letter b) p) → k ≡ bankKind b → Reads Means (λ f ts. enter d openIndex ts (λ e q. bracket f e closeIndex q)) 0 s (at + 1) r → Reads Means (λ f ts. primaryOf f d ts) 1 s at (ofKind k r)
   unfolding primary treeKind wrongKind
-  primary-letter {p} {e} {b} {k} {r} h z x = record { span = span-carried _ _ (widen (omega (arith, h .later)) (x .span)); same = go }
+  primary-letter {b = b} {k = k} {r = r} h z x = record { span = span-carried _ _ (widen (omega arith) (x .span)); same = go }
     where
       go : (f : ℕ) → (length s - at) * 8 + 1 ≤ f → Same Means s (ofKind k r) (primaryOf f d (from s at))
       go zero le = absurd (omega arith)
       go (suc f) le =
           rw (h .split)
-          (subst (Same Means s (ofKind k r)) (enter-then d openIndex (from s e) (λ e q. bracket f e closeIndex q) (λ t q. ok (indexed b t) q))
-          (carry _ _ (indexed b) (λ l w t i. record { kind = sym z; wrong = i .wrong }) (x .same f (omega (arith, h .later, h .ready .within)))))
+          (subst (Same Means s (ofKind k r)) (enter-then d openIndex (from s (at + 1)) (λ e q. bracket f e closeIndex q) (λ t q. ok (indexed b t) q))
+          (carry _ _ (indexed b) (λ l w t i. record { kind = sym z; wrong = i .wrong }) (x .same f (omega (arith, h .within)))))
 
-  pub primary-name : {p e : ℕ} {g : Function} {r : Read} → Splits s at (tok (Name g) p) e
-      → ((i : ℕ) → Reads Means (λ f ts. enter d openParen ts (λ e q. andThen (arguments f e (moreArguments g) q) (λ us z. ok (callTree g i us) z))) 0 s e r)
+  pub primary-name : {p : ℕ} {g : Function} {r : Read} → Splits s at (tok (Name g) p)
+      → ((i : ℕ) → Reads Means (λ f ts. enter d openParen ts (λ e q. andThen (arguments f e (moreArguments g) q) (λ us z. ok (callTree g i us) z))) 0 s (at + 1) r)
       → Reads Means (λ f ts. primaryOf f d ts) 1 s at r
   unfolding primary
-  primary-name {p} {e} {g} {r} h x = record { span = widen (omega (arith, h .later)) (x p .span); same = go }
+  primary-name {p} {g} {r} h x = record { span = widen (omega arith) (x p .span); same = go }
     where
       go : (f : ℕ) → (length s - at) * 8 + 1 ≤ f → Same Means s r (primaryOf f d (from s at))
       go zero le = absurd (omega arith)
-      go (suc f) le = rw (h .split) (x p .same f (omega (arith, h .later, h .ready .within)))
+      go (suc f) le = rw (h .split) (x p .same f (omega (arith, h .within)))
 
-  pub primary-symbol : {p e n : ℕ} {r : Read} → Splits s at (tok (Symbol n) p) e → Reads Means (λ f ts. enter d openParen ts (λ e q. bracket f e closeParen q)) 0 s at r → Reads Means (λ f ts. primaryOf f d ts) 1 s at r
+  pub primary-symbol : {p n : ℕ} {r : Read} → Splits s at (tok (Symbol n) p) → Reads Means (λ f ts. enter d openParen ts (λ e q. bracket f e closeParen q)) 0 s at r → Reads Means (λ f ts. primaryOf f d ts) 1 s at r
   unfolding primary
   primary-symbol {r = r} h x = record { span = x .span; same = go }
     where
@@ -205,5 +200,5 @@ module _ (d : ℕ) {s : List ℕ} {at : ℕ} where
       go zero le = absurd (omega arith)
       go (suc f) le = rw (h .split) (rw (h .split) at (x .same f (omega arith)))
 
-  pub primary-end : from s at ≡ [] → Reads Means (λ f ts. primaryOf f d ts) 1 s at (Bad (length s))
-  primary-end e = record { span = span-bad; same = λ f le. rw e (same-bad refl) }
+  pub primary-end : from s at ≡ [] → Reads Means (λ f ts. primaryOf f d ts) 1 s at (Bad at)
+  primary-end e = record { span = span-bad; same = λ f le. rw e (same-bad (sym e)) }

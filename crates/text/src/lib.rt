@@ -1,9 +1,14 @@
 // Which texts are formulas, of which kind, and the refusal of every other text with its place.
 ghost use mathlib.Core.Path.{_≡_};
-ghost use Rattle.tokens.specs.Scan.{scan};
-ghost use Rattle.text.specs.Judge.{judge, answer};
-ghost use Rattle.text.specs.Reading.{verdict};
-use tokens::Lexeme;
+ghost use mathlib.Core.List.{[]};
+ghost use Prim.Native.Nat.{_<_};
+ghost use lib.ListN.{length};
+ghost use Rattle.token_table.specs.Table.{listed};
+ghost use Rattle.grammar.specs.Tree.{Tree};
+ghost use Rattle.grammar.specs.Parse.{ok, parse};
+ghost use Rattle.text.specs.Judge.{accepted, judge, answer};
+ghost use Rattle.text.specs.Theorems.{Sized};
+use token_table::Filled;
 use values::Kind;
 
 pub mod reader;
@@ -13,32 +18,20 @@ pub enum Judged {
     Refused(u32, usize),
 }
 
-// Nothing of the text is wrong as a token, or the first that is, with its answer.
-pub enum Tokens {
-    Good,
-    Wrong(u32, usize),
-}
-
-// The first pass: every token, and nothing else.
-fn first_wrong(text: &[u8]) -> Tokens
-    ensures { λ r. ⌜ r ≡ verdict (scan (now (text .entry))) ⌝ }
+// A text of one to 1,024 bytes, with a table lent for its tokens: all are in it if the text is accepted.
+pub fn judge_in(text: &[u8], table: &mut [u64]) -> Judged
+    requires { ⌜ Sized (now text) × (length (now text) < length (now table)) ⌝ }
+    ensures { λ r. ⌜ r ≡ answer (judge (now (text .entry))) ⌝ }
+    ensures { λ r. ⌜ length (now (table .exit)) ≡ length (now (table .entry)) ⌝ }
+    ensures { λ r. ⌜ ((t : Tree) → judge (now (text .entry)) ≡ accepted t → parse (listed (now (table .exit))) ≡ ok t []) ⌝ }
 {
-    let mut at: usize = 0;
-    loop {
-        match tokens::next(text, at) {
-            Lexeme::Found(_, _, end) => {
-                at = end;
-            }
-            Lexeme::Wrong(a, p) => {
-                return Tokens::Wrong(a, p);
-            }
-            Lexeme::End => {
-                return Tokens::Good;
-            }
-        }
+    match token_table::fill(text, table) {
+        Filled::Good => reader::formula(table, text.len()),
+        Filled::Wrong(a, p) => Judged::Refused(a, p),
     }
 }
 
+// Most formulas are short: the small table is quicker to clear.
 pub fn judge(text: &[u8]) -> Judged
     ensures { λ r. ⌜ r ≡ answer (judge (now (text .entry))) ⌝ }
 {
@@ -48,8 +41,10 @@ pub fn judge(text: &[u8]) -> Judged
     if 1024 < text.len() {
         return Judged::Refused(3, 0);
     }
-    match first_wrong(text) {
-        Tokens::Good => reader::formula(text),
-        Tokens::Wrong(a, p) => Judged::Refused(a, p),
+    if text.len() < 128 {
+        let mut table = [0u64; 128];
+        return judge_in(text, &mut table);
     }
+    let mut table = [0u64; 1025];
+    judge_in(text, &mut table)
 }

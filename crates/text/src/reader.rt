@@ -1,17 +1,20 @@
-// The second pass, over a text whose tokens are all good: the grammar, the nesting and the kinds. No tree is built. Recursion goes as deep as brackets nest, times the groups of operators; a chain of operators,
+// The second pass, over a table of tokens: the grammar, the nesting and the kinds. No tree is built. Recursion goes as deep as brackets nest, times the groups of operators; a chain of operators,
 // unary or binary, is a loop.
 ghost use mathlib.Core.Path.{_≡_};
-ghost use Prim.Native.Nat.{ℕ};
+ghost use mathlib.Core.List.{List};
+ghost use Prim.Native.Nat.{ℕ, _≤_};
+ghost use lib.ListN.{length};
+ghost use Rattle.token_table.specs.Table.{listed, from};
 ghost use Rattle.grammar.specs.Symbols.{openParen, moreArguments, callTree};
 ghost use Rattle.grammar.specs.Parse.{ok, andThen, enter, expression, operand, bracket, arguments, parse};
 ghost use Rattle.text.specs.Judge.{answer, ofParse};
 ghost use Rattle.text.specs.Carried.{earlierOf, prefixedKind, prefixedWrong, applied, infixKind, infixWrong, joined, followedKind, followed, callKind, ofKind, ofCall};
-ghost use Rattle.text.specs.Reading.{from, Ready, Means, Mean, Span, Reads, primaryOf, Closes, Marks, Expects, Enters, Binds, Begins, Chain};
+ghost use Rattle.text.specs.Reading.{Means, Mean, Span, Reads, primaryOf, Closes, headIs, placeIn, Marks, Binds, Begins, Chain};
 use crate::Judged;
 use operators::kinds;
 use operators::tables::BinaryOf;
+use token_table::Entry;
 use tokens::Function;
-use tokens::Lexeme;
 use tokens::Token;
 use tokens::symbols;
 use values::Kind;
@@ -22,44 +25,31 @@ pub enum Place {
     At(usize),
 }
 
-// Where reading got to, with the kind of what was read and the wrong kinds in it; the place of the first token that no formula has there; or of an opener met with eight still open.
+// Where in the table reading got to, with the kind of what was read and the wrong kinds in it; where the first token is that no formula has there; or an opener met with eight still open.
 pub enum Read {
     Done(usize, Kind, Place),
     Bad(usize),
     Deep(usize),
 }
 
-// A symbol, its place and where it ends; or the place of a token that is none, or the text's length.
+// A symbol and its place; or a token that is none, or the end.
 pub enum Mark {
-    Is(u8, usize, usize),
-    Other(usize),
+    Is(u8, usize),
+    Other,
 }
 
-// A binary operator: its symbol, its group, its place and where it ends.
+// A binary operator: its symbol, its group and its place.
 pub enum Infix {
-    Is(u8, u8, usize, usize),
+    Is(u8, u8, usize),
     Nothing,
 }
 
-// A unary operator: where it ends, and of ~ also its place.
+// A unary operator, of ~ also its place.
 pub enum Sign {
-    Minus(usize),
-    Complement(usize, usize),
-    Not(usize),
+    Minus,
+    Complement(usize),
+    Not,
     Nothing,
-}
-
-// A symbol that was asked for: its place and where it ends; or the place of what stands there instead.
-pub enum Next {
-    Past(usize, usize),
-    Other(usize),
-}
-
-// An opening symbol: where its inside begins; or the place of what stands there instead; or its place, with eight still open.
-pub enum Opened {
-    Inside(usize),
-    Bad(usize),
-    Deep(usize),
 }
 
 // The unary operators before a primary: where they end, whether one of them makes an integer, and the place of the innermost of those if it is ~, which a real primary makes wrong.
@@ -121,7 +111,7 @@ fn applied(before: Prefixes, primary: Read) -> Read
     }
 }
 
-fn infix_kind(n: u8, left: Kind, right: Kind) -> Kind
+pub fn infix_kind(n: u8, left: Kind, right: Kind) -> Kind
     ensures { λ r. ⌜ r ≡ infixKind n left right ⌝ }
 {
     if 18 <= n {
@@ -170,7 +160,7 @@ fn joined(n: u8, place: usize, left: Kind, wrong: Place, right: Read) -> Read
 }
 
 // The kind of a function's call, from its last argument's kind, or the last two's joined.
-fn call_kind(f: Function, kind: Kind) -> Kind
+pub fn call_kind(f: Function, kind: Kind) -> Kind
     ensures { λ r. ⌜ r ≡ callKind f kind ⌝ }
 {
     match f {
@@ -187,7 +177,7 @@ fn call_kind(f: Function, kind: Kind) -> Kind
 }
 
 // How many arguments after the first.
-fn more_arguments(f: Function) -> u8
+pub fn more_arguments(f: Function) -> u8
     ensures { λ r. ⌜ r ≡ moreArguments f ⌝ }
 {
     match f {
@@ -250,45 +240,37 @@ fn of_call(f: Function, read: Read) -> Read
 }
 
 // The symbol that comes next.
-fn mark_at(text: &[u8], at: usize) -> Mark
-    requires { ⌜ Ready (now text) at ⌝ }
-    ensures { λ r. ⌜ Marks (now (text .entry)) at r ⌝ }
+fn mark_at(table: &[u64], at: usize) -> Mark
+    ensures { λ r. ⌜ Marks (now (table .entry)) at r ⌝ }
 {
-    match tokens::next(text, at) {
-        Lexeme::Found(t, place, end) => match t {
-            Token::Symbol(n) => Mark::Is(n, place, end),
-            Token::Number(_) => Mark::Other(place),
-            Token::Cell(_, _) => Mark::Other(place),
-            Token::Letter(_) => Mark::Other(place),
-            Token::Name(_) => Mark::Other(place),
+    match token_table::entry_at(table, at) {
+        Entry::Is(t, place) => match t {
+            Token::Symbol(n) => Mark::Is(n, place),
+            Token::Number(_) => Mark::Other,
+            Token::Cell(_, _) => Mark::Other,
+            Token::Letter(_) => Mark::Other,
+            Token::Name(_) => Mark::Other,
         },
-        Lexeme::Wrong(_, place) => Mark::Other(place),
-        Lexeme::End => Mark::Other(text.len()),
+        Entry::End => Mark::Other,
     }
 }
 
-// The symbol n comes next.
-fn expected(text: &[u8], at: usize, n: u8) -> Next
-    requires { ⌜ Ready (now text) at ⌝ }
-    ensures { λ r. ⌜ Expects n (now (text .entry)) at r ⌝ }
+// Whether the symbol n comes next.
+fn expected(table: &[u64], at: usize, n: u8) -> bool
+    ensures { λ r. ⌜ r ≡ headIs n (from (now (table .entry)) at) ⌝ }
 {
-    match mark_at(text, at) {
-        Mark::Is(m, place, end) => if m == n {
-            Next::Past(place, end)
-        } else {
-            Next::Other(place)
-        },
-        Mark::Other(place) => Next::Other(place),
+    match mark_at(table, at) {
+        Mark::Is(m, _) => m == n,
+        Mark::Other => false,
     }
 }
 
 // A binary operator of the group given, or a tighter one.
-fn infix_at(text: &[u8], at: usize, level: u8) -> Infix
-    requires { ⌜ Ready (now text) at ⌝ }
-    ensures { λ r. ⌜ Binds level (now (text .entry)) at r ⌝ }
+pub fn infix_at(table: &[u64], at: usize, level: u8) -> Infix
+    ensures { λ r. ⌜ Binds level (now (table .entry)) at r ⌝ }
 {
-    match mark_at(text, at) {
-        Mark::Is(n, place, end) => {
+    match mark_at(table, at) {
+        Mark::Is(n, place) => {
             let g = grammar::group_of(n);
             if g == 0 {
                 return Infix::Nothing;
@@ -296,54 +278,53 @@ fn infix_at(text: &[u8], at: usize, level: u8) -> Infix
             if level < g {
                 return Infix::Nothing;
             }
-            Infix::Is(n, g, place, end)
+            Infix::Is(n, g, place)
         }
-        Mark::Other(_) => Infix::Nothing,
+        Mark::Other => Infix::Nothing,
     }
 }
 
 // The unary operator that comes next.
-fn sign_at(text: &[u8], at: usize) -> Sign
-    requires { ⌜ Ready (now text) at ⌝ }
-    ensures { λ r. ⌜ Begins (now (text .entry)) at r ⌝ }
+pub fn sign_at(table: &[u64], at: usize) -> Sign
+    ensures { λ r. ⌜ Begins (now (table .entry)) at r ⌝ }
 {
-    match mark_at(text, at) {
-        Mark::Is(n, place, end) => {
+    match mark_at(table, at) {
+        Mark::Is(n, place) => {
             if n == symbols::MINUS {
-                return Sign::Minus(end);
+                return Sign::Minus;
             }
             if n == symbols::COMPLEMENT {
-                return Sign::Complement(place, end);
+                return Sign::Complement(place);
             }
             if n == symbols::NOT {
-                return Sign::Not(end);
+                return Sign::Not;
             }
             Sign::Nothing
         }
-        Mark::Other(_) => Sign::Nothing,
+        Mark::Other => Sign::Nothing,
     }
 }
 
 // { - | ~ | ! }
-fn unary_chain(text: &[u8], at: usize) -> Prefixes
-    requires { ⌜ Ready (now text) at ⌝ }
-    ensures { λ r. ⌜ Chain (now (text .entry)) at r ⌝ }
+fn unary_chain(table: &[u64], at: usize) -> Prefixes
+    requires { ⌜ at ≤ length (now table) ⌝ }
+    ensures { λ r. ⌜ Chain (now (table .entry)) at r ⌝ }
 {
     let mut end = at;
     let mut integer = false;
     let mut complement = Place::Nowhere;
     loop {
-        match sign_at(text, end) {
-            Sign::Minus(next) => {
-                end = next;
+        match sign_at(table, end) {
+            Sign::Minus => {
+                end += 1;
             }
-            Sign::Complement(place, next) => {
-                end = next;
+            Sign::Complement(place) => {
+                end += 1;
                 integer = true;
                 complement = Place::At(place);
             }
-            Sign::Not(next) => {
-                end = next;
+            Sign::Not => {
+                end += 1;
                 integer = true;
                 complement = Place::Nowhere;
             }
@@ -358,149 +339,152 @@ fn unary_chain(text: &[u8], at: usize) -> Prefixes
     }
 }
 
-// An opening symbol, with room for so many.
-fn enter(text: &[u8], at: usize, room: u8, opener: u8) -> Opened
-    requires { ⌜ Ready (now text) at ⌝ }
-    ensures { λ r. ⌜ Enters room opener (now (text .entry)) at r ⌝ }
-{
-    match expected(text, at, opener) {
-        Next::Past(place, end) => {
-            if room == 0 {
-                Opened::Deep(place)
-            } else {
-                Opened::Inside(end)
-            }
-        }
-        Next::Other(p) => Opened::Bad(p),
-    }
-}
-
 // What was read, and then the symbol n.
-fn closed(text: &[u8], read: Read, n: u8) -> Read
-    requires { ⌜ Span (now text) 0 read ⌝ }
-    ensures { λ r. ⌜ Closes n (now (text .entry)) read r ⌝ }
+fn closed(table: &[u64], read: Read, n: u8) -> Read
+    requires { ⌜ Span (now table) 0 read ⌝ }
+    ensures { λ r. ⌜ Closes n (now (table .entry)) read r ⌝ }
 {
     match read {
-        Read::Done(j, kind, wrong) => match expected(text, j, n) {
-            Next::Past(_, end) => Read::Done(end, kind, wrong),
-            Next::Other(p) => Read::Bad(p),
-        },
-        Read::Bad(p) => Read::Bad(p),
-        Read::Deep(p) => Read::Deep(p),
+        Read::Done(j, kind, wrong) => {
+            if expected(table, j, n) {
+                Read::Done(j + 1, kind, wrong)
+            } else {
+                Read::Bad(j)
+            }
+        }
+        Read::Bad(i) => Read::Bad(i),
+        Read::Deep(i) => Read::Deep(i),
     }
 }
 
 // expression: operand { infix expression of a tighter group }
-fn expression(text: &[u8], at: usize, room: u8, level: u8) -> Read
-    requires { ⌜ Ready (now text) at ⌝ }
-    ensures { λ r. ⌜ Reads Means (λ f ts. expression f room level ts) 3 (now (text .entry)) at r ⌝ }
+fn expression(table: &[u64], at: usize, room: u8, level: u8) -> Read
+    requires { ⌜ at ≤ length (now table) ⌝ }
+    ensures { λ r. ⌜ Reads Means (λ f ts. expression f room level ts) 3 (now (table .entry)) at r ⌝ }
 {
-    let mut read = operand(text, at, room);
+    let mut read = operand(table, at, room);
     loop {
         match read {
-            Read::Done(j, left, wrong) => match infix_at(text, j, level) {
-                Infix::Is(n, g, place, end) => {
-                    read = joined(n, place, left, wrong, expression(text, end, room, g - 1));
+            Read::Done(j, left, wrong) => match infix_at(table, j, level) {
+                Infix::Is(n, g, place) => {
+                    read = joined(n, place, left, wrong, expression(table, j + 1, room, g - 1));
                 }
                 Infix::Nothing => {
                     return read;
                 }
             },
-            Read::Bad(p) => {
-                return Read::Bad(p);
+            Read::Bad(i) => {
+                return Read::Bad(i);
             }
-            Read::Deep(p) => {
-                return Read::Deep(p);
+            Read::Deep(i) => {
+                return Read::Deep(i);
             }
         }
     }
 }
 
 // operand: { - | ~ | ! } primary
-fn operand(text: &[u8], at: usize, room: u8) -> Read
-    requires { ⌜ Ready (now text) at ⌝ }
-    ensures { λ r. ⌜ Reads Means (λ f ts. operand f room ts) 2 (now (text .entry)) at r ⌝ }
+fn operand(table: &[u64], at: usize, room: u8) -> Read
+    requires { ⌜ at ≤ length (now table) ⌝ }
+    ensures { λ r. ⌜ Reads Means (λ f ts. operand f room ts) 2 (now (table .entry)) at r ⌝ }
 {
-    let before = unary_chain(text, at);
-    applied(before, primary(text, before.end, room))
+    let before = unary_chain(table, at);
+    applied(before, primary(table, before.end, room))
 }
 
 // primary: number | cell | letter [ expression ] | name ( arguments ) | ( expression )
-fn primary(text: &[u8], at: usize, room: u8) -> Read
-    requires { ⌜ Ready (now text) at ⌝ }
-    ensures { λ r. ⌜ Reads Means (λ f ts. primaryOf f room ts) 1 (now (text .entry)) at r ⌝ }
+fn primary(table: &[u64], at: usize, room: u8) -> Read
+    requires { ⌜ at ≤ length (now table) ⌝ }
+    ensures { λ r. ⌜ Reads Means (λ f ts. primaryOf f room ts) 1 (now (table .entry)) at r ⌝ }
 {
-    match tokens::next(text, at) {
-        Lexeme::Found(t, _, end) => match t {
-            Token::Number(v) => Read::Done(end, values::kind_of(v), Place::Nowhere),
-            Token::Cell(b, _) => Read::Done(end, memory::cells::kind_of(b), Place::Nowhere),
+    match token_table::entry_at(table, at) {
+        Entry::Is(t, _) => match t {
+            Token::Number(v) => Read::Done(at + 1, values::kind_of(v), Place::Nowhere),
+            Token::Cell(b, _) => Read::Done(at + 1, memory::cells::kind_of(b), Place::Nowhere),
             Token::Letter(b) => {
-                let index = bracket(text, end, room, symbols::OPEN_INDEX, symbols::CLOSE_INDEX);
+                let index = bracket(
+                    table,
+                    at + 1,
+                    room,
+                    symbols::OPEN_INDEX,
+                    symbols::CLOSE_INDEX,
+                );
                 of_kind(memory::cells::kind_of(b), index)
             }
-            Token::Name(f) => called(text, end, room, f),
-            Token::Symbol(_) => bracket(text, at, room, symbols::OPEN, symbols::CLOSE),
+            Token::Name(f) => called(table, at + 1, room, f),
+            Token::Symbol(_) => bracket(table, at, room, symbols::OPEN, symbols::CLOSE),
         },
-        Lexeme::Wrong(_, place) => Read::Bad(place),
-        Lexeme::End => Read::Bad(text.len()),
+        Entry::End => Read::Bad(at),
     }
 }
 
 // bracket: open expression close
-fn bracket(text: &[u8], at: usize, room: u8, opener: u8, closer: u8) -> Read
-    requires { ⌜ Ready (now text) at ⌝ }
-    ensures { λ r. ⌜ Reads Means (λ f ts. enter room opener ts (λ e q. bracket f e closer q)) 0 (now (text .entry)) at r ⌝ }
+fn bracket(table: &[u64], at: usize, room: u8, opener: u8, closer: u8) -> Read
+    requires { ⌜ at ≤ length (now table) ⌝ }
+    ensures { λ r. ⌜ Reads Means (λ f ts. enter room opener ts (λ e q. bracket f e closer q)) 0 (now (table .entry)) at r ⌝ }
 {
-    match enter(text, at, room, opener) {
-        Opened::Inside(j) => closed(text, expression(text, j, room - 1, LOOSEST), closer),
-        Opened::Bad(p) => Read::Bad(p),
-        Opened::Deep(p) => Read::Deep(p),
+    if !expected(table, at, opener) {
+        return Read::Bad(at);
     }
+    if room == 0 {
+        return Read::Deep(at);
+    }
+    closed(table, expression(table, at + 1, room - 1, LOOSEST), closer)
 }
 
 // A function's arguments, in their parentheses.
-fn called(text: &[u8], at: usize, room: u8, f: Function) -> Read
-    requires { ⌜ Ready (now text) at ⌝ }
-    ensures { λ r. ⌜ ((p : ℕ) → Reads Means (λ n ts. enter room openParen ts (λ e q. andThen (arguments n e (moreArguments f) q) (λ us z. ok (callTree f p us) z))) 0 (now (text .entry)) at r) ⌝ }
+fn called(table: &[u64], at: usize, room: u8, f: Function) -> Read
+    requires { ⌜ at ≤ length (now table) ⌝ }
+    ensures { λ r. ⌜ ((p : ℕ) → Reads Means (λ n ts. enter room openParen ts (λ e q. andThen (arguments n e (moreArguments f) q) (λ us z. ok (callTree f p us) z))) 0 (now (table .entry)) at r) ⌝ }
 {
-    match enter(text, at, room, symbols::OPEN) {
-        Opened::Inside(j) => of_call(f, arguments(text, j, room - 1, more_arguments(f))),
-        Opened::Bad(p) => Read::Bad(p),
-        Opened::Deep(p) => Read::Deep(p),
+    if !expected(table, at, symbols::OPEN) {
+        return Read::Bad(at);
     }
+    if room == 0 {
+        return Read::Deep(at);
+    }
+    of_call(f, arguments(table, at + 1, room - 1, more_arguments(f)))
 }
 
 // arguments: expression { , expression } ) with m after this one.
-fn arguments(text: &[u8], at: usize, room: u8, m: u8) -> Read
-    requires { ⌜ Ready (now text) at ⌝ }
-    ensures { λ r. ⌜ Reads (Mean m) (λ f ts. arguments f room m ts) 4 (now (text .entry)) at r ⌝ }
+fn arguments(table: &[u64], at: usize, room: u8, m: u8) -> Read
+    requires { ⌜ at ≤ length (now table) ⌝ }
+    ensures { λ r. ⌜ Reads (Mean m) (λ f ts. arguments f room m ts) 4 (now (table .entry)) at r ⌝ }
 {
-    let read = expression(text, at, room, LOOSEST);
+    let read = expression(table, at, room, LOOSEST);
     if m == 0 {
-        return closed(text, read, symbols::CLOSE);
+        return closed(table, read, symbols::CLOSE);
     }
-    match closed(text, read, symbols::COMMA) {
-        Read::Done(j, kind, wrong) => { followed(m, kind, wrong, arguments(text, j, room, m - 1)) }
-        Read::Bad(p) => Read::Bad(p),
-        Read::Deep(p) => Read::Deep(p),
+    match closed(table, read, symbols::COMMA) {
+        Read::Done(j, kind, wrong) => followed(m, kind, wrong, arguments(table, j, room, m - 1)),
+        Read::Bad(i) => Read::Bad(i),
+        Read::Deep(i) => Read::Deep(i),
     }
 }
 
-// The whole text: an expression, and nothing after it.
-pub fn formula(text: &[u8]) -> Judged
-    requires { ⌜ Ready (now text) 0 ⌝ }
-    ensures { λ r. ⌜ r ≡ answer (ofParse (now (text .entry)) (parse (from (now (text .entry)) 0))) ⌝ }
+// The place of a token, or the text's length behind the last.
+fn place_at(table: &[u64], at: usize, size: usize) -> usize
+    ensures { λ r. ⌜ r ≡ placeIn size (from (now (table .entry)) at) ⌝ }
 {
-    match expression(text, 0, MOST_OPEN, LOOSEST) {
-        Read::Done(j, kind, wrong) => match tokens::next(text, j) {
-            Lexeme::Found(_, place, _) => Judged::Refused(7, place),
-            Lexeme::Wrong(_, place) => Judged::Refused(7, place),
-            Lexeme::End => match wrong {
+    match token_table::entry_at(table, at) {
+        Entry::Is(_, place) => place,
+        Entry::End => size,
+    }
+}
+
+// The whole table: an expression, and nothing after it. The text has `size` bytes.
+pub fn formula(table: &[u64], size: usize) -> Judged
+    ensures { λ r. ⌜ ((s : List ℕ) → length s ≡ size → r ≡ answer (ofParse s (parse (listed (now (table .entry)))))) ⌝ }
+{
+    match expression(table, 0, MOST_OPEN, LOOSEST) {
+        Read::Done(j, kind, wrong) => match token_table::entry_at(table, j) {
+            Entry::Is(_, place) => Judged::Refused(7, place),
+            Entry::End => match wrong {
                 Place::Nowhere => Judged::Accepted(kind),
                 Place::At(p) => Judged::Refused(9, p),
             },
         },
-        Read::Bad(p) => Judged::Refused(7, p),
-        Read::Deep(p) => Judged::Refused(8, p),
+        Read::Bad(i) => Judged::Refused(7, place_at(table, i, size)),
+        Read::Deep(i) => Judged::Refused(8, place_at(table, i, size)),
     }
 }

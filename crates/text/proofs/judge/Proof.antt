@@ -1,7 +1,6 @@
--- `text::judge` meets its contract: 3 first, then 4 to 6, then the rest.
-use mathlib.Core.Path.{sym, _∙_}
-use Rattle.text.proofs.Scanning.{all-good}
-use Rattle.text.proofs.Whole.{empty, too-long, all-read, not-all-good}
+-- `text::judge` meets its contract: 3 first, then the rest.
+use native.Mathlib.Omega.{arith}
+use Rattle.text.proofs.Order.{empty, too-long}
 use borrow.Author.Needs.{needs}
 use Rattle.text.proofs.judge.Statement.{statement}
 use Rattle.text.proofs.judge.Tie as tie
@@ -10,25 +9,25 @@ returns : tie.Need-returns
 returns c = empty _ (c .if1 .taken)
 
 returns-2 : tie.Need-returns-2
-returns-2 c = too-long _ (c .if2 .taken)
+returns-2 c = too-long _ (omega (arith, c .if2 .taken))
 
-first-wrong-requires : tie.Need-first-wrong-requires
-first-wrong-requires c κs = search needs
+slice-aggregate-judge-in : tie.Need-slice-aggregate-judge-in
+slice-aggregate-judge-in c = search needs
 
-enum-told : tie.Need-enum-told
-enum-told c = search needs
-
-formula-requires : tie.Need-formula-requires
-formula-requires c κs = all-good _ (sym (c .before .before .first-wrong .ensures) ∙ c .enum-told .given .1)
-
-enum-known-a : tie.Need-enum-known-a
-enum-known-a c = search needs
+judge-in-requires : tie.Need-judge-in-requires
+judge-in-requires c κs = (record { some = omega (arith, c .before .before .before .if1 .left); short = omega (arith, c .before .before .if2 .left) }, omega (arith, c .before .if3 .taken))
 
 returns-3 : tie.Need-returns-3
-returns-3 c = all-read _ (c .before .before .before .before .before .if1 .left) (c .before .before .before .before .if2 .left) (all-good _ (sym (c .before .before .before .first-wrong .ensures) ∙ c .before .enum-told .given .1)) (c .formula .ensures)
+returns-3 c = search needs
+
+slice-aggregate-judge-in-2 : tie.Need-slice-aggregate-judge-in-2
+slice-aggregate-judge-in-2 c = search needs
+
+judge-in-requires-2 : tie.Need-judge-in-requires-2
+judge-in-requires-2 c κs = (record { some = omega (arith, c .before .before .before .if1 .left); short = omega (arith, c .before .before .if2 .left) }, omega (arith, c .before .before .if2 .left))
 
 returns-4 : tie.Need-returns-4
-returns-4 c = not-all-good _ (c .before .before .before .before .before .if1 .left) (c .before .before .before .before .if2 .left) (sym (c .before .before .before .first-wrong .ensures) ∙ c .before .a .given .1)
+returns-4 c = search needs
 
 pub judge-spec : {M : Type 1} → statement M
 judge-spec =
@@ -36,9 +35,9 @@ judge-spec =
     (tie.spec
     returns
     returns-2
-    first-wrong-requires
-    enum-told
-    formula-requires
-    enum-known-a
+    slice-aggregate-judge-in
+    judge-in-requires
     returns-3
+    slice-aggregate-judge-in-2
+    judge-in-requires-2
     returns-4)

@@ -1,4 +1,5 @@
 -- `text::reader::earlier` meets its contract.
+use native.Mathlib.Omega.{arith}
 use Rattle.text.proofs.Carrying.{only-first, first-of, second-of}
 use borrow.Author.Needs.{needs}
 use Rattle.text.proofs.reader.earlier.Statement.{statement}
@@ -23,10 +24,10 @@ returns-2 : tie.Need-returns-2
 returns-2 c = only-first (c .before .before .before .a .given .1) (c .enum-told2 .given .1)
 
 returns-3 : tie.Need-returns-3
-returns-3 c = first-of (c .before .before .before .before .before .a .given .1) (c .before .before .b .given .1) (c .if1 .taken)
+returns-3 c = first-of (c .before .before .before .before .before .a .given .1) (c .before .before .b .given .1) (omega (arith, c .if1 .taken))
 
 returns-4 : tie.Need-returns-4
-returns-4 c = second-of (c .before .before .before .before .before .a .given .1) (c .before .before .b .given .1) (c .if1 .left)
+returns-4 c = second-of (c .before .before .before .before .before .a .given .1) (c .before .before .b .given .1) (omega (arith, c .if1 .left))
 
 pub earlier-spec : {M : Type 1} → statement M
 earlier-spec =

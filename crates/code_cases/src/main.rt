@@ -1,0 +1,145 @@
+// Checks and runs code. A line of the standard input has a name, how many instructions are meant, and the code's bytes in hexadecimal; printed are the name, what the check says (i, r or 15), how a run ends and the
+// instructions begun. tests/code/make.py has the oracle.
+ghost use Prim.Native.Nat.{_≤_};
+ghost use lib.ListN.{length};
+use libc::STDIN_FILENO;
+use machine::Ended;
+use machine::Ran;
+use values::Kind;
+use verifier::Verdict;
+
+// The byte b from a place on, or the end.
+fn find(text: &[u8], at: usize, b: u8) -> usize
+    requires { ⌜ at ≤ length (now text) ⌝ }
+    ensures { λ r. ⌜ (at ≤ r) × (r ≤ length (now (text .entry))) ⌝ }
+{
+    let mut end = at;
+    while end < text.len() {
+        if text[end] == b {
+            return end;
+        }
+        end += 1;
+    }
+    end
+}
+
+// The place behind another, within the text.
+fn behind(text: &[u8], at: usize) -> usize
+    ensures { λ r. ⌜ r ≤ length (now (text .entry)) ⌝ }
+{
+    if at < text.len() { at + 1 } else { text.len() }
+}
+
+fn number(text: &[u8]) -> usize {
+    let mut n: usize = 0;
+    let mut i = 0;
+    while i < text.len() {
+        n = n % 1000000 * 10 + (text[i] % 16) as usize;
+        i += 1;
+    }
+    n
+}
+
+fn digit(b: u8) -> u8 {
+    if b < 65 { b % 16 } else { b % 16 + 9 }
+}
+
+// The bytes of pairs of digits, as many as the code has room for.
+fn bytes_of(text: &[u8], code: &mut [u8; 16448]) -> usize {
+    let mut n: usize = 0;
+    let mut i: usize = 0;
+    while i < text.len() {
+        if text.len() - i < 2 {
+            return n;
+        }
+        if 16448 <= n {
+            return n;
+        }
+        code[n] = digit(text[i]) % 16 * 16 + digit(text[i + 1]) % 16;
+        n += 1;
+        i += 2;
+    }
+    n
+}
+
+// An image with D0 = 5, D1 = -1, R0 = 1.5 and a NaN in R1; every other cell is 0.
+fn image(memory: &mut [u8; 3204]) {
+    memory[1152] = 5;
+    memory[1156] = 255;
+    memory[1157] = 255;
+    memory[1158] = 255;
+    memory[1159] = 255;
+    memory[2178] = 192;
+    memory[2179] = 63;
+    memory[2182] = 192;
+    memory[2183] = 127;
+}
+
+fn put_verdict(line: &mut [u8; 512], at: usize, v: Verdict) -> usize {
+    match v {
+        Verdict::Accepted(k) => match k {
+            Kind::Int => case_lines::put_all(line, at, b" i "),
+            Kind::Real => case_lines::put_all(line, at, b" r "),
+        },
+        Verdict::Refused => case_lines::put_all(line, at, b" 15 "),
+    }
+}
+
+fn put_end(line: &mut [u8; 512], at: usize, end: Ended) -> usize {
+    match end {
+        Ended::Done(v) => case_lines::put_value(line, at, v),
+        Ended::Stopped(f) => case_lines::put_fault(line, at, f),
+        Ended::Stuck => case_lines::put(line, at, b'?'),
+    }
+}
+
+fn tell(name: &[u8], v: Verdict, ran: Ran) {
+    let mut line = [0u8; 512];
+    let named = case_lines::put_all(&mut line, 0, name);
+    let checked = put_verdict(&mut line, named, v);
+    let end = ran.end;
+    let ended = put_end(&mut line, checked, end);
+    let spaced = case_lines::put(&mut line, ended, b' ');
+    let counted = case_lines::put_decimal(&mut line, spaced, ran.count as u64);
+    case_lines::write(&mut line, counted);
+}
+
+fn try_out(name: &[u8], code: &[u8], n: usize, memory: &[u8; 3204]) {
+    let verdict = verifier::check(code, n);
+    let ran = machine::run(code, n, memory);
+    tell(name, verdict, ran);
+}
+
+fn try_first(name: &[u8], code: &[u8; 16448], size: usize, n: usize) {
+    let mut memory = [0u8; 3204];
+    image(&mut memory);
+    let whole: &[u8] = code;
+    if size <= whole.len() {
+        try_out(name, &whole[..size], n, &memory);
+    }
+}
+
+fn one_case(line: &[u8]) {
+    let first = find(line, 0, b' ');
+    let start = behind(line, first);
+    let second = find(line, start, b' ');
+    let n = number(&line[start..second]);
+    let mut code = [0u8; 16448];
+    let size = bytes_of(&line[behind(line, second)..], &mut code);
+    try_first(&line[..first], &code, size, n);
+}
+
+fn every_line(input: &[u8]) {
+    let mut at: usize = 0;
+    while at < input.len() {
+        let end = find(input, at, b'\n');
+        one_case(&input[at..end]);
+        at = end + 1;
+    }
+}
+
+fn main() {
+    let mut input = [0u8; 131072];
+    let n = io::read_full(STDIN_FILENO, &mut input);
+    every_line(&input[..n]);
+}

@@ -1,0 +1,4 @@
+-- The laws that other crates may cite; below them, what several proofs of this crate share.
+pub mod Laws
+mod Packing
+mod Filling

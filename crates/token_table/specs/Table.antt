@@ -1,0 +1,111 @@
+-- For the layers above: tokens with their places as words of 64 bits, and the tokens that a list of words holds. A formula's meaning does not rest on it: the reader's and the compiler's contracts
+-- speak of the text.
+use mathlib.Core.Path.{_≡_}
+use mathlib.Core.Bool.{cond}
+use mathlib.Core.List.{List, [], _∷_}
+use Prim.Native.Nat.{ℕ, _+_, _*_, _/_, _%_, _^_}
+use lib.Dec.{eqb, ltb}
+use lib.ListN.{getD, drop}
+use lib.Ieee as Ieee
+use lib.Ieee.{binary32}
+use Rattle.values.specs.declared.Value.{Value}
+use Rattle.values.specs.declared.Value.the-variants as Value
+use Rattle.values.specs.declared.Outcome.{Outcome}
+use Rattle.values.specs.declared.Outcome.the-variants.{Done, Stopped, WrongKind}
+use Rattle.values.specs.Patterns.{lowBits, signedOf}
+use Rattle.operators.specs.Laws.{Proper}
+use Rattle.memory.specs.Cells.{realCell}
+use Rattle.memory.specs.declared.numbers.BankOf.{BankOf}
+use Rattle.memory.specs.declared.numbers.BankOf.the-variants as BankOf
+use Rattle.memory.specs.Numbers.{bankNumbered, bankNumber}
+use Rattle.tokens.specs.declared.Function.{Function}
+use Rattle.tokens.specs.declared.Function.the-variants.{Abs, ToReal, ToInt, Trunc, Round, Frac, Max, Min, If}
+use Rattle.tokens.specs.declared.Token.{Token}
+use Rattle.tokens.specs.declared.Token.the-variants.{Number, Cell, Letter, Name, Symbol}
+use Rattle.tokens.specs.Words.{functions}
+use Rattle.tokens.specs.Scan.{Tok, Scan, tokens, wrong}
+use Rattle.token_table.specs.declared.Entry.{Entry}
+use Rattle.token_table.specs.declared.Entry.the-variants.{Is, End}
+use Rattle.token_table.specs.declared.Filled.{Filled}
+use Rattle.token_table.specs.declared.Filled.the-variants.{Good, Wrong}
+use Rattle.token_table.specs.declared.FunctionOf.{FunctionOf}
+use Rattle.token_table.specs.declared.FunctionOf.the-variants as FunctionOf
+
+-- the functions by number, in the order of `functions`
+abbrev pub functionNumber : Function → ℕ
+functionNumber Abs = 0
+functionNumber ToReal = 1
+functionNumber ToInt = 2
+functionNumber Trunc = 3
+functionNumber Round = 4
+functionNumber Frac = 5
+functionNumber Max = 6
+functionNumber Min = 7
+functionNumber If = 8
+
+abbrev pub functionNumbered : ℕ → FunctionOf
+functionNumbered n = cond (ltb n 9) (FunctionOf.Is (getD functions n Abs)) FunctionOf.Nothing
+
+-- 32 bits of a number, 8 of an operand, 8 of a class, 16 of a place
+abbrev pub fields : ℕ → ℕ → ℕ → ℕ → ℕ
+fields class operand number place = number + 2 ^ 32 * (operand + 256 * (class + 256 * place))
+
+abbrev pub packed : Token → ℕ → ℕ
+packed (Number (Value.Int z)) p = fields 1 0 (lowBits 32 z) p
+packed (Number (Value.Real x)) p = fields 2 0 (Ieee.toBits binary32 x) p
+packed (Cell b i) p = fields 3 (bankNumber b) i p
+packed (Letter b) p = fields 4 (bankNumber b) 0 p
+packed (Name f) p = fields 5 (functionNumber f) 0 p
+packed (Symbol n) p = fields 6 n 0 p
+
+-- a token that can be packed: a NaN has no pattern that is its own
+abbrev pub Packable : Token → Type 0
+Packable t = (v : Value) → t ≡ Number v → Proper v
+
+-- a real as a cell holds it: the patterns of infinities and NaNs are none
+abbrev pub realAt : Outcome → ℕ → Entry
+realAt (Done v) p = Is (Number v) p
+realAt (Stopped f) p = End
+realAt WrongKind p = End
+
+abbrev pub cellOf : BankOf → ℕ → ℕ → Entry
+cellOf (BankOf.Is b) i p = Is (Cell b i) p
+cellOf BankOf.Nothing i p = End
+
+abbrev pub letterOf : BankOf → ℕ → Entry
+letterOf (BankOf.Is b) p = Is (Letter b) p
+letterOf BankOf.Nothing p = End
+
+abbrev pub nameAt : FunctionOf → ℕ → Entry
+nameAt (FunctionOf.Is f) p = Is (Name f) p
+nameAt FunctionOf.Nothing p = End
+
+unfoldable pub tokenOf : ℕ → ℕ → ℕ → ℕ → Entry
+tokenOf class operand number p =
+    cond (eqb class 1) (Is (Number (Value.Int (signedOf 32 number))) p)
+    (cond (eqb class 2) (realAt (realCell number) p)
+    (cond (eqb class 3) (cellOf (bankNumbered operand) number p)
+    (cond (eqb class 4) (letterOf (bankNumbered operand) p)
+    (cond (eqb class 5) (nameAt (functionNumbered operand) p)
+    (cond (eqb class 6) (Is (Symbol operand) p)
+    End)))))
+
+abbrev pub entryOf : ℕ → Entry
+entryOf w = tokenOf (w / 2 ^ 32 / 256 % 256) (w / 2 ^ 32 % 256) (w % 2 ^ 32) (w / 2 ^ 32 / 65536)
+
+abbrev pub entryAt : List ℕ → ℕ → Entry
+entryAt s i = entryOf (getD s i 0)
+
+-- the tokens up to the first word that is none
+unfoldable pub listed : List ℕ → List Tok
+listed [] = []
+listed (w ∷ ws) = elim (entryOf w) [ Is t p ↦ record { token = t; place = p } ∷ listed ws | End ↦ [] ]
+
+-- the tokens from a position of the table on
+abbrev pub from : List ℕ → ℕ → List Tok
+from s i = listed (drop i s)
+
+-- the table holds the tokens of a scan
+pub data Fills : Scan → List ℕ → Filled → Type 0 where
+  filled : {ts : List Tok} {s : List ℕ} → listed s ≡ ts → Fills (tokens ts) s Good
+  stopped : {a p : ℕ} {s : List ℕ} → Fills (wrong a p) s (Wrong a p)
