@@ -1,4 +1,5 @@
--- The compiler's theorem, step by step; other crates cite Demand and Laws.
+-- The compiler's theorem, step by step; other crates cite Theorems, Demand and Laws.
+pub mod Theorems
 pub mod Demand
 pub mod Laws
 mod Well
@@ -10,4 +11,11 @@ mod Accepted
 mod Nodes
 mod Size
 mod Height
+mod Each
+mod Bytes
+mod Encodable
+mod Least
+mod Scanned
+mod Answers
+mod Putting
 mod Samples

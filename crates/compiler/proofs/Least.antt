@@ -1,0 +1,119 @@
+-- A lexeme takes at least the bytes of its token, if it takes a byte at all.
+use mathlib.Core.Path.{_≡_, refl, ap, subst}
+use mathlib.Core.Bool.{Bool, true, false, cond, _&&_, false≢true}
+use mathlib.Core.List.{List, [], _∷_}
+use Prim.Native.Nat.{ℕ, suc, _+_, _≤_, _<_}
+use native.Mathlib.Omega.{arith}
+use lib.Dec.{eqb, leb}
+use lib.ListN.{length, take, drop, length-take}
+use Rattle.values.specs.declared.Value.{Value}
+use Rattle.memory.specs.declared.names.Letter.{Letter as BankLetter}
+use Rattle.memory.specs.declared.names.Letter.the-variants as L
+use Rattle.memory.specs.declared.names.Named.{Named}
+use Rattle.memory.specs.declared.names.Named.the-variants as A
+use Rattle.memory.specs.Names.{isDigit, decimal, bankOf, namedRule}
+use Rattle.tokens.specs.declared.Function.{Function}
+use Rattle.tokens.specs.declared.Token.{Token}
+use Rattle.tokens.specs.declared.Token.the-variants.{Number}
+use Rattle.tokens.specs.declared.Scanned.{Scanned}
+use Rattle.tokens.specs.declared.Scanned.the-variants.{Good, Bad}
+use Rattle.tokens.specs.declared.Lexeme.{Lexeme}
+use Rattle.tokens.specs.declared.Lexeme.the-variants.{Found, Wrong, End}
+use Rattle.tokens.specs.Bytes.{all, isLetter, isWord, isRun, runLen}
+use Rattle.tokens.specs.Symbols.{same, symbolCount, longest}
+use Rattle.tokens.specs.Numerals.{some, digits, isHex, hexOf, isHexRun, notDot, realOf, numeralOf}
+use Rattle.tokens.specs.Words.{nameOf, named, functions, letterWord, cellWord, otherWord, wordOf}
+use Rattle.tokens.specs.Scan.{lexeme, running, lexemeOf, blanks, lexemeAt}
+use Rattle.tokens.proofs.Laws.{found}
+use Rattle.compiler.specs.Demand.{bytesOfToken}
+
+-- n bytes, if they are any, have room for what they are judged to be
+data Room (n : ℕ) : Scanned → Type 0 where
+  good : {t : Token} → (0 < n → bytesOfToken t ≤ n) → Room n (Good t)
+  bad : {a : ℕ} → Room n (Bad a)
+
+-- what holds of each choice holds of the one that a test makes
+when : {A : Type 0} (P : A → Type 0) (b : Bool) {x y : A} → (b ≡ true → P x) → P y → P (cond b x y)
+when P true f g = f refl
+when P false f g = g
+
+same-length : (cs ds : List ℕ) → same cs ds ≡ true → length cs ≡ length ds
+same-length [] [] e = refl
+same-length [] (d ∷ ds) e = absurd (false≢true e)
+same-length (c ∷ cs) [] e = absurd (false≢true e)
+same-length (c ∷ cs) (d ∷ ds) e = ap suc (same-length cs ds (after (eqb c d) e))
+  where
+    after : (b : Bool) → (b && same cs ds) ≡ true → same cs ds ≡ true
+    after true q = q
+    after false q = absurd (false≢true q)
+
+module _ (n : ℕ) where
+  either : (b : Bool) {x y : Scanned} → Room n x → Room n y → Room n (cond b x y)
+  either b f g = when (Room n) b (λ e. f) g
+
+  -- ---- numerals
+  a-number : {v : Value} → Room n (Good (Number v))
+  a-number = good (λ h. h)
+
+  a-hex : (cs : List ℕ) → Room n (hexOf cs)
+  a-hex cs = either (some cs && all isHex cs) (either (leb (length cs) 8) a-number bad) bad
+
+  a-real : (cs ds : List ℕ) → Room n (realOf cs ds)
+  a-real cs ds = either (digits cs && digits ds) (either (leb (length cs + length ds) 7) a-number bad) bad
+
+  a-numeral : (cs : List ℕ) → Room n (numeralOf cs)
+  a-numeral cs =
+      either (digits cs) (either (leb (decimal cs) 2147483647) a-number bad)
+      (either (isHexRun cs) (a-hex (drop 2 cs)) (a-real (take (runLen notDot cs) cs) (drop (suc (runLen notDot cs)) cs)))
+
+  -- ---- words
+  a-letter : (l : BankLetter) → Room n (letterWord l)
+  a-letter (L.Of b) = good (λ h. h)
+  a-letter L.Other = bad
+
+  a-cell : 2 ≤ n → (c : Named) → Room n (cellWord c)
+  a-cell l (A.Cell b i) = good (λ h. l)
+  a-cell l A.Other = bad
+
+  other : (cs : List ℕ) → length cs ≤ n → Room n (otherWord cs)
+  unfolding otherWord
+  other [] l = bad
+  other (c ∷ []) l = a-letter (bankOf c)
+  other (c ∷ d ∷ cs) l = a-cell (omega arith) (namedRule (c ∷ d ∷ cs))
+
+  a-name : (fs : List Function) (cs : List ℕ) {o : Scanned} → length cs ≤ n → Room n o → Room n (named fs cs o)
+  a-name [] cs l r = r
+  a-name (f ∷ fs) cs l r = when (Room n) (same (nameOf f) cs) (λ e. good (λ h. omega (arith, same-length (nameOf f) cs e))) (a-name fs cs l r)
+
+  a-word : (cs : List ℕ) → length cs ≤ n → Room n (wordOf cs)
+  unfolding wordOf
+  a-word cs l = a-name functions cs l (other cs l)
+
+-- ---- lexemes
+data Takes : Lexeme → Type 0 where
+  token : (t : Token) (p e : ℕ) → (p < e → p + bytesOfToken t ≤ e) → Takes (Found t p e)
+  wrong : {a p : ℕ} → Takes (Wrong a p)
+  end : Takes End
+
+judged : (p n : ℕ) {r : Scanned} → Room n r → Takes (lexeme p n r)
+judged p n (good {t = t} h) = token t p (p + n) (λ l. omega (arith, h (omega arith)))
+judged p n bad = wrong
+
+run : (test : ℕ → Bool) (f : List ℕ → Scanned) → ((n : ℕ) (cs : List ℕ) → length cs ≤ n → Room n (f cs)) → (cs : List ℕ) (p : ℕ) → Takes (running test f cs p)
+run test f room cs p =
+    let n = runLen test cs in
+    judged p n (room n (take n cs) (rw length-take (omega arith)))
+
+takes : (cs : List ℕ) (p : ℕ) → Takes (lexemeOf cs p)
+unfolding lexemeOf
+takes [] p = end
+takes (c ∷ cs) p =
+    when Takes (isDigit c) (λ d. run isRun numeralOf (λ n ds l. a-numeral n ds) (c ∷ cs) p)
+    (when Takes (isLetter c) (λ d. run isWord wordOf a-word (c ∷ cs) p)
+    (when Takes (eqb (longest (c ∷ cs)) symbolCount) (λ e. wrong) (token _ p _ (λ l. omega arith))))
+
+of-token : {t : Token} {p e : ℕ} → Takes (Found t p e) → p < e → p + bytesOfToken t ≤ e
+of-token (token t p e h) = h
+
+pub long : (s : List ℕ) (at : ℕ) {t : Token} {p e : ℕ} → lexemeAt s at ≡ Found t p e → p + bytesOfToken t ≤ e
+long s at m = of-token (subst Takes m (takes (drop (at + blanks s at) s) (at + blanks s at))) (found s at m .some)

@@ -1,0 +1,59 @@
+-- `compiler::compile` meets its contract: the size of the buffer is tested first, then the length of the text.
+use native.Mathlib.Omega.{arith}
+use borrow.Author.Needs.{needs}
+use Rattle.compiler.proofs.Answers.{small, enough, no-text, too-long}
+use Rattle.compiler.proofs.compile.Statement.{statement}
+use Rattle.compiler.proofs.compile.Tie as tie
+
+returns : tie.Need-returns
+returns c = let a = c .before .before .before .args in small (a .text .now) (a .code .now) (omega arith)
+
+returns-2 : tie.Need-returns-2
+returns-2 c = let a = c .before .before .before .before .args in no-text (a .text .now) (a .code .now) (omega arith) (omega arith)
+
+returns-3 : tie.Need-returns-3
+returns-3 c = let a = c .before .before .before .before .before .args in too-long (a .text .now) (a .code .now) (omega arith) (omega arith)
+
+slice-aggregate-compile-in : tie.Need-slice-aggregate-compile-in
+slice-aggregate-compile-in c = search needs
+
+compile-in-requires : tie.Need-compile-in-requires
+compile-in-requires c κs = search needs
+
+same-length : tie.Need-same-length
+same-length c = search needs
+
+returns-4 : tie.Need-returns-4
+returns-4 c =
+    let a = c .before .before .before .before .before .before .before .before .before .before .before .before .args in
+    enough (a .text .now) (a .code .now) (omega arith) _ _ (c .before .before .before .compile-in .ensures)
+
+slice-aggregate-compile-in-2 : tie.Need-slice-aggregate-compile-in-2
+slice-aggregate-compile-in-2 c = search needs
+
+compile-in-requires-2 : tie.Need-compile-in-requires-2
+compile-in-requires-2 c κs = search needs
+
+same-length-2 : tie.Need-same-length-2
+same-length-2 c = search needs
+
+returns-5 : tie.Need-returns-5
+returns-5 c =
+    let a = c .before .before .before .before .before .before .before .before .before .before .before .before .args in
+    enough (a .text .now) (a .code .now) (omega arith) _ _ (c .before .before .before .compile-in2 .ensures)
+
+pub compile-spec : {M : Type 1} → statement M
+compile-spec =
+    tie.close
+    (tie.spec
+    returns
+    returns-2
+    returns-3
+    slice-aggregate-compile-in
+    compile-in-requires
+    same-length
+    returns-4
+    slice-aggregate-compile-in-2
+    compile-in-requires-2
+    same-length-2
+    returns-5)

@@ -1,0 +1,42 @@
+-- What compiling does (paper 01): "compiling, with a code buffer under 16,384 bytes" is 10, before the text is looked at; "1 to 10 .. change nothing"; "Compile alone returns .. the number of instructions"; "code bytes past the last
+-- instruction keep what they held". proofs/Theorems.antt proves `CompileTheorems`.
+use mathlib.Core.Path.{_≡_}
+use mathlib.Core.Bool.{cond}
+use mathlib.Core.List.{List, [], _∷_, _++_}
+use Prim.Native.Nat.{ℕ, _≤_}
+use lib.Dec.{ltb}
+use lib.ListN.{length}
+use lib.Seq.{sets}
+use Rattle.grammar.specs.Tree.{Tree}
+use Rattle.text.specs.Judge.{Judgement, accepted, refused, judge}
+use Rattle.code.specs.declared.Instr.{Instr}
+use Rattle.code.specs.Encode.{encode}
+use Rattle.code.specs.Instructions.{instructions}
+use Rattle.compiler.specs.declared.Coded.{Coded}
+use Rattle.compiler.specs.declared.Coded.the-variants.{Done, Refused}
+use Rattle.compiler.specs.Code.{codeOf}
+use Rattle.compiler.specs.Demand.{Compiled}
+
+-- the bytes of some instructions
+unfoldable pub encoded : List Instr → List ℕ
+encoded [] = []
+encoded (i ∷ c) = encode i ++ encoded c
+
+-- the judgement of a text for a buffer of so many bytes
+abbrev pub compiling : ℕ → List ℕ → Judgement
+compiling room s = cond (ltb room 16384) (refused 10 0) (judge s)
+
+abbrev pub codedAnswer : Judgement → Coded
+codedAnswer (accepted t) = Done (length (codeOf t))
+codedAnswer (refused a p) = Refused a p
+
+-- the buffer afterwards, every byte
+abbrev pub codedBytes : List ℕ → Judgement → List ℕ
+codedBytes code (accepted t) = sets code 0 (encoded (codeOf t))
+codedBytes code (refused a p) = code
+
+pub record CompileTheorems : Type 0 where
+  -- the instructions in the buffer, in the number returned, are the code of the formula's tree
+  pub there : (s code : List ℕ) (t : Tree) → judge s ≡ accepted t → 16384 ≤ length code → instructions (codedBytes code (accepted t)) (length (codeOf t)) ≡ codeOf t
+  -- demand 3 of an accepted text
+  pub demand : (s : List ℕ) (t : Tree) → judge s ≡ accepted t → Compiled t (length s)
