@@ -1,0 +1,102 @@
+-- Demand 3, and what compiling writes: compiled code in its buffer, and any code that the check accepts.
+use mathlib.Core.Path.{_≡_, refl, sym, ap, subst, _∙_}
+use mathlib.Core.Logic.{inr}
+use mathlib.Core.Bool.{Bool, true, false, cond}
+use mathlib.Core.List.{List, [], _∷_}
+use Prim.Native.Nat.{ℕ, _*_, _≤_}
+use native.Mathlib.Omega.{arith}
+use lib.Dec.{ltb}
+use lib.IntN.{pos}
+use lib.ListN.{length, getD, length-append}
+use borrow.Author.Tests.{ltb-false}
+use Rattle.values.specs.declared.Kind.{Kind}
+use Rattle.values.specs.declared.Value.the-variants.{Int}
+use Rattle.memory.specs.Environment.{memoryOf}
+use Rattle.memory.proofs.Runs.{other-kept}
+use Rattle.grammar.specs.Tree.{Tree, treeKind}
+use Rattle.text.specs.Judge.{Judgement, accepted, refused, judge}
+use Rattle.text.specs.Theorems.{Accepts}
+use Rattle.code.specs.declared.Instr.{Instr}
+use Rattle.code.specs.declared.Instr.the-variants.{PushInt, PushReal, Load, LoadIndexed, Unary, Binary, Jump, JumpIf, Unknown}
+use Rattle.code.specs.Encode.{encode}
+use Rattle.code.specs.Instructions.{instructions}
+use Rattle.code.proofs.Parts.{decode-length}
+use Rattle.machine.specs.Machine.{runs}
+use Rattle.verifier.specs.Accepts as Verifier
+use Rattle.verifier.proofs.Safe.{safe, memory-kinded}
+use Rattle.compiler.specs.Code.{codeOf}
+use Rattle.compiler.specs.Compile.{compiling, codedBytes, encoded}
+use Rattle.compiler.proofs.Theorems.{compile-theorems}
+use Rattle.operations.specs.declared.Answer.{Answer}
+use Rattle.operations.specs.declared.Answer.the-variants.{Done}
+use Rattle.operations.specs.Operations.{compileAnswer, Checks, accepts, refuses}
+use Rattle.operations.specs.Terms.{number, Ends}
+use Rattle.operations.specs.Promises.{Faithful}
+use Rattle.operations.proofs.Requests.{with-room, run-tree}
+use Rattle.operations.proofs.Texts.{is-formula}
+
+-- ---- what compiling writes
+
+encode-length : (i : Instr) → length (encode i) ≡ 8
+encode-length (PushInt z) = refl
+encode-length (PushReal x) = refl
+encode-length (Load b i) = refl
+encode-length (LoadIndexed b) = refl
+encode-length (Unary o) = refl
+encode-length (Binary o) = refl
+encode-length (Jump d) = refl
+encode-length (JumpIf false d) = refl
+encode-length (JumpIf true d) = refl
+encode-length Unknown = refl
+
+encoded-length : (c : List Instr) → length (encoded c) ≡ 8 * length c
+unfolding encoded
+encoded-length [] = refl
+encoded-length (i ∷ c) = simp length-append (omega (arith, encode-length i, encoded-length c))
+
+beyond : (code : List ℕ) (n k : ℕ) (j : Judgement) → compileAnswer j ≡ Done (Int (pos 0)) n → 8 * n ≤ k → getD (codedBytes code j) k 0 ≡ getD code k 0
+beyond code n k (accepted t) e h =
+    let l : length (codeOf t) ≡ n = cc in
+    other-kept code 0 (encoded (codeOf t)) k (inr (omega (arith, encoded-length (codeOf t))))
+beyond code n k (refused a p) e h = refl
+
+pub only-code : (text code : List ℕ) (n k : ℕ) → compileAnswer (compiling (length code) text) ≡ Done (Int (pos 0)) n → 8 * n ≤ k
+    → getD (codedBytes code (compiling (length code) text)) k 0 ≡ getD code k 0
+only-code text code n k = beyond code n k (compiling (length code) text)
+
+-- ---- accepted code
+
+module _ (code : List ℕ) (n : ℕ) where
+  well : {k : Kind} → Verifier.Accepts (instructions code n) k → (most : ℕ) → ((m : List ℕ) → runs code n m .count ≤ most) → Ends code n most k
+  well {k} a most h = record { well = λ m. safe .ends (memoryOf m) (instructions code n) k (memory-kinded m) a; quick = h }
+
+  pub ends : {r : Answer} → Checks code n r → number r ≡ 0 → (k : Kind) × Ends code n n k
+  ends (accepts {k} a) e = (k, well a n (λ m. omega (arith, safe .counts (memoryOf m) (instructions code n), decode-length code 0 n)))
+  ends (refuses h) e = absurd (omega arith)
+
+-- ---- compiled code
+
+module _ {text : List ℕ} {t : Tree} (code : List ℕ) (a : Accepts text t) where
+  in-buffer : 16384 ≤ length code → Faithful text t (codedBytes code (accepted t)) (length (codeOf t))
+  in-buffer room =
+      let q = is-formula a in
+      let there = compile-theorems .there text code t q room in
+      let demand = compile-theorems .demand text t q in
+      let good = subst (λ c. Verifier.Accepts c (treeKind t)) (sym there) (demand .accepted) in
+      record {
+        same = λ m. ap (λ x. x .end) (run-tree text code m t q room);
+        accepted = accepts good;
+        ends = well _ _ good _ (λ m. rw (run-tree text code m t q room) (demand .quick (memoryOf m)));
+      }
+
+  room : {n : ℕ} (b : Bool) → ltb (length code) 16384 ≡ b → compileAnswer (cond b (refused 10 0) (judge text)) ≡ Done (Int (pos 0)) n → 16384 ≤ length code
+  room true l e = let z : _≡_ {A = ℕ} 0 1 = cc in absurd (omega arith)
+  room false l e = ltb-false (length code) 16384 l
+
+  pub faithful : {n : ℕ} → compileAnswer (compiling (length code) text) ≡ Done (Int (pos 0)) n → Faithful text t (codedBytes code (compiling (length code) text)) n
+  faithful {n} e =
+      let h = room (ltb (length code) 16384) refl e in
+      let w : compiling (length code) text ≡ accepted t = with-room code text h ∙ is-formula a in
+      let d : Done (Int (pos 0)) (length (codeOf t)) ≡ Done (Int (pos 0)) n = ap compileAnswer (sym w) ∙ e in
+      let l : length (codeOf t) ≡ n = cc in
+      subst (λ n. Faithful text t (codedBytes code (compiling (length code) text)) n) l (rw w (in-buffer h))

@@ -1,0 +1,105 @@
+-- Where a run ends well, what is stored or flagged: `Gives`. The target's element is one of its bank, so the store finds its cell.
+use mathlib.Core.Path.{_≡_, refl}
+use mathlib.Core.Bool.{Bool, true, false, _&&_, cond, and-eq-true-iff}
+use mathlib.Core.List.{List, [], _∷_}
+use Prim.Native.Nat.{ℕ, _<_}
+use native.Mathlib.Omega.{arith}
+use lib.Dec.{eqb}
+use lib.ListN.{length, set}
+use borrow.Author.Tests.{eqb-true, eq-eqb, ltb-true, lt-ltb}
+use Rattle.values.specs.declared.Kind.{Kind}
+use Rattle.values.specs.declared.Value.{Value}
+use Rattle.values.specs.declared.Fault.{Fault as FaultName}
+use Rattle.values.specs.declared.Outcome.{Outcome}
+use Rattle.operators.specs.Laws.{OfKind, done, stopped}
+use Rattle.memory.specs.declared.Bank.{Bank}
+use Rattle.memory.specs.declared.Bank.the-variants.{X, C, «V», N, D, R}
+use Rattle.memory.specs.declared.names.Letter.{Letter}
+use Rattle.memory.specs.declared.names.Letter.the-variants as L
+use Rattle.memory.specs.declared.names.Named.{Named}
+use Rattle.memory.specs.declared.names.Named.the-variants.{Cell, Other}
+use Rattle.memory.specs.declared.store.Encoded.{Encoded}
+use Rattle.memory.specs.declared.store.Encoded.the-variants as Encoded
+use Rattle.memory.specs.Layout.{imageSize, layoutOf, hasCell, flagAt}
+use Rattle.memory.specs.Names.{plain, allDigits, decimal, bankOf, numberBelow, cellOf, namedRule, storable, targetRule}
+use Rattle.memory.specs.Store.{encode, flagged, written, answerOf}
+use Rattle.machine.specs.declared.Ended.{Ended}
+use Rattle.machine.specs.declared.Ended.the-variants as Ended
+use Rattle.verifier.specs.Safety.{EndsWell, value, fault}
+use Rattle.compiler.specs.Demand.{endOf}
+use Rattle.operations.specs.Operations.{afterStore, finished, memoryAfter, to, none, goalOf, goal}
+use Rattle.operations.specs.Terms as Term
+use Rattle.operations.specs.Terms.{Gives}
+
+-- ---- the target
+
+-- a name of a cell, if it is one, is of an element that its bank has
+data Stands : Named → Type 0 where
+  cell : (b : Bank) (i : ℕ) → i < layoutOf b .elements → Stands (Cell b i)
+  other : Stands Other
+
+stands : (cs : List ℕ) (l : Letter) → Stands (cellOf cs l)
+stands cs (L.Of b) = by (numberBelow (layoutOf b .elements) cs) refl
+  where
+    by : (t : Bool) → numberBelow (layoutOf b .elements) cs ≡ t → Stands (cond t (Cell b (decimal cs)) Other)
+    by true e = cell b (decimal cs) (ltb-true (decimal cs) _ (and-eq-true-iff (plain cs && allDigits cs) _ .0 e .1))
+    by false e = other
+stands cs L.Other = other
+
+words : (text : List ℕ) → Stands (namedRule text)
+unfolding namedRule
+words [] = other
+words (c ∷ cs) = stands cs (bankOf c)
+
+stored : {x : Named} → Stands x → Stands (storable x)
+stored (cell X i h) = other
+stored (cell C i h) = cell C i h
+stored (cell «V» i h) = cell «V» i h
+stored (cell N i h) = cell N i h
+stored (cell D i h) = cell D i h
+stored (cell R i h) = cell R i h
+stored other = other
+
+in-bank : {b : Bank} {i : ℕ} (x : Named) → Stands x → x ≡ Cell b i → i < layoutOf b .elements
+in-bank {b} {i} x (cell c j h) e =
+    let p : c ≡ b = cc in
+    let q : j ≡ i = cc in
+    rw (p, q) at h
+in-bank x other e = let z : _≡_ {A = ℕ} 0 1 = cc in absurd (omega arith)
+
+pub target-element : {b : Bank} {i : ℕ} (target : List ℕ) → targetRule target ≡ Cell b i → i < layoutOf b .elements
+target-element target e = in-bank (targetRule target) (stored (words target)) e
+
+-- ---- the goal of a run
+
+goal-cell : {b : Bank} {i : ℕ} (x : Named) → goalOf x ≡ to b i → x ≡ Cell b i
+goal-cell (Cell b i) e = cc
+goal-cell Other e = let z : _≡_ {A = ℕ} 0 1 = cc in absurd (omega arith)
+
+pub goes-to : {b : Bank} {i : ℕ} (target m : List ℕ) → goal target m ≡ to b i → (length m ≡ imageSize) × (targetRule target ≡ Cell b i)
+goes-to {b} {i} target m e = by (eqb (length m) imageSize) refl e
+  where
+    by : (t : Bool) → eqb (length m) imageSize ≡ t → cond t (goalOf (targetRule target)) (none 1) ≡ to b i → (length m ≡ imageSize) × (targetRule target ≡ Cell b i)
+    by true l e = (eqb-true (length m) imageSize l, goal-cell (targetRule target) e)
+    by false l e = let z : _≡_ {A = ℕ} 0 1 = cc in absurd (omega arith)
+
+-- ---- the end
+
+pub ends-well : {k : Kind} {o : Outcome} → OfKind k o → EndsWell k (endOf o)
+ends-well (done v e) = value v e
+ends-well (stopped f) = fault f
+
+module _ (m : List ℕ) (b : Bank) (i n : ℕ) (size : length m ≡ imageSize) (element : i < layoutOf b .elements) where
+  flag : (f : FaultName) → flagged m f ≡ set m (flagAt f) 1
+  flag f = rw (eq-eqb (length m) imageSize size)
+
+  there : hasCell m b i ≡ true
+  there = rw (eq-eqb (length m) imageSize size, lt-ltb i (layoutOf b .elements) element)
+
+  kept : (v : Value) (x : Encoded) → encode b v ≡ x → Gives m b i n (Ended.Done v) (afterStore v n (answerOf x)) (written m b i x)
+  kept v (Encoded.Pattern p) e = Term.stored e
+  kept v (Encoded.Stopped f) e = rw (flag f) (Term.unstored e)
+
+  pub gives : {k : Kind} {e : Ended} → EndsWell k e → Gives m b i n e (finished m b i e n) (memoryAfter m b i e)
+  gives (value v e) = rw there (kept v (encode b v) refl)
+  gives (fault f) = rw (flag f) Term.stopped

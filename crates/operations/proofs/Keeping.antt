@@ -1,0 +1,157 @@
+-- Demand 1: every answer of every operation is one of three sorts, and what each sort leaves.
+use mathlib.Core.Path.{_≡_, refl, ap, subst}
+use mathlib.Core.Logic.{_⊎_, inl, inr, ⊎-elim}
+use mathlib.Core.Bool.{Bool, true, false, cond}
+use mathlib.Core.List.{List}
+use Prim.Native.Nat.{ℕ, _≤_}
+use native.Mathlib.Omega.{arith}
+use lib.Dec.{eqb, ltb}
+use lib.ListN.{length, getD, set, length-set}
+use lib.Seq.{length-sets}
+use borrow.Author.Tests.{eqb-true}
+use Rattle.words.specs.Words.{bytesOf}
+use Rattle.values.specs.declared.Value.{Value}
+use Rattle.values.specs.declared.Fault.{Fault as FaultName}
+use Rattle.memory.specs.declared.Bank.{Bank}
+use Rattle.memory.specs.declared.names.Named.{Named}
+use Rattle.memory.specs.declared.names.Named.the-variants.{Cell, Other}
+use Rattle.memory.specs.Layout.{imageSize, layoutOf, cellAt, flagAt}
+use Rattle.memory.specs.Names.{targetRule}
+use Rattle.memory.specs.Laws.{Within}
+use Rattle.memory.specs.Environment.{memoryOf}
+use Rattle.memory.proofs.Kept.{cell-kept}
+use Rattle.text.specs.Judge.{Judgement, accepted, refused, judge}
+use Rattle.text.proofs.Theorems.{text-theorems}
+use Rattle.code.specs.Instructions.{instructions}
+use Rattle.machine.specs.declared.Ended.{Ended}
+use Rattle.verifier.proofs.Safe.{safe, memory-kinded}
+use Rattle.compiler.specs.Compile.{compiling, codedBytes, encoded}
+use Rattle.compiler.proofs.Theorems.{compile-theorems}
+use Rattle.compiler.specs.Code.{codeOf}
+use Rattle.operations.specs.declared.Answer.{Answer}
+use Rattle.operations.specs.declared.Answer.the-variants.{Done, Fault, Refused}
+use Rattle.operations.specs.Operations.{compileAnswer, Checks, accepts, refuses, Runs, unready, unaccepted, ran, none, goalOf, goal, Request, stops, ofTarget, ofText, request, performed, performedMemory, performedCode}
+use Rattle.operations.specs.Terms.{Refusal, Gives, stored, unstored, stopped}
+use Rattle.operations.specs.Promises.{Does, compile, check, run, compile-and-run, Keeps}
+use Rattle.operations.proofs.Numbers.{either, Numbered, formula, three-to-nine, numbered, fault-range, no-fault, own-number}
+use Rattle.operations.proofs.Endings.{target-element, goes-to, ends-well, gives}
+
+-- the byte k is none of the target's cell
+abbrev Elsewhere : List ℕ → ℕ → Type 0
+Elsewhere target k = (b : Bank) (i : ℕ) → targetRule target ≡ Cell b i → Within b i k → ⊥
+
+data Sorted (target m code : List ℕ) : Answer → List ℕ → List ℕ → Type 0 where
+  done : {v : Value} {n : ℕ} {m′ code′ : List ℕ} → ((k : ℕ) → Elsewhere target k → getD m′ k 0 ≡ getD m k 0) → length m′ ≡ length m → length code′ ≡ length code → Sorted target m code (Done v n) m′ code′
+  fault : {f : FaultName} {n : ℕ} {code′ : List ℕ} → length code′ ≡ length code → Sorted target m code (Fault f n) (set m (flagAt f) 1) code′
+  refusal : (a p : ℕ) → Refusal a → Sorted target m code (Refused a p) m code
+
+-- ---- each sort keeps demand 1
+
+small : (a : ℕ) → Refusal a → a ≤ 15
+small a (l, h) = ⊎-elim (λ l. omega arith) (λ l. omega arith) h
+
+keeps : {target m code m′ code′ : List ℕ} {r : Answer} → Sorted target m code r m′ code′ → Keeps target m code r m′ code′
+keeps (done h l w) = record {
+  listed = omega arith;
+  refused = λ x. absurd (omega arith);
+  fault = λ f e. absurd (no-fault f (inl (omega arith)) e);
+  done = λ e. h;
+  sizes = (l, w);
+}
+keeps {m = m} (fault {f} w) = record {
+  listed = omega (arith, fault-range f);
+  refused = λ x. absurd (no-fault f (x .1) refl);
+  fault = λ g e. ap (λ f. set m (flagAt f) 1) (own-number f g e);
+  done = λ e. absurd (omega (arith, fault-range f));
+  sizes = (length-set m (flagAt f) 1, w);
+}
+keeps (refusal a p h) = record {
+  listed = small a h;
+  refused = λ x. (refl, refl);
+  fault = λ f e. absurd (no-fault f (h .1) e);
+  done = λ e. absurd (omega arith);
+  sizes = (refl, refl);
+}
+
+-- ---- each operation's answer is of a sort
+
+module _ (target m code : List ℕ) where
+  low : (a p : ℕ) → 1 ≤ a → a ≤ 10 → Sorted target m code (Refused a p) m code
+  low a p l h = refusal a p (l, inl h)
+
+  fifteen : Sorted target m code (Refused 15 0) m code
+  fifteen = refusal 15 0 (omega arith, inr refl)
+
+  -- after a run that ends well
+  sorted-end : {b : Bank} {i n : ℕ} {e : Ended} {r : Answer} {m′ code′ : List ℕ} → targetRule target ≡ Cell b i → length code′ ≡ length code → Gives m b i n e r m′ → Sorted target m code r m′ code′
+  sorted-end {b} {i} t w (stored {p = p} e) = done (λ k h. cell-kept m b i p k (h b i t)) (length-sets m (cellAt b i) (bytesOf (layoutOf b .width) p)) w
+  sorted-end t w (unstored e) = fault w
+  sorted-end t w stopped = fault w
+
+  coded-length : (j : Judgement) → length (codedBytes code j) ≡ length code
+  coded-length (accepted t) = length-sets code 0 (encoded (codeOf t))
+  coded-length (refused a p) = refl
+
+  sorted-judged : {j : Judgement} → Numbered j → Sorted target m code (compileAnswer j) m (codedBytes code j)
+  sorted-judged {j} formula = done (λ k h. refl) refl (coded-length j)
+  sorted-judged (three-to-nine a p l h) = low a p (omega arith) (omega arith)
+
+  sorted-compile : (text : List ℕ) → Sorted target m code (compileAnswer (compiling (length code) text)) m (codedBytes code (compiling (length code) text))
+  sorted-compile text =
+      either (λ j. Sorted target m code (compileAnswer j) m (codedBytes code j)) (ltb (length code) 16384)
+      (low 10 0 (omega arith) (omega arith))
+      (sorted-judged (numbered (text-theorems .outcome text)))
+
+  sorted-check : {n : ℕ} {r : Answer} → Checks code n r → Sorted target m code r m code
+  sorted-check (accepts a) = done (λ k h. refl) refl refl
+  sorted-check (refuses h) = fifteen
+
+  no-goal : {a : ℕ} → goal target m ≡ none a → Refusal a
+  no-goal {a} = either (λ g. g ≡ none a → Refusal a) (eqb (length m) imageSize) (of-name (targetRule target)) (is 1 (omega arith) (omega arith))
+    where
+      is : (d : ℕ) → 1 ≤ d → d ≤ 10 → none d ≡ none a → Refusal a
+      is d l h e = let q : d ≡ a = cc in (omega arith, inl (omega arith))
+
+      of-name : (x : Named) → goalOf x ≡ none a → Refusal a
+      of-name (Cell b i) e = let z : _≡_ {A = ℕ} 0 1 = cc in absurd (omega arith)
+      of-name Other e = is 2 (omega arith) (omega arith) e
+
+  sorted-run : {n : ℕ} {m′ : List ℕ} {r : Answer} → Runs code n target m m′ r → Sorted target m code r m′ code
+  sorted-run (unready {a} e) = refusal a 0 (no-goal e)
+  sorted-run (unaccepted e h) = fifteen
+  sorted-run {n} (ran {b} {i} {k} e a) =
+      let g = goes-to target m e in
+      sorted-end (g .1) refl (gives m b i _ (g .0) (target-element target (g .1)) (safe .ends (memoryOf m) (instructions code n) k (memory-kinded m) a))
+
+  -- ---- compile and run
+
+  abbrev Performs : Request → Type 0
+  Performs q = Sorted target m code (performed m q) (performedMemory m q) (performedCode code q)
+
+  sorted-text : (text : List ℕ) {b : Bank} {i : ℕ} → length m ≡ imageSize → targetRule target ≡ Cell b i → (j : Judgement) → judge text ≡ j → Performs (ofText b i j)
+  sorted-text text {b} {i} l e (accepted t) q =
+      let kind = compile-theorems .demand text t q .kind (memoryOf m) (memory-kinded m) in
+      sorted-end e (coded-length (accepted t)) (gives m b i _ l (target-element target e) (ends-well kind))
+  sorted-text text l e (refused a p) q = sorted-judged (subst Numbered q (numbered (text-theorems .outcome text)))
+
+  sorted-target : (text : List ℕ) → length m ≡ imageSize → (x : Named) → targetRule target ≡ x → Performs (ofTarget text x)
+  sorted-target text l (Cell b i) e = sorted-text text l e (judge text) refl
+  sorted-target text l Other e = low 2 0 (omega arith) (omega arith)
+
+  sorted-request : (text : List ℕ) → Performs (request target text m code)
+  sorted-request text = by (eqb (length m) imageSize) refl
+    where
+      by : (t : Bool) → eqb (length m) imageSize ≡ t → Performs (cond t (cond (ltb (length code) 16384) (stops 10 0) (ofTarget text (targetRule target))) (stops 1 0))
+      by true e =
+          either Performs (ltb (length code) 16384) (low 10 0 (omega arith) (omega arith))
+          (sorted-target text (eqb-true (length m) imageSize e) (targetRule target) refl)
+      by false e = low 1 0 (omega arith) (omega arith)
+
+sorted : {target m code m′ code′ : List ℕ} {r : Answer} → Does target m code r m′ code′ → Sorted target m code r m′ code′
+sorted {target} {m} {code} (compile text) = sorted-compile target m code text
+sorted {target} {m} {code} (check n w) = sorted-check target m code w
+sorted {target} {m} {code} (run n w) = sorted-run target m code w
+sorted {target} {m} {code} (compile-and-run text) = sorted-request target m code text
+
+pub kept : {target m code m′ code′ : List ℕ} {r : Answer} → Does target m code r m′ code′ → Keeps target m code r m′ code′
+kept w = keeps (sorted w)

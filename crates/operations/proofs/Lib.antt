@@ -1,0 +1,9 @@
+-- Promises is what a reader wants; the others are the laws that it and the functions' proofs cite.
+pub mod Promises
+mod Keeping
+mod Texts
+mod Codes
+mod Endings
+mod Numbers
+mod Verdicts
+mod Requests

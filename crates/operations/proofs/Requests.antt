@@ -1,0 +1,95 @@
+-- `compile` and `compile_and_run`: the request as the tests find it, and that the run of compiled code is what the rules give for the tree.
+use mathlib.Core.Path.{_≡_, refl, sym, ap, subst, _∙_}
+use mathlib.Core.List.{List, []}
+use Prim.Native.Nat.{ℕ, _≤_, _<_}
+use native.Mathlib.Omega.{arith}
+use lib.IntN.{pos}
+use lib.ListN.{length}
+use borrow.Author.Tests.{eq-eqb, ne-eqb, lt-ltb, le-ltb}
+use Rattle.values.specs.declared.Value.the-variants.{Int}
+use Rattle.memory.specs.declared.Bank.{Bank}
+use Rattle.memory.specs.declared.names.Named.{Named}
+use Rattle.memory.specs.Layout.{imageSize}
+use Rattle.memory.specs.Names.{targetRule}
+use Rattle.memory.specs.Environment.{memoryOf}
+use Rattle.grammar.specs.Tree.{Tree}
+use Rattle.grammar.specs.Worth.{worth}
+use Rattle.text.specs.Judge.{Judgement, accepted, refused, judge}
+use Rattle.machine.specs.declared.Ran.{Ran}
+use Rattle.machine.specs.Machine.{exec, runs}
+use Rattle.verifier.proofs.Safe.{memory-kinded}
+use Rattle.compiler.specs.declared.Coded.{Coded}
+use Rattle.compiler.specs.declared.Coded.the-variants as Coded
+use Rattle.compiler.specs.Code.{codeOf}
+use Rattle.compiler.specs.Demand.{endOf}
+use Rattle.compiler.specs.Compile.{compiling, codedAnswer, codedBytes}
+use Rattle.compiler.proofs.Theorems.{compile-theorems}
+use Rattle.operations.specs.declared.Answer.{Answer}
+use Rattle.operations.specs.declared.Answer.the-variants.{Done, Refused}
+use Rattle.operations.specs.Operations.{compileAnswer, Request, stops, ofText, ofTarget, request, performed, performedMemory, performedCode}
+use Rattle.operations.proofs.Verdicts.{Finishes}
+
+-- ---- compile alone
+
+abbrev ofCoded : Coded → Answer
+ofCoded (Coded.Done n) = Done (Int (pos 0)) n
+ofCoded (Coded.Refused a p) = Refused a p
+
+of-coded : (j : Judgement) → ofCoded (codedAnswer j) ≡ compileAnswer j
+of-coded (accepted t) = refl
+of-coded (refused a p) = refl
+
+pub answered : {x y : Coded} (j : Judgement) → x ≡ y → x ≡ codedAnswer j → ofCoded y ≡ compileAnswer j
+answered j e f = ap ofCoded (sym e ∙ f) ∙ of-coded j
+
+-- ---- the request
+
+module _ (target text m code : List ℕ) where
+  pub no-memory : (length m ≡ imageSize → ⊥) → request target text m code ≡ stops 1 0
+  no-memory h = rw (ne-eqb (length m) imageSize h)
+
+  module _ (h : length m ≡ imageSize) where
+    pub no-room : length code < 16384 → request target text m code ≡ stops 10 0
+    no-room l = rw (eq-eqb (length m) imageSize h, lt-ltb (length code) 16384 l)
+
+    pub named : {x : Named} → 16384 ≤ length code → targetRule target ≡ x → request target text m code ≡ ofTarget text x
+    named l e = rw (eq-eqb (length m) imageSize h, le-ltb (length code) 16384 l, e)
+
+-- the answer, the memory and the code are those of the request
+abbrev pub Performs : Request → List ℕ → List ℕ → Answer → List ℕ → List ℕ → Type 0
+Performs q m code r m′ code′ = (r ≡ performed m q) × ((m′ ≡ performedMemory m q) × (code′ ≡ performedCode code q))
+
+pub refuses : {q : Request} {a p : ℕ} (m code : List ℕ) → q ≡ stops a p → Performs q m code (Refused a p) m code
+refuses m code e = rw e (refl, (refl, refl))
+
+-- ---- the run of compiled code
+
+abbrev pub treeRun : List ℕ → Tree → Ran
+treeRun m t = record { end = endOf (worth (memoryOf m) t); count = exec (memoryOf m) (codeOf t) 0 [] .count }
+
+pub run-tree : (s code m : List ℕ) (t : Tree) → judge s ≡ accepted t → 16384 ≤ length code → runs (codedBytes code (accepted t)) (length (codeOf t)) m ≡ treeRun m t
+run-tree s code m t e h =
+    ap (λ c. exec (memoryOf m) c 0 []) (compile-theorems .there s code t e h)
+    ∙ ap (λ x. record { end = x; count = exec (memoryOf m) (codeOf t) 0 [] .count }) (compile-theorems .demand s t e .same (memoryOf m) (memory-kinded m))
+
+-- the judgement j of the text s was compiled, and what was written was run on m; then came the store or the flag
+pub performs : {q : Request} (s code m : List ℕ) (b : Bank) (i : ℕ) (j : Judgement) {n : ℕ} {code′ : List ℕ} {x : Ran} {r : Answer} {m′ : List ℕ}
+    → q ≡ ofText b i j → judge s ≡ j → 16384 ≤ length code → Coded.Done n ≡ codedAnswer j → code′ ≡ codedBytes code j → x ≡ runs code′ n m
+    → Finishes m b i x r m′ → Performs q m code r m′ code′
+performs s code m b i (accepted t) {n} {code′} {x} {r} {m′} o e h a w f g =
+    let l : n ≡ length (codeOf t) = cc in
+    let y : runs code′ n m ≡ runs (codedBytes code (accepted t)) (length (codeOf t)) m = cc in
+    let z = subst (λ x. Finishes m b i x r m′) (f ∙ (y ∙ run-tree s code m t e h)) g in
+    rw o (z .0, (z .1, w))
+performs s code m b i (refused a p) o e h d w f g = let z : _≡_ {A = ℕ} 0 1 = cc in absurd (omega arith)
+
+-- the same, where the text is refused
+pub refuses-text : {q : Request} (code m : List ℕ) (b : Bank) (i : ℕ) (j : Judgement) {a p : ℕ} {code′ : List ℕ}
+    → q ≡ ofText b i j → Coded.Refused a p ≡ codedAnswer j → code′ ≡ codedBytes code j
+    → Performs q m code (Refused a p) m code′
+refuses-text code m b i (accepted t) o e w = let z : _≡_ {A = ℕ} 0 1 = cc in absurd (omega arith)
+refuses-text code m b i (refused a p) o e w = rw o (cc, (refl, w))
+
+-- a buffer with room leaves the judgement to the text
+pub with-room : (code s : List ℕ) → 16384 ≤ length code → compiling (length code) s ≡ judge s
+with-room code s h = rw (le-ltb (length code) 16384 h)

@@ -1,0 +1,121 @@
+-- The four operations of paper 01: what each answers and writes, for every input.
+use mathlib.Core.Path.{_≡_}
+use mathlib.Core.Bool.{cond}
+use mathlib.Core.List.{List, []}
+use Prim.Native.Nat.{ℕ}
+use lib.Dec.{eqb, ltb}
+use lib.IntN.{pos}
+use lib.ListN.{length}
+use Rattle.values.specs.declared.Kind.{Kind}
+use Rattle.values.specs.declared.Value.{Value}
+use Rattle.values.specs.declared.Value.the-variants.{Int}
+use Rattle.values.specs.Values.{faultNumber}
+use Rattle.memory.specs.declared.Bank.{Bank}
+use Rattle.memory.specs.declared.names.Named.{Named}
+use Rattle.memory.specs.declared.names.Named.the-variants as Named
+use Rattle.memory.specs.declared.store.Stored.{Stored}
+use Rattle.memory.specs.declared.store.Stored.the-variants as Stored
+use Rattle.memory.specs.Layout.{imageSize}
+use Rattle.memory.specs.Names.{targetRule}
+use Rattle.memory.specs.Store.{flagged, storeAnswer, storeImage}
+use Rattle.memory.specs.Environment.{memoryOf}
+use Rattle.grammar.specs.Tree.{Tree}
+use Rattle.grammar.specs.Worth.{worth}
+use Rattle.text.specs.Judge.{Judgement, accepted, refused, judge}
+use Rattle.code.specs.Instructions.{instructions}
+use Rattle.machine.specs.declared.Ended.{Ended}
+use Rattle.machine.specs.declared.Ended.the-variants as Ended
+use Rattle.machine.specs.Machine.{exec, runs}
+use Rattle.verifier.specs.Accepts.{Accepts}
+use Rattle.compiler.specs.Code.{codeOf}
+use Rattle.compiler.specs.Demand.{endOf}
+use Rattle.compiler.specs.Compile.{codedBytes}
+use Rattle.operations.specs.declared.Answer.{Answer}
+use Rattle.operations.specs.declared.Answer.the-variants.{Done, Fault, Refused}
+use Rattle.operations.specs.declared.Report.{Report}
+
+-- the number, place, value and count of each answer: "1 to 10 and 15 .. return integer 0, count 0. 11 to 14 .. return integer 0 and the instructions begun .. 0 returns the value before the store and the instructions
+-- executed"; "Place is 0 for 0 to 3, 10 and above"
+abbrev pub reportOf : Answer → Report
+reportOf (Done v n) = record { answer = 0; place = 0; value = v; count = n }
+reportOf (Fault f n) = record { answer = faultNumber f; place = 0; value = Int (pos 0); count = n }
+reportOf (Refused a p) = record { answer = a; place = p; value = Int (pos 0); count = 0 }
+
+-- "Compile alone returns integer 0 and the number of instructions"
+abbrev pub compileAnswer : Judgement → Answer
+compileAnswer (accepted t) = Done (Int (pos 0)) (length (codeOf t))
+compileAnswer (refused a p) = Refused a p
+
+-- "a check that accepts returns integer 0, count 0"; 15: "the given number of instructions reaches beyond the buffer, or the check does not accept them"
+pub data Checks (code : List ℕ) (n : ℕ) : Answer → Type 0 where
+  accepts : {k : Kind} → Accepts (instructions code n) k → Checks code n (Done (Int (pos 0)) 0)
+  refuses : ((k : Kind) → Accepts (instructions code n) k → ⊥) → Checks code n (Refused 15 0)
+
+-- "0 returns the value before the store"; "where it faults (13), the count is of all instructions executed"
+abbrev pub afterStore : Value → ℕ → Stored → Answer
+afterStore v n Stored.Done = Done v n
+afterStore v n (Stored.Stopped f) = Fault f n
+
+abbrev pub storedAnswer : List ℕ → Bank → ℕ → Value → ℕ → Answer
+storedAnswer m b i v n = afterStore v n (storeAnswer m b i v)
+
+-- a value is stored, a fault sets its flag; accepted code is never stuck
+abbrev pub finished : List ℕ → Bank → ℕ → Ended → ℕ → Answer
+finished m b i (Ended.Done v) n = storedAnswer m b i v n
+finished m b i (Ended.Stopped f) n = Fault f n
+finished m b i Ended.Stuck n = Refused 15 0
+
+-- "11 to 14 set their flag's byte to 1 and change nothing else in memory"
+abbrev pub memoryAfter : List ℕ → Bank → ℕ → Ended → List ℕ
+memoryAfter m b i (Ended.Done v) = storeImage m b i v
+memoryAfter m b i (Ended.Stopped f) = flagged m f
+memoryAfter m b i Ended.Stuck = m
+
+-- where a run's value goes: 1 "memory not 3,204 bytes", then 2 "target is not exactly one word that is a C, V, N, D or R cell, no spaces"
+pub data Goal : Type 0 where
+  to : Bank → ℕ → Goal
+  none : ℕ → Goal
+
+abbrev pub goalOf : Named → Goal
+goalOf (Named.Cell b i) = to b i
+goalOf Named.Other = none 2
+
+abbrev pub goal : List ℕ → List ℕ → Goal
+goal target m = cond (eqb (length m) imageSize) (goalOf (targetRule target)) (none 1)
+
+-- running n instructions of the code: what the memory m becomes, and the answer
+pub data Runs (code : List ℕ) (n : ℕ) (target m : List ℕ) : List ℕ → Answer → Type 0 where
+  unready : {a : ℕ} → goal target m ≡ none a → Runs code n target m m (Refused a 0)
+  unaccepted : {b : Bank} {i : ℕ} → goal target m ≡ to b i → ((k : Kind) → Accepts (instructions code n) k → ⊥) → Runs code n target m m (Refused 15 0)
+  ran : {b : Bank} {i : ℕ} {k : Kind} → goal target m ≡ to b i → Accepts (instructions code n) k
+      → Runs code n target m (memoryAfter m b i (runs code n m .end)) (finished m b i (runs code n m .end) (runs code n m .count))
+
+-- compile and run: the cell and the formula's tree, or the first refusal in the order 1, 10, 2, 3 to 9
+pub data Request : Type 0 where
+  stores : Bank → ℕ → Tree → Request
+  stops : ℕ → ℕ → Request
+
+abbrev pub ofText : Bank → ℕ → Judgement → Request
+ofText b i (accepted t) = stores b i t
+ofText b i (refused a p) = stops a p
+
+abbrev pub ofTarget : List ℕ → Named → Request
+ofTarget text (Named.Cell b i) = ofText b i (judge text)
+ofTarget text Named.Other = stops 2 0
+
+abbrev pub request : List ℕ → List ℕ → List ℕ → List ℕ → Request
+request target text m code = cond (eqb (length m) imageSize) (cond (ltb (length code) 16384) (stops 10 0) (ofTarget text (targetRule target))) (stops 1 0)
+
+-- "Its answer, or its fault, is the one that the written rules give" for the tree; the count is that of its code
+abbrev pub performed : List ℕ → Request → Answer
+performed m (stores b i t) = finished m b i (endOf (worth (memoryOf m) t)) (exec (memoryOf m) (codeOf t) 0 [] .count)
+performed m (stops a p) = Refused a p
+
+abbrev pub performedMemory : List ℕ → Request → List ℕ
+performedMemory m (stores b i t) = memoryAfter m b i (endOf (worth (memoryOf m) t))
+performedMemory m (stops a p) = m
+
+-- "Compile-and-run writes the code on 0 and on 11 to 14"
+abbrev pub performedCode : List ℕ → Request → List ℕ
+performedCode code (stores b i t) = codedBytes code (accepted t)
+performedCode code (stops a p) = code

@@ -1,0 +1,49 @@
+-- The words that the promises use.
+use mathlib.Core.Path.{_≡_}
+use mathlib.Core.Logic.{_⊎_}
+use mathlib.Core.List.{List}
+use Prim.Native.Nat.{ℕ, _≤_}
+use lib.ListN.{length, set}
+use lib.Seq.{sets}
+use Rattle.words.specs.Words.{bytesOf}
+use Rattle.values.specs.declared.Kind.{Kind}
+use Rattle.values.specs.declared.Value.{Value}
+use Rattle.values.specs.declared.Fault.{Fault as FaultName}
+use Rattle.memory.specs.declared.Bank.{Bank}
+use Rattle.memory.specs.declared.names.Named.the-variants.{Cell}
+use Rattle.memory.specs.declared.store.Encoded.the-variants as Encoded
+use Rattle.memory.specs.Layout.{imageSize, layoutOf, cellAt, flagAt}
+use Rattle.memory.specs.Names.{targetRule}
+use Rattle.memory.specs.Store.{encode}
+use Rattle.machine.specs.declared.Ended.{Ended}
+use Rattle.machine.specs.declared.Ended.the-variants as Ended
+use Rattle.machine.specs.Machine.{runs}
+use Rattle.verifier.specs.Safety.{EndsWell}
+use Rattle.operations.specs.declared.Answer.{Answer}
+use Rattle.operations.specs.declared.Answer.the-variants.{Done, Fault}
+use Rattle.operations.specs.Operations.{reportOf}
+
+-- the answer's number in paper 01's list
+abbrev pub number : Answer → ℕ
+number r = reportOf r .answer
+
+-- "1 to 10 and 15 change nothing"
+abbrev pub Refusal : ℕ → Type 0
+Refusal a = (1 ≤ a) × ((a ≤ 10) ⊎ (a ≡ 15))
+
+-- none of 1, 10 and 2 holds: the target is the element i of the bank b
+pub record Ready (target m code : List ℕ) (b : Bank) (i : ℕ) : Type 0 where
+  pub memory : length m ≡ imageSize
+  pub room : 16384 ≤ length code
+  pub cell : targetRule target ≡ Cell b i
+
+-- what a run's end makes of the memory m, and its answer, with the count n: the value is in the target's bytes; or it does not fit there, or the run met a fault, and that flag is set
+pub data Gives (m : List ℕ) (b : Bank) (i n : ℕ) : Ended → Answer → List ℕ → Type 0 where
+  stored : {v : Value} {p : ℕ} → encode b v ≡ Encoded.Pattern p → Gives m b i n (Ended.Done v) (Done v n) (sets m (cellAt b i) (bytesOf (layoutOf b .width) p))
+  unstored : {v : Value} {f : FaultName} → encode b v ≡ Encoded.Stopped f → Gives m b i n (Ended.Done v) (Fault f n) (set m (flagAt f) 1)
+  stopped : {f : FaultName} → Gives m b i n (Ended.Stopped f) (Fault f n) (set m (flagAt f) 1)
+
+-- n instructions of the code, whatever the memory holds: they end with a value of the kind k or a fault, and so many are begun at most. Short of a value, or with more than 128 held, they would end `Stuck`.
+pub record Ends (code : List ℕ) (n most : ℕ) (k : Kind) : Type 0 where
+  pub well : (m : List ℕ) → EndsWell k (runs code n m .end)
+  pub quick : (m : List ℕ) → runs code n m .count ≤ most
