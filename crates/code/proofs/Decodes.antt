@@ -32,7 +32,7 @@ use Rattle.operators.specs.declared.tables.UnaryOf.{UnaryOf}
 use Rattle.operators.specs.declared.tables.UnaryOf.the-variants as UnaryOf
 use Rattle.operators.specs.declared.tables.BinaryOf.{BinaryOf}
 use Rattle.operators.specs.declared.tables.BinaryOf.the-variants as BinaryOf
-use Rattle.operators.specs.Tables.{unaryOps, binaryOps, unaryOf, binaryOf, unaryNumber, binaryNumber}
+use Rattle.operators.specs.Tables.{unaryOps, binaryOps, unaryOf, binaryOf}
 use Rattle.memory.specs.Numbers.{banks, bankNumbered}
 use Rattle.code.specs.Instructions.{alone, finiteOnly, pushReal, loadOf, indexedOf, unaryInstr, binaryInstr, instruction, decodeAt}
 use Rattle.code.specs.Encode.{eight, encode, Encodable, push-int, push-real, load, load-indexed, unary, binary, jump, jump-if}

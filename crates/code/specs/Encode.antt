@@ -2,7 +2,7 @@
 use mathlib.Core.Path.{_≡_}
 use mathlib.Core.Logic.{_≢_}
 use mathlib.Core.Bool.{Bool, true, false, cond}
-use mathlib.Core.List.{List, [], _∷_}
+use mathlib.Core.List.{List, _∷_}
 use Prim.Native.Nat.{ℕ, _*_, _/_, _^_, _<_}
 use lib.Dec.{T, ltb}
 use lib.IntN.{ℤ}
@@ -10,27 +10,14 @@ use lib.ListN.{length}
 use lib.Seq.{sets}
 use lib.Ieee as Ieee
 use lib.Ieee.{Float, binary32}
-use Rattle.reals.specs.declared.ArithOp.{ArithOp}
-use Rattle.reals.specs.declared.ArithOp.the-variants.{Add, Sub, Mul, Div, Rem}
 use Rattle.reals.specs.Singles.{Single}
-use Rattle.values.specs.declared.BitOp.{BitOp}
-use Rattle.values.specs.declared.BitOp.the-variants.{And, Or, Xor}
-use Rattle.values.specs.declared.ShiftOp.{ShiftOp}
-use Rattle.values.specs.declared.ShiftOp.the-variants.{Left, Right, RightZero}
-use Rattle.values.specs.declared.CompareOp.{CompareOp}
-use Rattle.values.specs.declared.CompareOp.the-variants.{Lt, Gt, Le, Ge, Eq, Ne}
-use Rattle.values.specs.declared.ChoiceOp.{ChoiceOp}
-use Rattle.values.specs.declared.ChoiceOp.the-variants.{Max, Min}
 use Rattle.values.specs.Integers.{inRange}
 use Rattle.values.specs.Patterns.{lowBits}
 use Rattle.operators.specs.declared.UnaryOp.{UnaryOp}
-use Rattle.operators.specs.declared.UnaryOp.the-variants.{Neg, Complement, Not, Abs, ToReal, Trunc, Round, Frac}
 use Rattle.operators.specs.declared.BinaryOp.{BinaryOp}
-use Rattle.operators.specs.declared.BinaryOp.the-variants.{Arith, Power, Shift, Compare, Bits, Choice}
 use Rattle.words.specs.Words.{bytesOf}
 use Rattle.words.specs.Laws.{Bytes}
 use Rattle.memory.specs.declared.Bank.{Bank}
-use Rattle.memory.specs.declared.Bank.the-variants.{X, C, «V», N, D, R}
 use Rattle.memory.specs.Layout.{layoutOf}
 use Rattle.memory.specs.Numbers.{bankNumber}
 use Rattle.operators.specs.Tables.{unaryNumber, binaryNumber}

@@ -1,17 +1,15 @@
 -- The instruction set of docs/INSTRUCTIONS.md: which eight bytes are which instruction (paper 01, "Code and its check": "every one is known (a cell beyond its
 -- bank, or a pushed infinity or NaN, is not)").
-use mathlib.Core.Bool.{Bool, true, false, cond}
+use mathlib.Core.Bool.{true, false, cond}
 use mathlib.Core.List.{List, [], _∷_}
 use Prim.Native.Nat.{ℕ, zero, suc, _+_, _*_, _/_}
-use lib.Dec.{eqb, ltb, leb}
+use lib.Dec.{eqb, ltb}
 use lib.ListN.{length, getD, take, drop}
 use lib.Ieee as Ieee
 use lib.Ieee.{Float, nan, inf, fin, binary32}
 use Rattle.values.specs.Patterns.{signedOf}
 use Rattle.operators.specs.Tables.{unaryOf, binaryOf}
 use Rattle.words.specs.Words.{little}
-use Rattle.memory.specs.declared.Bank.{Bank}
-use Rattle.memory.specs.declared.Bank.the-variants.{X, C, «V», N, D, R}
 use Rattle.memory.specs.Layout.{layoutOf}
 use Rattle.code.specs.declared.Instr.{Instr}
 use Rattle.code.specs.declared.Instr.the-variants.{PushInt, PushReal, Load, LoadIndexed, Unary, Binary, Jump, JumpIf, Unknown}

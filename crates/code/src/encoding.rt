@@ -7,7 +7,7 @@ use memory::numbers;
 use operators::tables;
 
 // The pattern of a single: a NaN, which differs from itself, has the one of `toBits`.
-fn pattern_of(x: f32) -> u32
+pub fn pattern_of(x: f32) -> u32
     ensures { λ r. ⌜ r ≡ toBits binary32 x ⌝ }
 {
     if x == x { f32::to_bits(x) } else { 0x7fc0_0000 }

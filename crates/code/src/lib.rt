@@ -1,11 +1,15 @@
 // Instructions and their eight bytes. docs/INSTRUCTIONS.md is the page of them.
 ghost use mathlib.Core.Path.{_≡_};
+ghost use Rattle.values.specs.Patterns.{signedOf};
+ghost use Rattle.operators.specs.Tables.{unaryOf, binaryOf};
+ghost use Rattle.memory.specs.Numbers.{bankNumbered};
 ghost use Rattle.code.specs.Instructions.{alone, pushReal, loadOf, indexedOf, unaryInstr, binaryInstr, instruction, decodeAt};
 use memory::Bank;
 use memory::numbers;
 use memory::numbers::BankOf;
 use operators::BinaryOp;
 use operators::UnaryOp;
+use operators::tables;
 use operators::tables::BinaryOf;
 use operators::tables::UnaryOf;
 
@@ -24,32 +28,32 @@ pub enum Instr {
     Unknown,
 }
 
-// A part of the eight bytes that must be 0.
-fn alone8(rest: u8, i: Instr) -> Instr
-    ensures { λ r. ⌜ r ≡ alone rest i ⌝ }
+// One function for each class of instruction. The operand or the word that the class does not use must be 0.
+fn push_int(operand: u8, word: u32) -> Instr
+    ensures { λ r. ⌜ r ≡ alone operand (Instr.PushInt (signedOf 32 word)) ⌝ }
 {
-    if rest == 0 { i } else { Instr::Unknown }
+    if operand != 0 {
+        return Instr::Unknown;
+    }
+    Instr::PushInt(values::patterns::from_pattern(word))
 }
 
-fn alone32(rest: u32, i: Instr) -> Instr
-    ensures { λ r. ⌜ r ≡ alone rest i ⌝ }
+fn push_real(operand: u8, word: u32) -> Instr
+    ensures { λ r. ⌜ r ≡ alone operand (pushReal word) ⌝ }
 {
-    if rest == 0 { i } else { Instr::Unknown }
-}
-
-fn push_real(word: u32) -> Instr
-    ensures { λ r. ⌜ r ≡ pushReal word ⌝ }
-{
+    if operand != 0 {
+        return Instr::Unknown;
+    }
     if word / 8388608 % 256 == 255 {
         return Instr::Unknown;
     }
     Instr::PushReal(f32::from_bits(word))
 }
 
-fn load(bank: BankOf, word: u32) -> Instr
-    ensures { λ r. ⌜ r ≡ loadOf bank word ⌝ }
+fn load(operand: u8, word: u32) -> Instr
+    ensures { λ r. ⌜ r ≡ loadOf (bankNumbered operand) word ⌝ }
 {
-    match bank {
+    match numbers::bank_numbered(operand) {
         BankOf::Is(b) => {
             if word < memory::layout_of(b).elements {
                 Instr::Load(b, word)
@@ -61,31 +65,58 @@ fn load(bank: BankOf, word: u32) -> Instr
     }
 }
 
-fn load_indexed(bank: BankOf) -> Instr
-    ensures { λ r. ⌜ r ≡ indexedOf bank ⌝ }
+fn load_indexed(operand: u8, word: u32) -> Instr
+    ensures { λ r. ⌜ r ≡ alone word (indexedOf (bankNumbered operand)) ⌝ }
 {
-    match bank {
+    if word != 0 {
+        return Instr::Unknown;
+    }
+    match numbers::bank_numbered(operand) {
         BankOf::Is(b) => Instr::LoadIndexed(b),
         BankOf::Nothing => Instr::Unknown,
     }
 }
 
-fn unary(op: UnaryOf) -> Instr
-    ensures { λ r. ⌜ r ≡ unaryInstr op ⌝ }
+fn unary(operand: u8, word: u32) -> Instr
+    ensures { λ r. ⌜ r ≡ alone word (unaryInstr (unaryOf operand)) ⌝ }
 {
-    match op {
+    if word != 0 {
+        return Instr::Unknown;
+    }
+    match tables::unary_of(operand) {
         UnaryOf::Is(o) => Instr::Unary(o),
         UnaryOf::Nothing => Instr::Unknown,
     }
 }
 
-fn binary(op: BinaryOf) -> Instr
-    ensures { λ r. ⌜ r ≡ binaryInstr op ⌝ }
+fn binary(operand: u8, word: u32) -> Instr
+    ensures { λ r. ⌜ r ≡ alone word (binaryInstr (binaryOf operand)) ⌝ }
 {
-    match op {
+    if word != 0 {
+        return Instr::Unknown;
+    }
+    match tables::binary_of(operand) {
         BinaryOf::Is(o) => Instr::Binary(o),
         BinaryOf::Nothing => Instr::Unknown,
     }
+}
+
+fn jump(operand: u8, word: u32) -> Instr
+    ensures { λ r. ⌜ r ≡ alone operand (Instr.Jump word) ⌝ }
+{
+    if operand != 0 {
+        return Instr::Unknown;
+    }
+    Instr::Jump(word)
+}
+
+fn jump_if(truth: bool, operand: u8, word: u32) -> Instr
+    ensures { λ r. ⌜ r ≡ alone operand (Instr.JumpIf truth word) ⌝ }
+{
+    if operand != 0 {
+        return Instr::Unknown;
+    }
+    Instr::JumpIf(truth, word)
 }
 
 // The instruction of an opcode, an operand and a word.
@@ -93,18 +124,15 @@ pub fn instruction_of(opcode: u8, operand: u8, word: u32) -> Instr
     ensures { λ r. ⌜ r ≡ instruction opcode operand word ⌝ }
 {
     match opcode {
-        1 => alone8(
-            operand,
-            Instr::PushInt(values::patterns::from_pattern(word)),
-        ),
-        2 => alone8(operand, push_real(word)),
-        3 => load(numbers::bank_numbered(operand), word),
-        4 => alone32(word, load_indexed(numbers::bank_numbered(operand))),
-        5 => alone32(word, unary(operators::tables::unary_of(operand))),
-        6 => alone32(word, binary(operators::tables::binary_of(operand))),
-        7 => alone8(operand, Instr::Jump(word)),
-        8 => alone8(operand, Instr::JumpIf(false, word)),
-        9 => alone8(operand, Instr::JumpIf(true, word)),
+        1 => push_int(operand, word),
+        2 => push_real(operand, word),
+        3 => load(operand, word),
+        4 => load_indexed(operand, word),
+        5 => unary(operand, word),
+        6 => binary(operand, word),
+        7 => jump(operand, word),
+        8 => jump_if(false, operand, word),
+        9 => jump_if(true, operand, word),
         _ => Instr::Unknown,
     }
 }
@@ -117,9 +145,9 @@ pub fn decode(code: &[u8], place: usize) -> Instr
         return Instr::Unknown;
     }
     let at = 8 * place;
+    if words::word16(code[at + 2], code[at + 3]) != 0 {
+        return Instr::Unknown;
+    }
     let word = words::word32(code[at + 4], code[at + 5], code[at + 6], code[at + 7]);
-    alone32(
-        words::word16(code[at + 2], code[at + 3]),
-        instruction_of(code[at], code[at + 1], word),
-    )
+    instruction_of(code[at], code[at + 1], word)
 }

@@ -2,11 +2,10 @@
 use mathlib.Core.Path.{_≡_, refl, ap}
 use mathlib.Core.List.{List, [], _∷_}
 use Prim.Native.Nat.{ℕ, zero, suc, _+_, _-_, _≤_, _<_}
-use native.Mathlib.Nat.{sub-zero, suc-sub-suc}
 use native.Mathlib.Numerals.{add-one}
 use native.Mathlib.Omega.{arith}
 use lib.IntN.{pos}
-use lib.ListN.{length, getD, set, drop}
+use lib.ListN.{length, getD, set}
 use lib.Seq.{getD-set-other, getD-set-same}
 use borrow.Author.Tests.{ne-eqb}
 use Rattle.values.specs.declared.Value.{Value}
@@ -26,20 +25,6 @@ pub length-held : (h : ℕ) (s : List Value) → length (held h s) ≡ h
 unfolding held
 length-held zero s = refl
 length-held (suc h) s = ap suc (length-held h s)
-
--- the value that k others lie on
-pub held-at : (h k : ℕ) (s : List Value) → k < h → getD (held h s) k none ≡ getD s (h - suc k) none
-unfolding held
-held-at zero k s p = absurd (omega arith)
-held-at (suc h) zero s p = rw (suc-sub-suc h 0, sub-zero)
-held-at (suc h) (suc k) s p = rw (suc-sub-suc h (suc k)) (held-at h k s (omega arith))
-
--- the t last ones taken
-pub held-drop : (h t : ℕ) (s : List Value) → t ≤ h → drop t (held h s) ≡ held (h - t) s
-unfolding held
-held-drop h zero s p = rw sub-zero
-held-drop zero (suc t) s p = absurd (omega arith)
-held-drop (suc h) (suc t) s p = rw suc-sub-suc (held-drop h t s (omega arith))
 
 held-set : (h : ℕ) (s : List Value) (i : ℕ) (v : Value) → h ≤ i → held h (set s i v) ≡ held h s
 unfolding held

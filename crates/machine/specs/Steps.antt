@@ -1,8 +1,7 @@
--- How the code works out `act`: first what an instruction takes, then what it makes of that. For the contracts of the private functions; a reader believes
--- Machine alone.
-use mathlib.Core.Bool.{cond, Bool·beq}
-use Prim.Native.Nat.{ℕ}
-use lib.Dec.{eqb}
+-- How the code works out `act` on an array of which the first h values are held. For the contracts of the private functions; a reader believes Machine alone.
+use mathlib.Core.Bool.{Bool, cond, Bool·beq}
+use Prim.Native.Nat.{ℕ, _-_}
+use lib.Dec.{eqb, ltb}
 use Rattle.values.specs.declared.Value.{Value}
 use Rattle.values.specs.declared.Value.the-variants.{Int, Real}
 use Rattle.values.specs.declared.Outcome.{Outcome}
@@ -17,32 +16,34 @@ use Rattle.machine.specs.declared.Ran.{Ran}
 use Rattle.machine.specs.declared.Step.{Step}
 use Rattle.machine.specs.declared.Step.the-variants.{Push, Skip, End}
 
-abbrev pub takesOf : Instr → ℕ
-takesOf (PushInt z) = 0
-takesOf (PushReal x) = 0
-takesOf (Load b i) = 0
-takesOf (LoadIndexed b) = 1
-takesOf (Unary o) = 1
-takesOf (Binary o) = 2
-takesOf (Jump d) = 0
-takesOf (JumpIf t d) = 1
-takesOf Unknown = 0
+-- t of h values are taken: stuck where there are fewer
+abbrev pub taking : ℕ → ℕ → Step → Step
+taking h t x = cond (ltb h t) (End Stuck) x
 
-abbrev pub outcomeStep : Outcome → Step
-outcomeStep (Outcome.Done v) = Push v
-outcomeStep (Outcome.Stopped f) = End (Stopped f)
-outcomeStep Outcome.WrongKind = End Stuck
+abbrev pub outcomeStep : ℕ → Outcome → Step
+outcomeStep k (Outcome.Done v) = Push k v
+outcomeStep k (Outcome.Stopped f) = End (Stopped f)
+outcomeStep k Outcome.WrongKind = End Stuck
 
-abbrev pub stepOf : Environment → Instr → Value → Value → Step
-stepOf E (PushInt z) l r = Push (Int z)
-stepOf E (PushReal x) l r = Push (Real x)
-stepOf E (Load b i) l r = outcomeStep (E .cell b i)
-stepOf E (LoadIndexed b) l r = outcomeStep (E .indexed b r)
-stepOf E (Unary o) l r = outcomeStep (unaryRule o r)
-stepOf E (Binary o) l r = outcomeStep (binaryRule o l r)
-stepOf E (Jump d) l r = Skip d
-stepOf E (JumpIf t d) l r = cond (Bool·beq (truthRule r) t) (Skip d) (Skip 0)
-stepOf E Unknown l r = End Stuck
+-- an outcome worked out from the t last of h values
+abbrev pub givenStep : ℕ → ℕ → Outcome → Step
+givenStep h t o = taking h t (outcomeStep (h - t) o)
+
+-- a jump over d instructions if the truth of v, the last of h values, is t
+abbrev pub jumpStep : ℕ → Value → Bool → ℕ → Step
+jumpStep h v t d = taking h 1 (cond (Bool·beq (truthRule v) t) (Skip (h - 1) d) (Skip (h - 1) 0))
+
+-- l and r are the two last of h values
+abbrev pub stepOf : Environment → Instr → ℕ → Value → Value → Step
+stepOf E (PushInt z) h l r = Push h (Int z)
+stepOf E (PushReal x) h l r = Push h (Real x)
+stepOf E (Load b i) h l r = givenStep h 0 (E .cell b i)
+stepOf E (LoadIndexed b) h l r = givenStep h 1 (E .indexed b r)
+stepOf E (Unary o) h l r = givenStep h 1 (unaryRule o r)
+stepOf E (Binary o) h l r = givenStep h 2 (binaryRule o l r)
+stepOf E (Jump d) h l r = Skip h d
+stepOf E (JumpIf t d) h l r = jumpStep h r t d
+stepOf E Unknown h l r = End Stuck
 
 -- k instructions begun
 abbrev pub endedAt : ℕ → Ended → Ran

@@ -3,7 +3,7 @@ ghost use mathlib.Core.Path.{_≡_};
 ghost use Prim.Native.Nat.{_-_};
 ghost use Rattle.memory.specs.Environment.{memoryOf};
 ghost use Rattle.machine.specs.Machine.{runs};
-ghost use Rattle.machine.specs.Steps.{takesOf, outcomeStep, stepOf, stuckAt, finishOf};
+ghost use Rattle.machine.specs.Steps.{givenStep, jumpStep, stepOf, stuckAt, finishOf};
 use code::Instr;
 use values::Fault;
 use values::Outcome;
@@ -23,53 +23,56 @@ pub struct Ran {
     pub count: usize,
 }
 
-// What one instruction does with the values that it takes: leaves one, skips instructions, or ends the run.
+// What an instruction does: of the values held it keeps the first, as many as the first number says, and pushes one on them or
+// skips instructions; or it ends the run.
 pub enum Step {
-    Push(Value),
-    Skip(usize),
+    Push(usize, Value),
+    Skip(usize, usize),
     End(Ended),
 }
 
-// How many values an instruction takes.
-fn takes(i: Instr) -> usize
-    ensures { λ r. ⌜ r ≡ takesOf i ⌝ }
+// An outcome worked out from the t last of h values.
+fn given(h: usize, t: usize, o: Outcome) -> Step
+    ensures { λ r. ⌜ r ≡ givenStep h t o ⌝ }
 {
-    match i {
-        Instr::LoadIndexed(_) | Instr::Unary(_) | Instr::JumpIf(_, _) => 1,
-        Instr::Binary(_) => 2,
-        _ => 0,
+    if h < t {
+        return Step::End(Ended::Stuck);
     }
-}
-
-fn given(o: Outcome) -> Step
-    ensures { λ r. ⌜ r ≡ outcomeStep o ⌝ }
-{
     match o {
-        Outcome::Done(v) => Step::Push(v),
+        Outcome::Done(v) => Step::Push(h - t, v),
         Outcome::Stopped(f) => Step::End(Ended::Stopped(f)),
         Outcome::WrongKind => Step::End(Ended::Stuck),
     }
 }
 
-// left and right are the values taken: only right for an instruction that takes one, neither for one that takes none.
-fn perform(i: Instr, image: &[u8], left: Value, right: Value) -> Step
-    ensures { λ r. ⌜ r ≡ stepOf (memoryOf (now (image .entry))) i left right ⌝ }
+// A jump over d instructions if the truth of v, the last of h values, is t.
+fn jump_if(h: usize, v: Value, t: bool, d: u32) -> Step
+    ensures { λ r. ⌜ r ≡ jumpStep h v t d ⌝ }
+{
+    if h < 1 {
+        return Step::End(Ended::Stuck);
+    }
+    if operators::truth(v) == t {
+        Step::Skip(h - 1, d as usize)
+    } else {
+        Step::Skip(h - 1, 0)
+    }
+}
+
+// With h values held, of which right is the last and left the one before it; where there are fewer, no instruction uses them.
+// Each arm tests the height for itself, so that a run branches once on its instruction.
+fn perform(i: Instr, image: &[u8], h: usize, left: Value, right: Value) -> Step
+    ensures { λ r. ⌜ r ≡ stepOf (memoryOf (now (image .entry))) i h left right ⌝ }
 {
     match i {
-        Instr::PushInt(z) => Step::Push(Value::Int(z)),
-        Instr::PushReal(x) => Step::Push(Value::Real(x)),
-        Instr::Load(b, e) => given(memory::cells::read(image, b, e)),
-        Instr::LoadIndexed(b) => given(memory::cells::read_indexed(image, b, right)),
-        Instr::Unary(o) => given(operators::unary(o, right)),
-        Instr::Binary(o) => given(operators::binary(o, left, right)),
-        Instr::Jump(d) => Step::Skip(d as usize),
-        Instr::JumpIf(t, d) => {
-            if operators::truth(right) == t {
-                Step::Skip(d as usize)
-            } else {
-                Step::Skip(0)
-            }
-        }
+        Instr::PushInt(z) => Step::Push(h, Value::Int(z)),
+        Instr::PushReal(x) => Step::Push(h, Value::Real(x)),
+        Instr::Load(b, e) => given(h, 0, memory::cells::read(image, b, e)),
+        Instr::LoadIndexed(b) => given(h, 1, memory::cells::read_indexed(image, b, right)),
+        Instr::Unary(o) => given(h, 1, operators::unary(o, right)),
+        Instr::Binary(o) => given(h, 2, operators::binary(o, left, right)),
+        Instr::Jump(d) => Step::Skip(h, d as usize),
+        Instr::JumpIf(t, d) => jump_if(h, right, t, d),
         Instr::Unknown => Step::End(Ended::Stuck),
     }
 }
@@ -109,25 +112,21 @@ pub fn run(code: &[u8], n: usize, image: &[u8]) -> Ran
         count += 1;
         let i = code::decode(code, place);
         place += 1;
-        let t = takes(i);
-        if h < t {
-            return stuck(count);
-        }
         let right = stack[from_top(h, 1)];
         let left = stack[from_top(h, 2)];
-        h -= t;
-        match perform(i, image, left, right) {
-            Step::Push(v) => {
-                if 128 <= h {
+        match perform(i, image, h, left, right) {
+            Step::Push(k, v) => {
+                if 128 <= k {
                     return stuck(count);
                 }
-                stack[h] = v;
-                h += 1;
+                stack[k] = v;
+                h = k + 1;
             }
-            Step::Skip(d) => {
+            Step::Skip(k, d) => {
                 if n - place < d {
                     return stuck(count);
                 }
+                h = k;
                 place += d;
             }
             Step::End(end) => return Ran { end, count },

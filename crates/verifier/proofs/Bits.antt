@@ -1,15 +1,20 @@
--- Kinds as bits: packing, unpacking and comparing them, one kind at a time.
-use mathlib.Core.Path.{_≡_, refl, sym, ap, _∙_}
+-- Kinds as bits: pushing, popping and comparing them, and unpacking them into the array, one at a time.
+use mathlib.Core.Path.{_≡_, refl, sym, ap, _∙_, subst}
+use mathlib.Core.Bool.{Bool, true, false, true≢false, false≢true}
 use mathlib.Core.List.{List, _∷_}
 use Prim.Native.Nat.{ℕ, zero, suc, _+_, _-_, _*_, _/_, _%_, _^_, _≤_, _<_}
 use native.Mathlib.Nat.{lt-of-lt-of-le, lt-of-not-le, not-le-of-lt, le-trans, mul-le-mul-right, le-add-right, pow-succ'}
 use native.Mathlib.Numerals.{add-one}
 use native.Mathlib.Omega.{arith}
+use lib.Dec.{eqb}
 use lib.ListN.{length, getD, set, length-set}
 use lib.Pow.{pow-mono}
 use lib.Seq.{getD-set-same, getD-set-other}
-use Rattle.verifier.specs.declared.packing.Packed.{Packed}
-use Rattle.verifier.specs.Shapes.{numberKind, kindNumber, heldKinds, bitKinds, word}
+use borrow.Author.Tests.{eqb-true, eqb-false}
+use Rattle.verifier.specs.declared.packing.Held.{Held}
+use Rattle.verifier.specs.Typing.{Shape}
+use Rattle.verifier.specs.Shapes.{numberKind, kindNumber, heldKinds, bitKinds, word, kindsOf, Neat, Pushed, Popped}
+use Rattle.verifier.specs.Pass.{Agrees}
 
 -- two words halved still fit
 pub halves-fit : (low high : ℕ) → low < 2 ^ 64 → high % 2 * 9223372036854775808 + low / 2 < 2 ^ 64
@@ -18,13 +23,93 @@ halves-fit low high l =
     let b : high % 2 ≤ 1 = omega arith in
     omega (arith, a, b)
 
+pub bits-length : (h w : ℕ) → length (bitKinds h w) ≡ h
+bits-length zero w = refl
+bits-length (suc h) w = ap suc (bits-length h (w / 2))
+
+-- ---- a push
+
+-- the high word has room for one more bit
+pub room-high : {w : Held} → Neat w → w .height < 128 → w .high < 2 ^ 63
+room-high {w} p l = lt-of-not-le (λ (g : 2 ^ 63 ≤ w .high). not-le-of-lt (lt-of-lt-of-le (p .few) (pow-mono {i = w .height} {j = 127} (omega arith)))
+    (le-trans (mul-le-mul-right (2 ^ 64) g) (le-add-right (w .high * 2 ^ 64) (w .low))))
+
+module _ {n : ℕ} {w r : Held} (bit : n < 2) (p : Pushed n w r) where
+  pub neat-pushed : Neat w → w .height < 128 → Neat r
+  neat-pushed k l = record {
+    low = omega (arith, p .height);
+    few = rw (p .height, p .bits, add-one (w .height), pow-succ' 2 (w .height)) (omega (arith, k .few));
+  }
+
+  pub kinds-pushed : kindsOf r ≡ numberKind n ∷ kindsOf w
+  kinds-pushed =
+      let e : (n + 2 * word w) % 2 ≡ n = omega arith in
+      let d : (n + 2 * word w) / 2 ≡ word w = omega arith in
+      rw (p .height, p .bits, add-one (w .height), e, d)
+
+-- ---- a pop
+
+module _ {w r : Held} (some : 0 < w .height) (p : Popped w r) where
+  above : w .height ≡ suc (r .height)
+  above = omega (arith, p .height)
+
+  pub neat-popped : Neat w → Neat r
+  neat-popped k =
+      let f : word w < 2 ^ suc (r .height) = subst (λ h. word w < 2 ^ h) above (k .few) in
+      record { low = omega (arith, p .height, k .low); few = rw (p .bits) (omega (arith, rw (pow-succ' 2 (r .height)) at f)) }
+
+-- ---- comparing
+
+number-back : (b : ℕ) → b < 2 → kindNumber (numberKind b) ≡ b
+number-back zero l = refl
+number-back (suc zero) l = refl
+number-back (suc (suc b)) l = absurd (omega arith)
+
+-- of h bits there is one number with the same kinds
+bits-same : (h w v : ℕ) → w < 2 ^ h → v < 2 ^ h → bitKinds h w ≡ bitKinds h v → w ≡ v
+bits-same zero w v l m e = omega arith
+bits-same (suc h) w v l m e =
+    let l₂ : w < 2 * 2 ^ h = rw (pow-succ' 2 h) at l in
+    let m₂ : v < 2 * 2 ^ h = rw (pow-succ' 2 h) at m in
+    let f : numberKind (w % 2) ≡ numberKind (v % 2) = cc in
+    let g : w % 2 ≡ v % 2 = sym (number-back (w % 2) (omega arith)) ∙ ap kindNumber f ∙ number-back (v % 2) (omega arith) in
+    let d : w / 2 ≡ v / 2 = bits-same h (w / 2) (v / 2) (omega arith) (omega arith) (cc) in
+    omega arith
+
+pub agree : {b : Bool} {s r : Shape} → b ≡ true → s ≡ r → Agrees b s r
+agree y e = record { yes = λ _. e; no = λ f. absurd (true≢false (sym y ∙ f)) }
+
+pub disagree : {b : Bool} {s r : Shape} → b ≡ false → (s ≡ r → ⊥) → Agrees b s r
+disagree n f = record { yes = λ e. absurd (false≢true (sym n ∙ e)); no = λ _. f }
+
+module _ (a c : Held) where
+  pub heights-same : kindsOf a ≡ kindsOf c → a .height ≡ c .height
+  heights-same e = sym (bits-length (a .height) (word a)) ∙ ap length e ∙ bits-length (c .height) (word c)
+
+  module _ (p : Neat a) (q : Neat c) where
+    words-same : kindsOf a ≡ kindsOf c → word a ≡ word c
+    words-same e =
+        let h : a .height ≡ c .height = heights-same e in
+        bits-same (c .height) (word a) (word c) (subst (λ h. word a < 2 ^ h) h (p .few)) (q .few) (ap (λ h. bitKinds h (word a)) (sym h) ∙ e)
+
+    pub lows-same : a .low < 2 ^ 64 → c .low < 2 ^ 64 → kindsOf a ≡ kindsOf c → a .low ≡ c .low
+    lows-same l m e = omega (arith, words-same e)
+
+    -- so where the rest is the same, the high words decide
+    pub highs-agree : a .height ≡ c .height → a .low ≡ c .low → Agrees (eqb (a .high) (c .high)) (kindsOf a) (kindsOf c)
+    highs-agree h l = go (eqb (a .high) (c .high)) refl
+      where
+        go : (b : Bool) → eqb (a .high) (c .high) ≡ b → Agrees b (kindsOf a) (kindsOf c)
+        go true e = agree refl (rw (h, l, eqb-true (a .high) (c .high) e))
+        go false e = disagree refl (λ f. eqb-false (a .high) (c .high) e (omega (arith, words-same f)))
+
 -- ---- the array and the bits, kind by kind
 
 none : (a : List ℕ) (i v : ℕ) → i ≤ 0 → heldKinds a i ≡ bitKinds i v
 none a zero v l = refl
 none a (suc i) v l = absurd (omega arith)
 
-apart : (a : List ℕ) (i g v : ℕ) → i ≡ suc g → heldKinds a i ≡ bitKinds i v → (numberKind (getD a g 0) ≡ numberKind (v % 2)) × (heldKinds a g ≡ bitKinds g (v / 2))
+pub apart : (a : List ℕ) (i g v : ℕ) → i ≡ suc g → heldKinds a i ≡ bitKinds i v → (numberKind (getD a g 0) ≡ numberKind (v % 2)) × (heldKinds a g ≡ bitKinds g (v / 2))
 apart a i g v n e =
     let f : numberKind (getD a g 0) ∷ heldKinds a g ≡ numberKind (v % 2) ∷ bitKinds g (v / 2) = rw n at e in
     (cc, cc)
@@ -32,77 +117,28 @@ apart a i g v n e =
 together : (a : List ℕ) (i g v : ℕ) → i ≡ suc g → numberKind (getD a g 0) ≡ numberKind (v % 2) → heldKinds a g ≡ bitKinds g (v / 2) → heldKinds a i ≡ bitKinds i v
 together a i g v n e f = rw (n, e, f)
 
--- ---- packing: the kinds of the first i are the lowest i bits, and no other bit is set
+-- ---- unpacking: with the bits left below them, the array's kinds from there on make up the whole
 
-pub record Packs (a : List ℕ) (i v : ℕ) : Type 0 where
-  pub few : v < 2 ^ i
-  pub kinds : bitKinds i v ≡ heldKinds a i
-
-pub packs-more : (a : List ℕ) (i v b : ℕ) {w : ℕ} → Packs a i v → b < 2 → numberKind b ≡ numberKind (getD a i 0) → w ≡ b + 2 * v → Packs a (i + 1) w
-packs-more a i v b p l e q =
-    let r : (b + 2 * v) % 2 ≡ b = omega arith in
-    let d : (b + 2 * v) / 2 ≡ v = omega arith in
-    rw (q, add-one i) (record {
-      few = rw (pow-succ' 2 i) (omega (arith, p .few));
-      kinds = rw (r, d, p .kinds, e);
-    })
-
--- so the high word has room for one more bit
-pub room-high : (a : List ℕ) (i : ℕ) (w : Packed) → Packs a i (word w) → i < 128 → w .high < 2 ^ 63
-room-high a i w p l = lt-of-not-le (λ (g : 2 ^ 63 ≤ w .high). not-le-of-lt (lt-of-lt-of-le (p .few) (pow-mono {i = i} {j = 127} (omega arith)))
-    (le-trans (mul-le-mul-right (2 ^ 64) g) (le-add-right (w .high * 2 ^ 64) (w .low))))
-
--- ---- unpacking: with the lowest i bits below them, the array's kinds from i on make up the whole
-
-pub record Unpacks (a : List ℕ) (h w i v : ℕ) : Type 0 where
+pub record Unpacks (a : List ℕ) (all w : Held) : Type 0 where
   pub whole : length a ≡ 128
-  pub within : i ≤ h
-  pub rest : (b : List ℕ) → ((j : ℕ) → i ≤ j → getD b j 0 ≡ getD a j 0) → heldKinds b i ≡ bitKinds i v → heldKinds b h ≡ bitKinds h w
+  pub within : w .height ≤ all .height
+  pub rest : (b : List ℕ) → ((j : ℕ) → w .height ≤ j → getD b j 0 ≡ getD a j 0) → heldKinds b (w .height) ≡ kindsOf w → heldKinds b (all .height) ≡ kindsOf all
 
-pub unpacks-start : {a : List ℕ} {h w : ℕ} → length a ≡ 128 → Unpacks a h w h w
+pub unpacks-start : {a : List ℕ} {all : Held} → length a ≡ 128 → Unpacks a all all
 unpacks-start e = record { whole = e; within = omega arith; rest = λ b _ f. f }
 
-pub unpacks-more : {a : List ℕ} {h w i v x u : ℕ} → Unpacks a h w i v → h ≤ 128 → 1 ≤ i → x ≡ v % 2 → u ≡ v / 2 → Unpacks (set a (i - 1) x) h w (i - 1) u
-unpacks-more {a} {h} {w} {i} {v} {x} {u} p m l e f = record {
-  whole = length-set a (i - 1) x ∙ p .whole;
-  within = omega (arith, p .within);
-  rest = λ b g q. p .rest b (λ j k. g j (omega arith) ∙ getD-set-other a (i - 1) j x 0 (above j k))
-      (together b i (i - 1) v (omega arith) (ap (λ n. numberKind n) (g (i - 1) (omega arith) ∙ getD-set-same a (i - 1) x 0 (omega (arith, p .whole, p .within)) ∙ e)) (q ∙ ap (bitKinds (i - 1)) f));
+pub unpacks-more : {a : List ℕ} {all w r : Held} {x : ℕ} → Unpacks a all w → all .height ≤ 128 → 0 < w .height → x ≡ word w % 2 → Popped w r → Unpacks (set a (r .height) x) all r
+unpacks-more {a} {all} {w} {r} {x} u m l e p = record {
+  whole = length-set a (r .height) x ∙ u .whole;
+  within = omega (arith, u .within, p .height);
+  rest = λ b g q. u .rest b (λ j k. g j (omega (arith, p .height)) ∙ getD-set-other a (r .height) j x 0 (over j k))
+      (together b (w .height) (r .height) (word w) (above l p)
+      (ap (λ n. numberKind n) (g (r .height) (omega arith) ∙ getD-set-same a (r .height) x 0 (omega (arith, u .whole, u .within, p .height)) ∙ e))
+      (q ∙ ap (bitKinds (r .height)) (p .bits)));
 }
   where
-    above : (j : ℕ) → i ≤ j → j ≡ i - 1 → ⊥
-    above j k n = omega arith
+    over : (j : ℕ) → w .height ≤ j → j ≡ r .height → ⊥
+    over j k n = omega (arith, p .height)
 
-pub unpacked : {a : List ℕ} {h w i v : ℕ} → Unpacks a h w i v → i ≤ 0 → heldKinds a h ≡ bitKinds h w
-unpacked {a} {i = i} {v = v} p l = p .rest a (λ j _. refl) (none a i v l)
-
--- ---- comparing: what is left to compare decides the whole
-
-number-back : (b : ℕ) → b < 2 → kindNumber (numberKind b) ≡ b
-number-back zero l = refl
-number-back (suc zero) l = refl
-number-back (suc (suc b)) l = absurd (omega arith)
-
-pub record Compares (a : List ℕ) (h w i v : ℕ) : Type 0 where
-  pub within : i ≤ h
-  pub so : heldKinds a i ≡ bitKinds i v → heldKinds a h ≡ bitKinds h w
-  pub back : heldKinds a h ≡ bitKinds h w → heldKinds a i ≡ bitKinds i v
-
-pub compares-start : {a : List ℕ} {h w : ℕ} → Compares a h w h w
-compares-start = record { within = omega arith; so = λ e. e; back = λ e. e }
-
-module _ {a : List ℕ} {h w i v x : ℕ} (b : ℕ) (p : Compares a h w i v) (some : 1 ≤ i) (is : numberKind b ≡ numberKind (getD a (i - 1) 0)) (low : x ≡ v % 2) where
-  pub compares-more : {u : ℕ} → b ≡ x → u ≡ v / 2 → Compares a h w (i - 1) u
-  compares-more {u} e f = record {
-    within = omega (arith, p .within);
-    so = λ q. p .so (together a i (i - 1) v (omega arith) (sym is ∙ ap (λ n. numberKind n) (e ∙ low)) (q ∙ ap (bitKinds (i - 1)) f));
-    back = λ q. apart a i (i - 1) v (omega arith) (p .back q) .1 ∙ ap (bitKinds (i - 1)) (sym f);
-  }
-
-  pub compares-not : b < 2 → (b ≡ x → ⊥) → heldKinds a h ≡ bitKinds h w → ⊥
-  compares-not l n q =
-      let e : numberKind b ≡ numberKind (v % 2) = is ∙ apart a i (i - 1) v (omega arith) (p .back q) .0 in
-      n (sym (number-back b l) ∙ ap kindNumber e ∙ number-back (v % 2) (omega arith) ∙ sym low)
-
-pub compared : {a : List ℕ} {h w i v : ℕ} → Compares a h w i v → i ≤ 0 → heldKinds a h ≡ bitKinds h w
-compared {a} {i = i} {v = v} p l = p .so (none a i v l)
+pub unpacked : {a : List ℕ} {all w : Held} → Unpacks a all w → w .height ≤ 0 → heldKinds a (all .height) ≡ kindsOf all
+unpacked {a} {w = w} u l = u .rest a (λ j _. refl) (none a (w .height) (word w) l)

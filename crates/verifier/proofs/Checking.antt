@@ -6,7 +6,7 @@ use Prim.Native.Nat.{ℕ, zero, suc, _+_, _-_, _≤_, _<_}
 use native.Mathlib.Nat.{zero-add}
 use native.Mathlib.Numerals.{add-one}
 use native.Mathlib.Omega.{arith}
-use lib.ListN.{length, getD, replicate}
+use lib.ListN.{length, getD, replicate, length-replicate}
 use borrow.Author.Tests.{leb-true, le-leb}
 use Rattle.values.specs.declared.Kind.{Kind}
 use Rattle.code.specs.declared.Instr.{Instr}
@@ -19,10 +19,24 @@ use Rattle.verifier.specs.declared.Verdict.{Verdict}
 use Rattle.verifier.specs.declared.Verdict.the-variants.{Accepted, Refused}
 use Rattle.verifier.specs.Typing.{stands}
 use Rattle.verifier.specs.Accepts.{instrAt, Accepts, Right}
-use Rattle.verifier.specs.Shapes.{State, rejected, stateOf, height, Room, tableOf, Table}
+use Rattle.verifier.specs.Shapes.{State, rejected, none, Keeps, stateOf, kept, tableOf, Table, Blank}
 use Rattle.verifier.specs.Pass.{verdictOf, Joins, Steps}
 use Rattle.verifier.proofs.Pass.{unfailed, Knows, Or, passes, refusal, begins, joined, verdict-sound, verdict-complete}
 use Rattle.verifier.proofs.Onward.{stepped}
+use Rattle.verifier.proofs.Held.{keeps-none}
+
+-- tables of m places, filled with 0
+zeros : (m q : ℕ) → _≡_ {A = ℕ} (getD (replicate m 0) q 0) 0
+zeros zero q = refl
+zeros (suc m) zero = refl
+zeros (suc m) (suc q) = zeros m q
+
+pub blank : (m n : ℕ) → n < m → Blank n (replicate m 0) (replicate m 0) (replicate m 0)
+blank m n l = record {
+  room = omega (arith, length-replicate {A = ℕ} m 0);
+  table = record { tops-size = refl; lows-size = refl; highs-size = refl; neat = λ q. rw (zeros m q) (record { low = omega arith; few = omega arith }) };
+  empty = zeros m;
+}
 
 -- an instruction that stands with m following stands with more
 pub stands-more : (i : Instr) {m n : ℕ} → m ≤ n → stands m i ≡ true → stands n i ≡ true
@@ -69,23 +83,18 @@ module _ (code : List ℕ) (n : ℕ) where
   abbrev pub Known : ℕ → (ℕ → State) → State → Type 0
   Known p brought o = Or (instructions code n) (Knows (instructions code n) p brought) o
 
-  pub record Passing (p : ℕ) (kinds tops lows highs : List ℕ) (flow : Flow) : Type 0 where
+  pub record Passing (m p : ℕ) (kinds tops lows highs : List ℕ) (flow : Flow) : Type 0 where
     pub within : p ≤ n
-    pub room : Room kinds (height flow)
-    pub table : Table tops lows highs
-    pub knows : Known p (tableOf tops lows highs) (stateOf kinds flow)
+    pub keeps : Keeps kinds (kept flow)
+    pub table : Table m tops lows highs
+    pub knows : Known p (tableOf tops lows highs) (stateOf flow)
 
-  zeros : (m q : ℕ) → _≡_ {A = ℕ} (getD (replicate m 0) q 0) 0
-  zeros zero q = refl
-  zeros (suc m) zero = refl
-  zeros (suc m) (suc q) = zeros m q
-
-  pub first : Passing 0 (replicate 128 0) (replicate 2049 0) (replicate 2049 0) (replicate 2049 0) (Flow.Holds 0)
-  first = record {
+  pub first : {tops lows highs : List ℕ} → Blank n tops lows highs → Passing (length tops) 0 (replicate 128 0) tops lows highs (Flow.Holds none)
+  first blank = record {
     within = omega arith;
-    room = record { whole = refl; low = omega arith };
-    table = record { whole-tops = refl; whole-lows = refl; whole-highs = refl; low = λ q. rw (zeros 2049 q) (omega arith) };
-    knows = passes (λ e. unfailed e) (begins (instructions code n) _ (λ q. rw (zeros 2049 q)));
+    keeps = keeps-none refl;
+    table = blank .table;
+    knows = passes (λ e. unfailed e) (begins (instructions code n) _ (λ q. rw (blank .empty q)));
   }
 
   -- ---- a turn

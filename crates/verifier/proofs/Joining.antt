@@ -1,48 +1,35 @@
--- Joining what flows into a place with what jumps brought there, on the arrays: each way through `join`.
-use mathlib.Core.Path.{_≡_, refl, sym, ap, _∙_}
+-- Joining what flows into a place with what jumps brought there: each way through `join`.
+use mathlib.Core.Path.{_≡_, subst}
 use mathlib.Core.Bool.{Bool, true, false}
 use mathlib.Core.List.{List}
-use Prim.Native.Nat.{ℕ, zero, suc, _-_, _/_, _≤_}
-use native.Mathlib.Omega.{arith}
-use lib.ListN.{length}
+use Prim.Native.Nat.{ℕ}
 use Rattle.verifier.specs.declared.Flow.{Flow}
 use Rattle.verifier.specs.declared.Flow.the-variants.{Refused, Unreached, Holds}
-use Rattle.verifier.specs.Shapes.{holds, heldKinds, bitKinds, stateOf, height, Room, entryOf}
+use Rattle.verifier.specs.declared.Jumps.{Jumps}
+use Rattle.verifier.specs.declared.Jumps.the-variants.{Nothing, Kinds}
+use Rattle.verifier.specs.declared.packing.Held.{Held}
+use Rattle.verifier.specs.Shapes.{kindsOf, Keeps, stateOf, kept, broughtOf}
 use Rattle.verifier.specs.Pass.{Agrees, Joins, alone, failed, takes, agrees, differs}
-use Rattle.verifier.proofs.Held.{held-length}
+use Rattle.verifier.proofs.Held.{keeps-none}
 
-pub bits-length : (h w : ℕ) → length (bitKinds h w) ≡ h
-bits-length zero w = refl
-bits-length (suc h) w = ap suc (bits-length h (w / 2))
+-- the flow f joins what the jumps j brought: r, with the array a
+abbrev Result : Flow → Jumps → List ℕ → Flow → Type 0
+Result f j a r = Keeps a (kept r) × Joins (stateOf f) (broughtOf j) (stateOf r)
 
-pub entry-some : (g w : ℕ) → (g ≡ 0 → ⊥) → entryOf g w ≡ holds (bitKinds (g - 1) w)
-entry-some zero w n = absurd (n refl)
-entry-some (suc h) w n = let e : suc h - 1 ≡ h = omega arith in rw e
+module _ {a : List ℕ} (f : Flow) (j : Jumps) (keeps : Keeps a (kept f)) where
+  pub join-none : j ≡ Nothing → Result f j a f
+  join-none e = (keeps, rw e alone)
 
-empty : {a : List ℕ} → length a ≡ 128 → Room a 0
-empty e = record { whole = e; low = omega arith }
+  pub join-failed : f ≡ Refused → Result f j a Refused
+  join-failed e = (keeps-none (keeps .whole), rw e failed)
 
--- the flow f, with the array a, joins an entry: r, with the array a′
-abbrev Result : List ℕ → Flow → ℕ → ℕ → List ℕ → Flow → Type 0
-Result a f g w a′ r = Room a′ (height r) × Joins (stateOf a f) (entryOf g w) (stateOf a′ r)
+  module _ {w : Held} (e : j ≡ Kinds w) where
+    pub join-takes : {v : Held} {a′ : List ℕ} → f ≡ Unreached v → Keeps a′ w → Result f j a′ (Holds w)
+    join-takes i k = (k, rw (e, i) takes)
 
-module _ {a : List ℕ} (f : Flow) (g w : ℕ) (room : Room a (height f)) where
-  pub join-none : g ≡ 0 → Result a f g w a f
-  join-none e = (room, rw e alone)
+    module _ {v : Held} {b : Bool} (i : f ≡ Holds v) (w′ : Agrees b (kindsOf v) (kindsOf w)) where
+      pub join-same : b ≡ true → Result f j a (Holds v)
+      join-same y = (subst (λ f. Keeps a (kept f)) i keeps, rw (e, i, ← w′ .yes y) agrees)
 
-  pub join-failed : f ≡ Refused → Result a f g w a Refused
-  join-failed e = (empty (room .whole), rw e failed)
-
-  pub join-takes : {a′ : List ℕ} → f ≡ Unreached → (g ≡ 0 → ⊥) → g ≤ 129 → length a′ ≡ 128 → heldKinds a′ (g - 1) ≡ bitKinds (g - 1) w → Result a f g w a′ (Holds (g - 1))
-  join-takes e n l whole k = (record { whole = whole; low = omega arith }, rw (e, entry-some g w n, k) takes)
-
-  module _ {h : ℕ} (e : f ≡ Holds h) (n : g ≡ 0 → ⊥) where
-    pub join-apart : (h ≡ g - 1 → ⊥) → Result a f g w a Refused
-    join-apart d = (empty (room .whole), rw (e, entry-some g w n) (differs (λ s. d (sym (held-length a h) ∙ ap length s ∙ bits-length (g - 1) w))))
-
-    module _ {b : Bool} (d : h ≡ g - 1) (w′ : Agrees b (heldKinds a (g - 1)) (bitKinds (g - 1) w)) where
-      pub join-same : b ≡ true → Result a f g w a (Holds (g - 1))
-      join-same y = (record { whole = room .whole; low = omega (arith, d, rw e at (room .low)) }, rw (e, d, entry-some g w n, w′ .yes y) agrees)
-
-      pub join-differs : b ≡ false → Result a f g w a Refused
-      join-differs y = (empty (room .whole), rw (e, d, entry-some g w n) (differs (w′ .no y)))
+      pub join-differs : b ≡ false → Result f j a Refused
+      join-differs n = (keeps-none (keeps .whole), rw (e, i) (differs (w′ .no n)))

@@ -1,53 +1,63 @@
--- A jump merges the kinds held into what jumps brought to its target, on the arrays: each way through `merge`.
-use mathlib.Core.Path.{_≡_, refl, sym, ap, _∙_}
+-- What jumps brought to a place, and a jump that merges the kinds held into it, on the arrays: each way through `brought` and `merge`.
+use mathlib.Core.Path.{_≡_, refl, sym, ap, _∙_, subst}
 use mathlib.Core.Bool.{Bool, true, false}
 use mathlib.Core.List.{List}
-use Prim.Native.Nat.{ℕ, _+_, _-_, _*_, _^_, _≤_, _<_}
+use Prim.Native.Nat.{ℕ, zero, suc, _+_, _-_, _<_}
 use native.Mathlib.Numerals.{add-one}
 use native.Mathlib.Omega.{arith}
 use lib.ListN.{length, getD, set, length-set}
 use lib.Seq.{getD-set-same, getD-set-other}
-use Rattle.verifier.specs.declared.packing.Packed.{Packed}
-use Rattle.verifier.specs.Shapes.{holds, heldKinds, bitKinds, word, tableOf, Table}
+use Rattle.verifier.specs.declared.packing.Held.{Held}
+use Rattle.verifier.specs.Shapes.{State, unreached, holds, kindsOf, none, Neat, entryOf, heldAt, tableOf, Table}
 use Rattle.verifier.specs.Pass.{Agrees, Merges, adds, has, clashes}
 use Rattle.verifier.proofs.Moves.{compare}
-use Rattle.verifier.proofs.Held.{held-length}
-use Rattle.verifier.proofs.Joining.{bits-length, entry-some}
 
-module _ {tops lows highs : List ℕ} (table : Table tops lows highs) (t h : ℕ) (inside : t < 2049) where
-  -- nothing was brought
-  module _ (p : Packed) where
-    pub stored : h ≤ 128 → Table (set tops t (h + 1)) (set lows t (p .low)) (set highs t (p .high))
-    stored l = record {
-      whole-tops = length-set tops t (h + 1) ∙ table .whole-tops;
-      whole-lows = length-set lows t (p .low) ∙ table .whole-lows;
-      whole-highs = length-set highs t (p .high) ∙ table .whole-highs;
-      low = λ q. compare q t
-          (λ e. rw (e, getD-set-same tops t (h + 1) 0 (omega (arith, table .whole-tops))) (omega arith))
-          (λ n. rw (getD-set-other tops t q (h + 1) 0 n) (table .low q));
+pub resized : {m n : ℕ} {tops lows highs : List ℕ} → m ≡ n → Table m tops lows highs → Table n tops lows highs
+resized {tops = tops} {lows} {highs} e = subst (λ m. Table m tops lows highs) e
+
+-- its own length is the size of a table
+pub sized : {m : ℕ} {tops lows highs : List ℕ} → Table m tops lows highs → Table (length tops) tops lows highs
+sized t = resized (sym (t .tops-size)) t
+
+entry-some : (g : ℕ) (w : Held) → (g ≡ 0 → ⊥) → holds (kindsOf w) ≡ entryOf g w
+entry-some zero w n = absurd (n refl)
+entry-some (suc g) w n = refl
+
+module _ {m : ℕ} {tops lows highs : List ℕ} (table : Table m tops lows highs) (t : ℕ) where
+  pub brought-none : getD tops t 0 ≡ 0 → Neat none × (unreached ≡ tableOf tops lows highs t)
+  brought-none e = (record { low = omega arith; few = omega arith }, rw e)
+
+  pub brought-some : (getD tops t 0 ≡ 0 → ⊥) → Neat (heldAt tops lows highs t) × (holds (kindsOf (heldAt tops lows highs t)) ≡ tableOf tops lows highs t)
+  brought-some n = (table .neat t, entry-some (getD tops t 0) (heldAt tops lows highs t) n)
+
+  module _ (h : Held) (inside : t < m) where
+    written : heldAt (set tops t (h .height + 1)) (set lows t (h .low)) (set highs t (h .high)) t ≡ h
+    written =
+        let e : h .height + 1 - 1 ≡ h .height = omega arith in
+        rw (
+          getD-set-same tops t (h .height + 1) 0 (omega (arith, table .tops-size)),
+          getD-set-same lows t (h .low) 0 (omega (arith, table .lows-size)),
+          getD-set-same highs t (h .high) 0 (omega (arith, table .highs-size)),
+          e,
+        )
+
+    beside : (q : ℕ) → (q ≡ t → ⊥) → heldAt (set tops t (h .height + 1)) (set lows t (h .low)) (set highs t (h .high)) q ≡ heldAt tops lows highs q
+    beside q n = rw (getD-set-other tops t q (h .height + 1) 0 n, getD-set-other lows t q (h .low) 0 n, getD-set-other highs t q (h .high) 0 n)
+
+    pub stored : Neat h → Table m (set tops t (h .height + 1)) (set lows t (h .low)) (set highs t (h .high))
+    stored k = record {
+      tops-size = length-set tops t (h .height + 1) ∙ table .tops-size;
+      lows-size = length-set lows t (h .low) ∙ table .lows-size;
+      highs-size = length-set highs t (h .high) ∙ table .highs-size;
+      neat = λ q. compare q t (λ e. rw (e, written) k) (λ n. rw (beside q n) (table .neat q));
     }
 
-    pub merge-adds : (a : List ℕ) → getD tops t 0 ≡ 0 → bitKinds h (word p) ≡ heldKinds a h
-        → Merges (heldKinds a h) t (tableOf tops lows highs) true (tableOf (set tops t (h + 1)) (set lows t (p .low)) (set highs t (p .high)))
-    merge-adds a e k = adds {after = tableOf (set tops t (h + 1)) (set lows t (p .low)) (set highs t (p .high))} (rw e)
-        (rw (
-          getD-set-same tops t (h + 1) 0 (omega (arith, table .whole-tops)),
-          getD-set-same lows t (p .low) 0 (omega (arith, table .whole-lows)),
-          getD-set-same highs t (p .high) 0 (omega (arith, table .whole-highs)),
-          add-one h,
-          k,
-        ))
-        (λ q n. rw (getD-set-other tops t q (h + 1) 0 n, getD-set-other lows t q (p .low) 0 n, getD-set-other highs t q (p .high) 0 n))
+    pub merge-adds : tableOf tops lows highs t ≡ unreached
+        → Merges (kindsOf h) t (tableOf tops lows highs) true (tableOf (set tops t (h .height + 1)) (set lows t (h .low)) (set highs t (h .high)))
+    merge-adds e = adds {after = tableOf (set tops t (h .height + 1)) (set lows t (h .low)) (set highs t (h .high))} e
+        (rw (written, getD-set-same tops t (h .height + 1) 0 (omega (arith, table .tops-size)), add-one (h .height)))
+        (λ q n. rw (beside q n, getD-set-other tops t q (h .height + 1) 0 n))
 
-  -- something was
-  module _ (a : List ℕ) (some : getD tops t 0 ≡ 0 → ⊥) where
-    entry : tableOf tops lows highs t ≡ holds (bitKinds (getD tops t 0 - 1) (getD highs t 0 * 2 ^ 64 + getD lows t 0))
-    entry = entry-some (getD tops t 0) (getD highs t 0 * 2 ^ 64 + getD lows t 0) some
-
-    pub merge-apart : (getD tops t 0 - 1 ≡ h → ⊥) → Merges (heldKinds a h) t (tableOf tops lows highs) false (tableOf tops lows highs)
-    merge-apart d = clashes entry (λ s. d (sym (bits-length (getD tops t 0 - 1) (getD highs t 0 * 2 ^ 64 + getD lows t 0)) ∙ ap length (sym s) ∙ held-length a h))
-
-    pub merge-same : (b : Bool) → getD tops t 0 - 1 ≡ h → Agrees b (heldKinds a h) (bitKinds h (getD highs t 0 * 2 ^ 64 + getD lows t 0))
-        → Merges (heldKinds a h) t (tableOf tops lows highs) b (tableOf tops lows highs)
-    merge-same true d w = has (rw (entry, d, w .yes refl))
-    merge-same false d w = clashes {x = bitKinds h (getD highs t 0 * 2 ^ 64 + getD lows t 0)} (rw (entry, d)) (w .no refl)
+pub merge-same : {before : ℕ → State} {t : ℕ} (h w : Held) (b : Bool) → before t ≡ holds (kindsOf w) → Agrees b (kindsOf h) (kindsOf w) → Merges (kindsOf h) t before b before
+merge-same h w true e a = has (e ∙ ap holds (sym (a .yes refl)))
+merge-same h w false e a = clashes e (a .no refl)

@@ -2,16 +2,17 @@
 ghost use mathlib.Core.Path.{_≡_};
 ghost use mathlib.Core.Bool.{true};
 ghost use Prim.Native.Nat.{_-_, _<_, _≤_};
+ghost use lib.ListN.{length};
 ghost use Rattle.verifier.specs.Typing.{stands};
 ghost use Rattle.verifier.specs.Accepts.{Right};
-ghost use Rattle.verifier.specs.Shapes.{heldKinds, word, stateOf, height, Room, entryOf, tableOf, Table};
+ghost use Rattle.verifier.specs.Shapes.{kindsOf, Neat, Keeps, stateOf, kept, broughtOf, found, tableOf, Table, Blank};
 ghost use Rattle.verifier.specs.Pass.{Joins, Merges, Steps, verdictOf};
 
 mod packing;
 mod typing;
 
 use code::Instr;
-use packing::Packed;
+use packing::Held;
 use typing::Going;
 use values::Kind;
 
@@ -20,37 +21,55 @@ pub enum Verdict {
     Refused,
 }
 
-// What is known at a place: the code is refused, the place is not reached as yet, or it is reached with so many values held.
+// What is known at a place: the code is refused; the place is not reached as yet, and the array has what it had before; or values are held.
 enum Flow {
     Refused,
-    Unreached,
-    Holds(usize),
+    Unreached(Held),
+    Holds(Held),
 }
 
-// What flows into a place and what jumps brought there must be the same; where only one is known, that is it. The top is one more than
-// the values that a jump found held, and 0 where no jump came.
-fn join(flow: Flow, kinds: &mut [u8; 128], top: u8, packed: Packed) -> Flow
-    requires { ⌜ Room (now kinds) (height flow) ⌝ }
-    requires { ⌜ top ≤ 129 ⌝ }
-    ensures { λ r. ⌜ Room (now (kinds .exit)) (height r) ⌝ }
-    ensures { λ r. ⌜ Joins (stateOf (now (kinds .entry)) flow) (entryOf top (word packed)) (stateOf (now (kinds .exit)) r) ⌝ }
+// What jumps brought to a place.
+enum Jumps {
+    Nothing,
+    Kinds(Held),
+}
+
+// The top is one more than the values that a jump found held, and 0 where no jump came.
+fn brought(place: usize, tops: &[u8], lows: &[u64], highs: &[u64]) -> Jumps
+    requires { ⌜ place < length (now tops) ⌝ }
+    requires { ⌜ Table (length (now tops)) (now tops) (now lows) (now highs) ⌝ }
+    ensures { λ r. ⌜ Neat (found r) × (broughtOf r ≡ tableOf (now (tops .entry)) (now (lows .entry)) (now (highs .entry)) place) ⌝ }
 {
+    let top = tops[place];
     if top == 0 {
-        return flow;
+        return Jumps::Nothing;
     }
-    let h = (top - 1) as usize;
+    Jumps::Kinds(Held {
+        height: (top - 1) as usize,
+        low: lows[place],
+        high: highs[place],
+    })
+}
+
+// What flows into a place and what jumps brought there must be the same; where only one is known, that is it.
+fn join(flow: Flow, kinds: &mut [u8; 128], jumps: Jumps) -> Flow
+    requires { ⌜ Keeps (now kinds) (kept flow) ⌝ }
+    requires { ⌜ Neat (found jumps) ⌝ }
+    ensures { λ r. ⌜ Keeps (now (kinds .exit)) (kept r) ⌝ }
+    ensures { λ r. ⌜ Joins (stateOf flow) (broughtOf jumps) (stateOf r) ⌝ }
+{
+    let Jumps::Kinds(there) = jumps else {
+        return flow;
+    };
     match flow {
         Flow::Refused => Flow::Refused,
-        Flow::Unreached => {
-            packing::unpack(kinds, h, packed);
-            Flow::Holds(h)
+        Flow::Unreached(held) => {
+            packing::restore(kinds, held, there);
+            Flow::Holds(there)
         }
-        Flow::Holds(g) => {
-            if g != h {
-                return Flow::Refused;
-            }
-            if packing::same(kinds, h, packed) {
-                Flow::Holds(h)
+        Flow::Holds(held) => {
+            if packing::same(held, there) {
+                Flow::Holds(held)
             } else {
                 Flow::Refused
             }
@@ -58,38 +77,24 @@ fn join(flow: Flow, kinds: &mut [u8; 128], top: u8, packed: Packed) -> Flow
     }
 }
 
-// A jump brings the kinds of h values held to its target: they must be the same that jumps brought before.
-fn merge(
-    h: usize,
-    kinds: &[u8; 128],
-    target: usize,
-    tops: &mut [u8; 2049],
-    lows: &mut [u64; 2049],
-    highs: &mut [u64; 2049],
-) -> bool
-    requires { ⌜ (h ≤ 128) × (target < 2049) ⌝ }
-    requires { ⌜ Table (now tops) (now lows) (now highs) ⌝ }
-    ensures { λ r. ⌜ Table (now (tops .exit)) (now (lows .exit)) (now (highs .exit)) ⌝ }
-    ensures { λ r. ⌜ Merges (heldKinds (now (kinds .entry)) h) target
-        (tableOf (now (tops .entry)) (now (lows .entry)) (now (highs .entry))) r
+// A jump brings the kinds held to its target: they must be the same that jumps brought before.
+fn merge(held: Held, target: usize, tops: &mut [u8], lows: &mut [u64], highs: &mut [u64]) -> bool
+    requires { ⌜ Neat held ⌝ }
+    requires { ⌜ target < length (now tops) ⌝ }
+    requires { ⌜ Table (length (now tops)) (now tops) (now lows) (now highs) ⌝ }
+    ensures { λ r. ⌜ Table (length (now (tops .entry))) (now (tops .exit)) (now (lows .exit)) (now (highs .exit)) ⌝ }
+    ensures { λ r. ⌜ Merges (kindsOf held) target (tableOf (now (tops .entry)) (now (lows .entry)) (now (highs .entry))) r
         (tableOf (now (tops .exit)) (now (lows .exit)) (now (highs .exit))) ⌝ }
 {
-    let top = tops[target];
-    if top == 0 {
-        let packed = packing::pack(kinds, h);
-        tops[target] = (h + 1) as u8;
-        lows[target] = packed.low;
-        highs[target] = packed.high;
-        return true;
+    match brought(target, tops, lows, highs) {
+        Jumps::Kinds(there) => packing::same(held, there),
+        Jumps::Nothing => {
+            tops[target] = (held.height + 1) as u8;
+            lows[target] = held.low;
+            highs[target] = held.high;
+            true
+        }
     }
-    if (top - 1) as usize != h {
-        return false;
-    }
-    let there = Packed {
-        low: lows[target],
-        high: highs[target],
-    };
-    packing::same(kinds, h, there)
 }
 
 // From what is known at a place to what flows from it into the next.
@@ -98,34 +103,33 @@ fn step(
     flow: Flow,
     next: usize,
     kinds: &mut [u8; 128],
-    tops: &mut [u8; 2049],
-    lows: &mut [u64; 2049],
-    highs: &mut [u64; 2049],
+    tops: &mut [u8],
+    lows: &mut [u64],
+    highs: &mut [u64],
 ) -> Flow
-    requires { ⌜ Room (now kinds) (height flow) ⌝ }
-    requires { ⌜ Table (now tops) (now lows) (now highs) ⌝ }
-    requires { ⌜ (next ≤ 2048) × (stands (2048 - next) i ≡ true) ⌝ }
-    ensures { λ r. ⌜ Room (now (kinds .exit)) (height r) ⌝ }
-    ensures { λ r. ⌜ Table (now (tops .exit)) (now (lows .exit)) (now (highs .exit)) ⌝ }
-    ensures { λ r. ⌜ Steps i next
-        (tableOf (now (tops .entry)) (now (lows .entry)) (now (highs .entry))) (stateOf (now (kinds .entry)) flow)
-        (stateOf (now (kinds .exit)) r) (tableOf (now (tops .exit)) (now (lows .exit)) (now (highs .exit))) ⌝ }
+    requires { ⌜ Keeps (now kinds) (kept flow) ⌝ }
+    requires { ⌜ Table (length (now tops)) (now tops) (now lows) (now highs) ⌝ }
+    requires { ⌜ (next < length (now tops)) × (stands (length (now tops) - 1 - next) i ≡ true) ⌝ }
+    ensures { λ r. ⌜ Keeps (now (kinds .exit)) (kept r) ⌝ }
+    ensures { λ r. ⌜ Table (length (now (tops .entry))) (now (tops .exit)) (now (lows .exit)) (now (highs .exit)) ⌝ }
+    ensures { λ r. ⌜ Steps i next (tableOf (now (tops .entry)) (now (lows .entry)) (now (highs .entry))) (stateOf flow)
+        (stateOf r) (tableOf (now (tops .exit)) (now (lows .exit)) (now (highs .exit))) ⌝ }
 {
-    let Flow::Holds(h) = flow else {
+    let Flow::Holds(held) = flow else {
         return flow;
     };
-    match typing::typed(i, kinds, h) {
+    match typing::typed(i, kinds, held) {
         Going::Refused => Flow::Refused,
         Going::Next(g) => Flow::Holds(g),
         Going::Leap(d, g) => {
-            if merge(g, kinds, next + (d as usize), tops, lows, highs) {
-                Flow::Unreached
+            if merge(g, next + (d as usize), tops, lows, highs) {
+                Flow::Unreached(g)
             } else {
                 Flow::Refused
             }
         }
         Going::Fork(d, g) => {
-            if merge(g, kinds, next + (d as usize), tops, lows, highs) {
+            if merge(g, next + (d as usize), tops, lows, highs) {
                 Flow::Holds(g)
             } else {
                 Flow::Refused
@@ -136,32 +140,30 @@ fn step(
 
 // The end has one value.
 fn ended(flow: Flow, kinds: &[u8; 128]) -> Verdict
-    ensures { λ r. ⌜ r ≡ verdictOf (stateOf (now (kinds .entry)) flow) ⌝ }
+    requires { ⌜ Keeps (now kinds) (kept flow) ⌝ }
+    ensures { λ r. ⌜ r ≡ verdictOf (stateOf flow) ⌝ }
 {
-    let Flow::Holds(h) = flow else {
+    let Flow::Holds(held) = flow else {
         return Verdict::Refused;
     };
-    if h == 1 {
+    if held.height == 1 {
         return Verdict::Accepted(typing::kind(kinds[0]));
     }
     Verdict::Refused
 }
 
-// The first n instructions of the code.
-pub fn check(code: &[u8], n: usize) -> Verdict
+// The pass over the first n instructions, with tables that have a place for each of them and for the end.
+fn checked(code: &[u8], n: usize, tops: &mut [u8], lows: &mut [u64], highs: &mut [u64]) -> Verdict
+    requires { ⌜ (0 < n) × (n ≤ 2048) ⌝ }
+    requires { ⌜ Blank n (now tops) (now lows) (now highs) ⌝ }
     ensures { λ r. ⌜ Right (now (code .entry)) n r ⌝ }
 {
-    if n == 0 {
-        return Verdict::Refused;
-    }
-    if 2048 < n {
-        return Verdict::Refused;
-    }
     let mut kinds = [0u8; 128];
-    let mut tops = [0u8; 2049];
-    let mut lows = [0u64; 2049];
-    let mut highs = [0u64; 2049];
-    let mut flow = Flow::Holds(0);
+    let mut flow = Flow::Holds(Held {
+        height: 0,
+        low: 0,
+        high: 0,
+    });
     let mut place: usize = 0;
     while place < n {
         let i = code::decode(code, place);
@@ -169,15 +171,33 @@ pub fn check(code: &[u8], n: usize) -> Verdict
             return Verdict::Refused;
         }
         place += 1;
-        flow = step(i, flow, place, &mut kinds, &mut tops, &mut lows, &mut highs);
-        let packed = Packed {
-            low: lows[place],
-            high: highs[place],
-        };
-        flow = join(flow, &mut kinds, tops[place], packed);
+        flow = step(i, flow, place, &mut kinds, tops, lows, highs);
+        flow = join(flow, &mut kinds, brought(place, tops, lows, highs));
         if let Flow::Refused = flow {
             return Verdict::Refused;
         }
     }
     ended(flow, &kinds)
+}
+
+// The first n instructions of the code. Short code gets short tables, since clearing long ones would take longer than the pass.
+pub fn check(code: &[u8], n: usize) -> Verdict
+    ensures { λ r. ⌜ Right (now (code .entry)) n r ⌝ }
+{
+    if n == 0 {
+        return Verdict::Refused;
+    }
+    if n < 129 {
+        let mut tops = [0u8; 129];
+        let mut lows = [0u64; 129];
+        let mut highs = [0u64; 129];
+        return checked(code, n, &mut tops, &mut lows, &mut highs);
+    }
+    if n < 2049 {
+        let mut tops = [0u8; 2049];
+        let mut lows = [0u64; 2049];
+        let mut highs = [0u64; 2049];
+        return checked(code, n, &mut tops, &mut lows, &mut highs);
+    }
+    Verdict::Refused
 }

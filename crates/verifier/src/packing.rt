@@ -1,94 +1,93 @@
-// Kinds as bits, for the places that jumps go to.
+// The kinds of the values held as bits, so that a jump compares and keeps them whole, however many they are.
 ghost use mathlib.Core.Path.{_≡_};
-ghost use Prim.Native.Nat.{_+_, _*_, _/_, _%_, _^_, _<_, _≤_};
+ghost use Prim.Native.Nat.{_%_, _^_, _<_, _≤_};
 ghost use lib.ListN.{length};
-ghost use Rattle.verifier.specs.Shapes.{numberKind, heldKinds, bitKinds, word};
+ghost use Rattle.verifier.specs.Shapes.{heldKinds, kindsOf, word, Neat, Keeps, Pushed, Popped};
 ghost use Rattle.verifier.specs.Pass.{Agrees};
 
-// The last pushed in the lowest bit: 1 for a real.
-pub struct Packed {
+// How many, and a bit for each, the last pushed in the lowest: 1 for a real.
+pub struct Held {
+    pub height: usize,
     pub low: u64,
     pub high: u64,
 }
 
 // One more kind, in the lowest bit.
-fn shifted(w: Packed, bit: u64) -> Packed
-    requires { ⌜ (w .high < 2 ^ 63) × (bit < 2) ⌝ }
-    ensures { λ r. ⌜ word r ≡ bit + 2 * word w ⌝ }
+pub fn pushed(w: Held, n: u8) -> Held
+    requires { ⌜ (w .height < 128) × (w .high < 2 ^ 63) × (n < 2) ⌝ }
+    ensures { λ r. ⌜ Pushed n w r ⌝ }
 {
     let low = w.low;
     let high = w.high;
-    Packed {
-        low: low % 9223372036854775808 * 2 + bit,
+    Held {
+        height: w.height + 1,
+        low: low % 9223372036854775808 * 2 + (n as u64),
         high: high * 2 + low / 9223372036854775808,
     }
 }
 
-// Without the lowest bit.
-fn halved(w: Packed) -> Packed
-    ensures { λ r. ⌜ word r ≡ word w / 2 ⌝ }
+// Without the last, which is the lowest bit.
+pub fn popped(w: Held) -> Held
+    requires { ⌜ 0 < w .height ⌝ }
+    ensures { λ r. ⌜ Popped w r ⌝ }
 {
     let low = w.low;
     let high = w.high;
-    Packed {
+    Held {
+        height: w.height - 1,
         low: high % 2 * 9223372036854775808 + low / 2,
         high: high / 2,
     }
 }
 
-fn lowest(w: Packed) -> u64
+pub fn same(a: Held, b: Held) -> bool
+    requires { ⌜ Neat a × Neat b ⌝ }
+    ensures { λ r. ⌜ Agrees r (kindsOf a) (kindsOf b) ⌝ }
+{
+    if a.height != b.height {
+        return false;
+    }
+    if a.low != b.low {
+        return false;
+    }
+    a.high == b.high
+}
+
+fn lowest(w: Held) -> u8
     ensures { λ r. ⌜ r ≡ word w % 2 ⌝ }
 {
     let low = w.low;
-    low % 2
+    (low % 2) as u8
 }
 
-fn bit(n: u8) -> u64
-    ensures { λ r. ⌜ (r < 2) × (numberKind r ≡ numberKind n) ⌝ }
-{
-    if n == 0 { 0 } else { 1 }
-}
-
-// The first h kinds of the array.
-pub fn pack(kinds: &[u8; 128], h: usize) -> Packed
-    requires { ⌜ h ≤ 128 ⌝ }
-    ensures { λ r. ⌜ bitKinds h (word r) ≡ heldKinds (now (kinds .entry)) h ⌝ }
-{
-    let mut w = Packed { low: 0, high: 0 };
-    let mut i: usize = 0;
-    while i < h {
-        w = shifted(w, bit(kinds[i]));
-        i += 1;
-    }
-    w
-}
-
-pub fn unpack(kinds: &mut [u8; 128], h: usize, packed: Packed)
-    requires { ⌜ (length (now kinds) ≡ 128) × (h ≤ 128) ⌝ }
-    ensures { λ _. ⌜ (length (now (kinds .exit)) ≡ 128) × (heldKinds (now (kinds .exit)) h ≡ bitKinds h (word packed)) ⌝ }
+// The kinds of the bits, in the array.
+fn unpack(kinds: &mut [u8; 128], packed: Held)
+    requires { ⌜ (length (now kinds) ≡ 128) × (packed .height ≤ 128) ⌝ }
+    ensures { λ _. ⌜ (length (now (kinds .exit)) ≡ 128) × (heldKinds (now (kinds .exit)) (packed .height) ≡ kindsOf packed) ⌝ }
 {
     let mut w = packed;
-    let mut i = h;
-    while 0 < i {
-        i -= 1;
-        kinds[i] = lowest(w) as u8;
-        w = halved(w);
+    while 0 < w.height {
+        let n = lowest(w);
+        w = popped(w);
+        let i = w.height;
+        kinds[i] = n;
     }
 }
 
-// Whether the first h kinds of the array are those of the bits.
-pub fn same(kinds: &[u8; 128], h: usize, packed: Packed) -> bool
-    requires { ⌜ h ≤ 128 ⌝ }
-    ensures { λ r. ⌜ Agrees r (heldKinds (now (kinds .entry)) h) (bitKinds h (word packed)) ⌝ }
+// The array has some kinds and is to have others. It has them already where a jump went to the next place, and, below one more, where one
+// branch of two has ended with its value and the other begins.
+pub fn restore(kinds: &mut [u8; 128], held: Held, there: Held)
+    requires { ⌜ Keeps (now kinds) held ⌝ }
+    requires { ⌜ Neat there ⌝ }
+    ensures { λ _. ⌜ Keeps (now (kinds .exit)) there ⌝ }
 {
-    let mut w = packed;
-    let mut i = h;
-    while 0 < i {
-        i -= 1;
-        if bit(kinds[i]) != lowest(w) {
-            return false;
+    if same(held, there) {
+        return;
+    }
+    if 0 < held.height {
+        if same(popped(held), there) {
+            return;
         }
-        w = halved(w);
     }
-    true
+    unpack(kinds, there);
 }

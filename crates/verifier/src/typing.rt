@@ -1,22 +1,24 @@
-// What an instruction asks and makes of the kinds of the values held: an array, of which the first h count, 0 for an integer and 1 for a real.
+// What an instruction asks and makes of the kinds of the values held. An array has them, 0 for an integer and 1 for a real, and so have
+// the bits of `Held`.
 ghost use mathlib.Core.Path.{_≡_};
 ghost use Prim.Native.Nat.{_-_, _≤_};
 ghost use lib.Dec.{leb};
-ghost use lib.ListN.{length};
 ghost use Rattle.verifier.specs.Typing.{pushing, moveOf, stands};
-ghost use Rattle.verifier.specs.Shapes.{numberKind, kindNumber, heldKinds, Room, Leaves};
+ghost use Rattle.verifier.specs.Shapes.{numberKind, kindNumber, kindsOf, Keeps, Leaves};
+use crate::packing;
+use crate::packing::Held;
 use code::Instr;
 use memory::Bank;
 use operators::BinaryOp;
 use operators::UnaryOp;
 use values::Kind;
 
-// Where an instruction can go, with so many values held after it: nowhere, to the next, over some, or to either.
+// Where an instruction can go, and what is held after it: nowhere, to the next, over some, or to either.
 pub enum Going {
     Refused,
-    Next(usize),
-    Leap(u32, usize),
-    Fork(u32, usize),
+    Next(Held),
+    Leap(u32, Held),
+    Fork(u32, Held),
 }
 
 pub fn kind(n: u8) -> Kind
@@ -60,76 +62,85 @@ pub fn known(i: Instr, left: usize) -> bool
     }
 }
 
-fn push(kinds: &mut [u8; 128], h: usize, k: Kind) -> Going
-    requires { ⌜ length (now kinds) ≡ 128 ⌝ }
-    ensures { λ r. ⌜ Leaves (now (kinds .exit)) r (pushing k (heldKinds (now (kinds .entry)) h)) ⌝ }
+fn push(kinds: &mut [u8; 128], held: Held, k: Kind) -> Going
+    requires { ⌜ Keeps (now kinds) held ⌝ }
+    ensures { λ r. ⌜ Leaves (now (kinds .exit)) r (pushing k (kindsOf held)) ⌝ }
 {
+    let h = held.height;
     if h < 128 {
-        kinds[h] = number(k);
-        Going::Next(h + 1)
+        let n = number(k);
+        kinds[h] = n;
+        Going::Next(packing::pushed(held, n))
     } else {
         Going::Refused
     }
 }
 
-fn indexed(kinds: &mut [u8; 128], h: usize, bank: Bank) -> Going
-    requires { ⌜ Room (now kinds) h ⌝ }
-    ensures { λ r. ⌜ Leaves (now (kinds .exit)) r (moveOf (Instr.LoadIndexed bank) (heldKinds (now (kinds .entry)) h)) ⌝ }
+fn indexed(kinds: &mut [u8; 128], held: Held, bank: Bank) -> Going
+    requires { ⌜ Keeps (now kinds) held ⌝ }
+    ensures { λ r. ⌜ Leaves (now (kinds .exit)) r (moveOf (Instr.LoadIndexed bank) (kindsOf held)) ⌝ }
 {
-    if h < 1 {
+    if held.height < 1 {
         return Going::Refused;
     }
-    push(kinds, h - 1, memory::cells::kind_of(bank))
+    push(kinds, packing::popped(held), memory::cells::kind_of(bank))
 }
 
-fn unary(kinds: &mut [u8; 128], h: usize, op: UnaryOp) -> Going
-    requires { ⌜ Room (now kinds) h ⌝ }
-    ensures { λ r. ⌜ Leaves (now (kinds .exit)) r (moveOf (Instr.Unary op) (heldKinds (now (kinds .entry)) h)) ⌝ }
+fn unary(kinds: &mut [u8; 128], held: Held, op: UnaryOp) -> Going
+    requires { ⌜ Keeps (now kinds) held ⌝ }
+    ensures { λ r. ⌜ Leaves (now (kinds .exit)) r (moveOf (Instr.Unary op) (kindsOf held)) ⌝ }
 {
+    let h = held.height;
     if h < 1 {
         return Going::Refused;
     }
     let k = kind(kinds[h - 1]);
     if operators::kinds::unary_takes(op, k) {
-        push(kinds, h - 1, operators::kinds::of_unary(op, k))
+        push(
+            kinds,
+            packing::popped(held),
+            operators::kinds::of_unary(op, k),
+        )
     } else {
         Going::Refused
     }
 }
 
-fn binary(kinds: &mut [u8; 128], h: usize, op: BinaryOp) -> Going
-    requires { ⌜ Room (now kinds) h ⌝ }
-    ensures { λ r. ⌜ Leaves (now (kinds .exit)) r (moveOf (Instr.Binary op) (heldKinds (now (kinds .entry)) h)) ⌝ }
+fn binary(kinds: &mut [u8; 128], held: Held, op: BinaryOp) -> Going
+    requires { ⌜ Keeps (now kinds) held ⌝ }
+    ensures { λ r. ⌜ Leaves (now (kinds .exit)) r (moveOf (Instr.Binary op) (kindsOf held)) ⌝ }
 {
+    let h = held.height;
     if h < 2 {
         return Going::Refused;
     }
     let left = kind(kinds[h - 2]);
     let right = kind(kinds[h - 1]);
     if operators::kinds::binary_takes(op, left, right) {
-        push(kinds, h - 2, operators::kinds::of_binary(op, left, right))
+        let rest = packing::popped(packing::popped(held));
+        push(kinds, rest, operators::kinds::of_binary(op, left, right))
     } else {
         Going::Refused
     }
 }
 
-pub fn typed(i: Instr, kinds: &mut [u8; 128], h: usize) -> Going
-    requires { ⌜ Room (now kinds) h ⌝ }
-    ensures { λ r. ⌜ Leaves (now (kinds .exit)) r (moveOf i (heldKinds (now (kinds .entry)) h)) ⌝ }
+pub fn typed(i: Instr, kinds: &mut [u8; 128], held: Held) -> Going
+    requires { ⌜ Keeps (now kinds) held ⌝ }
+    ensures { λ r. ⌜ Leaves (now (kinds .exit)) r (moveOf i (kindsOf held)) ⌝ }
 {
     match i {
-        Instr::PushInt(_) => push(kinds, h, Kind::Int),
-        Instr::PushReal(_) => push(kinds, h, Kind::Real),
-        Instr::Load(b, _) => push(kinds, h, memory::cells::kind_of(b)),
-        Instr::LoadIndexed(b) => indexed(kinds, h, b),
-        Instr::Unary(o) => unary(kinds, h, o),
-        Instr::Binary(o) => binary(kinds, h, o),
-        Instr::Jump(d) => Going::Leap(d, h),
+        Instr::PushInt(_) => push(kinds, held, Kind::Int),
+        Instr::PushReal(_) => push(kinds, held, Kind::Real),
+        Instr::Load(b, _) => push(kinds, held, memory::cells::kind_of(b)),
+        Instr::LoadIndexed(b) => indexed(kinds, held, b),
+        Instr::Unary(o) => unary(kinds, held, o),
+        Instr::Binary(o) => binary(kinds, held, o),
+        Instr::Jump(d) => Going::Leap(d, held),
         Instr::JumpIf(_, d) => {
-            if h < 1 {
+            if held.height < 1 {
                 return Going::Refused;
             }
-            Going::Fork(d, h - 1)
+            Going::Fork(d, packing::popped(held))
         }
         Instr::Unknown => Going::Refused,
     }

@@ -21,8 +21,11 @@ module _ (o : BankOf) (b : Bank) (w : ℕ) (l : Layout) (known : o ≡ Is b) (is
   beyond : l .elements ≤ w → Unknown ≡ loadOf o w
   beyond h = rw (known, le-ltb w (layoutOf b .elements) (rw is at h))
 
-enum-known-bank : tie.Need-enum-known-bank
-enum-known-bank c = search needs
+bank-numbered-requires : tie.Need-bank-numbered-requires
+bank-numbered-requires c κs = search needs
+
+enum-known-b : tie.Need-enum-known-b
+enum-known-b c = search needs
 
 layout-of-requires : tie.Need-layout-of-requires
 layout-of-requires c κs = search needs
@@ -32,17 +35,25 @@ enum-told c = search needs
 
 returns : tie.Need-returns
 returns c =
-    let bank = c .before .before .before .before .bank .given in
-    within _ (bank .0 .0) _ _ (bank .1) (c .before .before .layout-of .ensures) (c .if1 .taken)
+    let bank = c .before .before .before .before .b .given in
+    rw (← (c .before .before .before .before .before .before .bank-numbered .ensures)) (within _ (bank .0 .0) _ _ (bank .1) (c .before .before .layout-of .ensures) (c .if1 .taken))
 
 returns-2 : tie.Need-returns-2
 returns-2 c =
-    let bank = c .before .before .before .before .bank .given in
-    beyond _ (bank .0 .0) _ _ (bank .1) (c .before .before .layout-of .ensures) (c .if1 .left)
+    let bank = c .before .before .before .before .b .given in
+    rw (← (c .before .before .before .before .before .before .bank-numbered .ensures)) (beyond _ (bank .0 .0) _ _ (bank .1) (c .before .before .layout-of .ensures) (c .if1 .left))
 
 returns-3 : tie.Need-returns-3
-returns-3 c = search needs
+returns-3 c = rw (← (c .before .before .bank-numbered .ensures), c .enum-told .given .1)
 
 pub load-spec : {M : Type 1} → statement M
 load-spec =
-    tie.close (tie.spec enum-known-bank layout-of-requires enum-told returns returns-2 returns-3)
+    tie.close
+    (tie.spec
+    bank-numbered-requires
+    enum-known-b
+    layout-of-requires
+    enum-told
+    returns
+    returns-2
+    returns-3)

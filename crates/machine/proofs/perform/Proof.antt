@@ -4,7 +4,7 @@ use borrow.Author.Needs.{needs}
 use mir.Syntax.{w32}
 use mir.Val.{SFits}
 use mir.ValLaws.{toZ-ofZ}
-use Rattle.machine.specs.Steps.{outcomeStep}
+use Rattle.machine.specs.Steps.{givenStep}
 use Rattle.machine.proofs.perform.Statement.{statement}
 use Rattle.machine.proofs.perform.Tie as tie
 
@@ -53,17 +53,14 @@ given-requires-4 c κs = search needs
 enum-known-i-7 : tie.Need-enum-known-i-7
 enum-known-i-7 c = search needs
 
-cast-t22 : tie.Need-cast-t22
-cast-t22 c = search needs
+cast-t23 : tie.Need-cast-t23
+cast-t23 c = search needs
 
 enum-known-i-8 : tie.Need-enum-known-i-8
 enum-known-i-8 c = search needs
 
-truth-requires : tie.Need-truth-requires
-truth-requires c κs = search needs
-
-cast-t26 : tie.Need-cast-t26
-cast-t26 c = search needs
+jump-if-requires : tie.Need-jump-if-requires
+jump-if-requires c κs = search needs
 
 enum-told : tie.Need-enum-told
 enum-told c = search needs
@@ -78,28 +75,25 @@ returns-2 : tie.Need-returns-2
 returns-2 c = rw (c .before .i2 .given .1)
 
 returns-3 : tie.Need-returns-3
-returns-3 c = rw (c .before .before .before .i3 .given .1) (c .given .ensures ∙ ap outcomeStep (c .before .read .ensures))
+returns-3 c = rw (c .before .before .before .i3 .given .1) (c .given .ensures ∙ ap (givenStep (c .before .before .before .before .before .before .args .h) 0) (c .before .read .ensures))
 
 returns-4 : tie.Need-returns-4
-returns-4 c = rw (c .before .before .before .i4 .given .1) (c .given2 .ensures ∙ ap outcomeStep (c .before .read-indexed .ensures))
+returns-4 c = rw (c .before .before .before .i4 .given .1) (c .given2 .ensures ∙ ap (givenStep (c .before .before .before .before .before .before .args .h) 1) (c .before .read-indexed .ensures))
 
 returns-5 : tie.Need-returns-5
-returns-5 c = rw (c .before .before .before .i5 .given .1) (c .given3 .ensures ∙ ap outcomeStep (c .before .unary .ensures))
+returns-5 c = rw (c .before .before .before .i5 .given .1) (c .given3 .ensures ∙ ap (givenStep (c .before .before .before .before .before .before .args .h) 1) (c .before .unary .ensures))
 
 returns-6 : tie.Need-returns-6
-returns-6 c = rw (c .before .before .before .i6 .given .1) (c .given4 .ensures ∙ ap outcomeStep (c .before .binary .ensures))
+returns-6 c = rw (c .before .before .before .i6 .given .1) (c .given4 .ensures ∙ ap (givenStep (c .before .before .before .before .before .before .args .h) 2) (c .before .binary .ensures))
 
 returns-7 : tie.Need-returns-7
 returns-7 c = rw (c .before .i7 .given .1)
 
 returns-8 : tie.Need-returns-8
-returns-8 c = rw (c .before .before .before .i8 .given .1, ← (c .before .truth .ensures), c .if1 .taken)
+returns-8 c = rw (c .before .before .i8 .given .1) (c .jump-if .ensures)
 
 returns-9 : tie.Need-returns-9
-returns-9 c = rw (c .before .before .before .i8 .given .1, ← (c .before .truth .ensures), c .if1 .left)
-
-returns-10 : tie.Need-returns-10
-returns-10 c = rw (c .enum-told .given .1)
+returns-9 c = rw (c .enum-told .given .1)
 
 pub perform-spec : {M : Type 1} → statement M
 perform-spec =
@@ -120,10 +114,9 @@ perform-spec =
     binary-requires
     given-requires-4
     enum-known-i-7
-    cast-t22
+    cast-t23
     enum-known-i-8
-    truth-requires
-    cast-t26
+    jump-if-requires
     enum-told
     returns
     returns-2
@@ -133,5 +126,4 @@ perform-spec =
     returns-6
     returns-7
     returns-8
-    returns-9
-    returns-10)
+    returns-9)

@@ -9,7 +9,7 @@ use Rattle.memory.specs.Environment.{memoryOf}
 use Rattle.machine.specs.Machine.{most}
 use Rattle.machine.proofs.Held.{held, held-finish}
 use Rattle.machine.proofs.Rest.{Left, begin, ends}
-use Rattle.machine.proofs.Turn.{Turn, lacks, turn, pushes, overfull, jumps, overruns, ended}
+use Rattle.machine.proofs.Turn.{Turn, turn, pushes, overfull, jumps, overruns, below, ended}
 use Rattle.machine.proofs.run.Statement.{statement}
 use Rattle.machine.proofs.run.Tie as tie
 
@@ -20,19 +20,15 @@ Inv-loop code n image stack₀ h₀ place₀ count₀ stack h place count =
 abbrev μ-loop : tie.MeasureT-loop
 μ-loop code n image stack₀ h₀ place₀ count₀ stack h place count = n - place
 
--- an instruction has found the values that it takes, and has made a step of them
+-- the instruction at the place has been decoded, and has made a step of the values held
 made : (c : tie.After-perform Inv-loop μ-loop) →
-    let d = c .before .before .before .before .before .before in
-    let l = d .before .before .before .loop in
-    let a = d .before .before .before .before .before .before .args in
-    Turn (memoryOf (now (a .image))) (now (a .code)) (a .n) (l .place) (held (l .h) (l .stack)) (l .count)
-    (l .h - d .takes .result) (l .stack) (c .perform .result)
+    let l = c .before .before .before .before .before .before .before .loop in
+    let a = c .before .before .before .before .before .before .before .before .before .before .args in
+    Turn (memoryOf (now (a .image))) (now (a .code)) (a .n) (l .place) (l .h) (l .stack) (l .count) (c .perform .result)
 made c =
-    let d = c .before .before .before .before .before .before in
-    let l = d .before .before .before .loop in
-    turn (l .h) (l .stack) (d .before .before .loop-test .taken) (l .inv .4) (d .before .decode .ensures) (d .takes .ensures)
-    (c .before .before .before .before .before .if1 .left) (c .before .before .from-top2 .ensures)
-    (c .before .before .before .before .from-top .ensures) (c .perform .ensures)
+    let l = c .before .before .before .before .before .before .before .loop in
+    turn (l .h) (l .stack) (c .before .before .before .before .before .before .loop-test .taken) (l .inv .4) (c .before .before .before .before .before .decode .ensures)
+    (c .before .before .from-top2 .ensures) (c .before .before .before .before .from-top .ensures) (c .perform .ensures)
 
 loop-holds : tie.Need-loop-holds Inv-loop μ-loop
 unfolding held
@@ -46,19 +42,6 @@ decode-requires c κs = search needs
 
 add-place : tie.Need-add-place Inv-loop μ-loop
 add-place c = omega arith
-
-takes-requires : tie.Need-takes-requires Inv-loop μ-loop
-takes-requires c κs = search needs
-
-stuck-requires : tie.Need-stuck-requires Inv-loop μ-loop
-stuck-requires c κs = search needs
-
-returns : tie.Need-returns Inv-loop μ-loop
-returns c =
-    let d = c .before .before in
-    let l = d .before .before .before .loop in
-    c .stuck .ensures
-    ∙ lacks (l .h) (l .stack) (d .before .before .loop-test .taken) (l .inv .4) (d .before .decode .ensures) (d .takes .ensures) (c .before .if1 .taken)
 
 from-top-requires : tie.Need-from-top-requires Inv-loop μ-loop
 from-top-requires c κs = search needs
@@ -81,14 +64,14 @@ array-copy-out-left c = omega arith
 perform-requires : tie.Need-perform-requires Inv-loop μ-loop
 perform-requires c κs = search needs
 
-enum-known-v : tie.Need-enum-known-v Inv-loop μ-loop
-enum-known-v c = search needs
+enum-known-k : tie.Need-enum-known-k Inv-loop μ-loop
+enum-known-k c = search needs
 
-stuck-requires-2 : tie.Need-stuck-requires-2 Inv-loop μ-loop
-stuck-requires-2 c κs = search needs
+stuck-requires : tie.Need-stuck-requires Inv-loop μ-loop
+stuck-requires c κs = search needs
 
-returns-2 : tie.Need-returns-2 Inv-loop μ-loop
-returns-2 c = c .stuck2 .ensures ∙ overfull (made (c .before .before .before .before .before)) (c .before .before .before .v .given .1) (c .before .if2 .taken)
+returns : tie.Need-returns Inv-loop μ-loop
+returns c = c .stuck .ensures ∙ overfull (made (c .before .before .before .before .before)) (c .before .before .before .k .given .1) (c .before .if1 .taken)
 
 mul-stack : tie.Need-mul-stack Inv-loop μ-loop
 mul-stack c = omega arith
@@ -104,25 +87,25 @@ loop-less c = omega arith
 
 loop-again : tie.Need-loop-again Inv-loop μ-loop
 loop-again c =
-    let l = c .before .before .before .before .before .before .before .before .before .before .before .before .before .loop in (
+    let l = c .before .before .before .before .before .before .before .before .before .before .before .loop in (
       simp length-set (l .inv .0),
       omega arith,
       omega arith,
       omega arith,
-      pushes (made (c .before .before .before .before)) (c .before .before .v .given .1) (c .if2 .left) (l .inv .0),
+      pushes (made (c .before .before .before .before)) (c .before .before .k .given .1) (c .if1 .left) (l .inv .0),
     )
 
-enum-known-d : tie.Need-enum-known-d Inv-loop μ-loop
-enum-known-d c = search needs
+enum-known-k-2 : tie.Need-enum-known-k-2 Inv-loop μ-loop
+enum-known-k-2 c = search needs
 
-sub-if3 : tie.Need-sub-if3 Inv-loop μ-loop
-sub-if3 c = omega arith
+sub-if2 : tie.Need-sub-if2 Inv-loop μ-loop
+sub-if2 c = omega arith
 
-stuck-requires-3 : tie.Need-stuck-requires-3 Inv-loop μ-loop
-stuck-requires-3 c κs = search needs
+stuck-requires-2 : tie.Need-stuck-requires-2 Inv-loop μ-loop
+stuck-requires-2 c κs = search needs
 
-returns-3 : tie.Need-returns-3 Inv-loop μ-loop
-returns-3 c = c .stuck3 .ensures ∙ overruns (made (c .before .before .before .before .before)) (c .before .before .before .d .given .1) (c .before .if3 .taken)
+returns-2 : tie.Need-returns-2 Inv-loop μ-loop
+returns-2 c = c .stuck2 .ensures ∙ overruns (made (c .before .before .before .before .before)) (c .before .before .before .k2 .given .1) (c .before .if2 .taken)
 
 add-place-2 : tie.Need-add-place-2 Inv-loop μ-loop
 add-place-2 c = omega arith
@@ -132,19 +115,21 @@ loop-less-2 c = omega arith
 
 loop-again-2 : tie.Need-loop-again-2 Inv-loop μ-loop
 loop-again-2 c =
-    let l = c .before .before .before .before .before .before .before .before .before .before .before .before .before .loop in (
+    let l = c .before .before .before .before .before .before .before .before .before .before .before .loop in
+    let t = made (c .before .before .before .before) in
+    let q = below t (c .before .before .k2 .given .1) in (
       l .inv .0,
       omega arith,
       omega arith,
       omega arith,
-      jumps (made (c .before .before .before .before)) (c .before .before .d .given .1) (c .if3 .left),
+      jumps t (c .before .before .k2 .given .1) (c .if2 .left),
     )
 
 enum-known-end : tie.Need-enum-known-end Inv-loop μ-loop
 enum-known-end c = search needs
 
-returns-4 : tie.Need-returns-4 Inv-loop μ-loop
-returns-4 c = ended (made (c .before .before .before)) (c .before .end .given .1)
+returns-3 : tie.Need-returns-3 Inv-loop μ-loop
+returns-3 c = ended (made (c .before .before .before)) (c .before .end .given .1)
 
 array-copy-out-finished : tie.Need-array-copy-out-finished Inv-loop μ-loop
 array-copy-out-finished c = omega arith
@@ -152,8 +137,8 @@ array-copy-out-finished c = omega arith
 finished-requires : tie.Need-finished-requires Inv-loop μ-loop
 finished-requires c κs = search needs
 
-returns-5 : tie.Need-returns-5 Inv-loop μ-loop
-returns-5 c =
+returns-4 : tie.Need-returns-4 Inv-loop μ-loop
+returns-4 c =
     let l = c .before .before .before .loop in
     ends (c .before .before .loop-test .left) (l .inv .4) (held-finish (l .h) (l .stack) ∙ sym (c .finished .ensures))
 
@@ -167,9 +152,6 @@ run-spec =
     add-count
     decode-requires
     add-place
-    takes-requires
-    stuck-requires
-    returns
     from-top-requires
     mul-right
     array-copy-out-right
@@ -177,23 +159,23 @@ run-spec =
     mul-left
     array-copy-out-left
     perform-requires
-    enum-known-v
-    stuck-requires-2
-    returns-2
+    enum-known-k
+    stuck-requires
+    returns
     mul-stack
     array-set-from-stack
     add-h
     loop-less
     loop-again
-    enum-known-d
-    sub-if3
-    stuck-requires-3
-    returns-3
+    enum-known-k-2
+    sub-if2
+    stuck-requires-2
+    returns-2
     add-place-2
     loop-less-2
     loop-again-2
     enum-known-end
-    returns-4
+    returns-3
     array-copy-out-finished
     finished-requires
-    returns-5)
+    returns-4)

@@ -10,7 +10,7 @@ enum-known-flow : tie.Need-enum-known-flow
 enum-known-flow c = search needs
 
 returns : tie.Need-returns
-returns c = end-empty _ (empty-flow (c .before .args .flow) (c .match .keys2))
+returns c = end-empty (empty-flow (c .before .args .flow) (c .match .keys2))
 
 element-copy-out-kind : tie.Need-element-copy-out-kind
 element-copy-out-kind c = search needs
@@ -19,10 +19,14 @@ kind-requires : tie.Need-kind-requires
 kind-requires c κs = search needs
 
 returns-2 : tie.Need-returns-2
-returns-2 c = ap Accepted (c .kind .ensures) ∙ end-one _ (c .before .before .before .before .flow .given .1) (c .before .before .if1 .taken)
+returns-2 c =
+    let f = c .before .before .before .before .before in
+    ap Accepted (c .kind .ensures) ∙ end-one (f .before .before .pre) (f .flow .given .1) (c .before .before .if1 .taken)
 
 returns-3 : tie.Need-returns-3
-returns-3 c = end-other _ (c .before .before .flow .given .1) (c .if1 .left)
+returns-3 c =
+    let f = c .before .before .before in
+    end-other (f .before .before .pre) (f .flow .given .1) (c .if1 .left)
 
 pub ended-spec : {M : Type 1} → statement M
 ended-spec =

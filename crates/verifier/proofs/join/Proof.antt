@@ -1,76 +1,64 @@
 -- `verifier::join` meets its contract, way by way.
+use mathlib.Core.Path.{subst}
 use borrow.Author.Needs.{needs}
-use Rattle.verifier.specs.Shapes.{word}
-use Rattle.verifier.proofs.Joining.{join-none, join-failed, join-takes, join-apart, join-same, join-differs}
+use Rattle.verifier.specs.Shapes.{Neat, Keeps, kept, found}
+use Rattle.verifier.proofs.Joining.{join-none, join-failed, join-takes, join-same, join-differs}
 use Rattle.verifier.proofs.join.Statement.{statement}
 use Rattle.verifier.proofs.join.Tie as tie
 
-returns : tie.Need-returns
-returns c = join-none (c .before .args .flow) _ _ (c .before .pre .0) (c .if1 .taken)
-
-sub-h : tie.Need-sub-h
-sub-h c = search needs
-
-cast-h : tie.Need-cast-h
-cast-h c = search needs
+enum-known-jumps : tie.Need-enum-known-jumps
+enum-known-jumps c = search needs
 
 enum-told : tie.Need-enum-told
 enum-told c = search needs
 
+returns : tie.Need-returns
+returns c = join-none (c .before .before .args .flow) (c .before .before .args .jumps) (c .before .before .pre .0) (c .enum-told .given .1)
+
 enum-told-2 : tie.Need-enum-told-2
 enum-told-2 c = search needs
-
-unpack-requires : tie.Need-unpack-requires
-unpack-requires c κs = search needs
 
 enum-known-flow : tie.Need-enum-known-flow
 enum-known-flow c = search needs
 
-returns-2 : tie.Need-returns-2
-returns-2 c =
-    let s = c .before .before .before .before .before in
-    join-apart (s .args .flow) _ _ (s .pre .0) (c .before .before .flow .given .1) (c .before .before .before .before .if1 .left) (c .if2 .taken)
+restore-requires : tie.Need-restore-requires
+restore-requires c κs =
+    let s = c .before .before .before .before .before .before .before in
+    (subst (λ f. Keeps (s .args .kinds .now) (kept f)) (c .before .before .flow .given .1) (s .pre .0), subst (λ j. Neat (found j)) (c .before .before .before .before .before .jumps .given .1) (s .pre .1))
+
+enum-known-flow-2 : tie.Need-enum-known-flow-2
+enum-known-flow-2 c = search needs
 
 same-requires : tie.Need-same-requires
-same-requires c κs = search needs
+same-requires c κs =
+    let s = c .before .before .before .before .before .before in
+    (subst (λ f. Keeps (s .args .kinds .now) (kept f)) (c .before .flow2 .given .1) (s .pre .0) .neat, subst (λ j. Neat (found j)) (c .before .before .before .before .jumps .given .1) (s .pre .1))
+
+returns-2 : tie.Need-returns-2
+returns-2 c = join-failed (c .before .before .before .before .before .args .flow) (c .before .before .before .before .before .args .jumps) (c .before .before .before .before .before .pre .0) (c .enum-told2 .given .1)
 
 returns-3 : tie.Need-returns-3
-returns-3 c =
-    let s = c .before .before .before in
-    join-failed (s .args .flow) (s .args .top) (word (s .args .packed)) (s .pre .0) (c .enum-told .given .1)
+returns-3 c = join-takes (c .before .before .before .before .before .before .before .before .args .flow) (c .before .before .before .before .before .before .before .before .args .jumps) (c .before .before .before .before .before .before .before .before .pre .0) (c .before .before .before .before .before .before .jumps .given .1) (c .before .before .before .flow .given .1) (c .restore .ensures)
 
 returns-4 : tie.Need-returns-4
-returns-4 c =
-    let s = c .before .before .before .before .before in
-    join-takes (s .args .flow) _ _ (s .pre .0) (c .before .before .enum-told2 .given .1) (c .before .before .before .before .if1 .left) (s .pre .1)
-    (c .unpack .ensures .0) (c .unpack .ensures .1)
+returns-4 c = join-same (c .before .before .before .before .before .before .before .before .args .flow) (c .before .before .before .before .before .before .before .before .args .jumps) (c .before .before .before .before .before .before .before .before .pre .0) (c .before .before .before .before .before .before .jumps .given .1) (c .before .before .before .flow2 .given .1) (c .before .same .ensures) (c .if1 .taken)
 
 returns-5 : tie.Need-returns-5
-returns-5 c =
-    let f = c .before .before .before .before .before in
-    let s = f .before .before .before in
-    join-same (s .args .flow) _ _ (s .pre .0) (f .flow .given .1) (f .before .before .if1 .left) (c .before .before .before .if2 .left) (c .before .same .ensures) (c .if3 .taken)
-
-returns-6 : tie.Need-returns-6
-returns-6 c =
-    let f = c .before .before .before .before .before in
-    let s = f .before .before .before in
-    join-differs (s .args .flow) _ _ (s .pre .0) (f .flow .given .1) (f .before .before .if1 .left) (c .before .before .before .if2 .left) (c .before .same .ensures) (c .if3 .left)
+returns-5 c = join-differs (c .before .before .before .before .before .before .before .before .args .flow) (c .before .before .before .before .before .before .before .before .args .jumps) (c .before .before .before .before .before .before .before .before .pre .0) (c .before .before .before .before .before .before .jumps .given .1) (c .before .before .before .flow2 .given .1) (c .before .same .ensures) (c .if1 .left)
 
 pub join-spec : {M : Type 1} → statement M
 join-spec =
     tie.close
     (tie.spec
-    returns
-    sub-h
-    cast-h
+    enum-known-jumps
     enum-told
+    returns
     enum-told-2
-    unpack-requires
     enum-known-flow
-    returns-2
+    restore-requires
+    enum-known-flow-2
     same-requires
+    returns-2
     returns-3
     returns-4
-    returns-5
-    returns-6)
+    returns-5)

@@ -1,10 +1,21 @@
 -- `code::encoding::parts_of` meets its contract: an arm for each instruction, and its callees are the rule's parts.
+use mathlib.Core.Path.{_≡_}
+use mathlib.Core.Bool.{Bool, true, false}
+use Prim.Native.Nat.{ℕ}
 use borrow.Author.Needs.{needs}
 use mir.Syntax.{w32}
 use mir.Val.{SFits}
 use mir.ValLaws.{toZ-ofZ}
+use Rattle.code.specs.declared.Instr.the-variants.{JumpIf}
+use Rattle.code.specs.Encode.{eight, encode}
 use Rattle.code.proofs.encoding.parts_of.Statement.{statement}
 use Rattle.code.proofs.encoding.parts_of.Tie as tie
+
+at-true : (t : Bool) (d : ℕ) → t ≡ true → eight 9 0 d ≡ encode (JumpIf t d)
+at-true t d e = rw e
+
+at-false : (t : Bool) (d : ℕ) → t ≡ false → eight 8 0 d ≡ encode (JumpIf t d)
+at-false t d e = rw e
 
 enum-known-i : tie.Need-enum-known-i
 enum-known-i c = search needs
@@ -76,10 +87,14 @@ returns-7 : tie.Need-returns-7
 returns-7 c = rw (c .before .i7 .given .1)
 
 returns-8 : tie.Need-returns-8
-returns-8 c = rw (c .before .before .i8 .given .1, c .if1 .taken)
+returns-8 c =
+    let i = c .before .before .i8 .given in
+    rw (i .1) (at-true (i .0 .0) (i .0 .1 .0) (c .if1 .taken))
 
 returns-9 : tie.Need-returns-9
-returns-9 c = rw (c .before .before .i8 .given .1, c .if1 .left)
+returns-9 c =
+    let i = c .before .before .i8 .given in
+    rw (i .1) (at-false (i .0 .0) (i .0 .1 .0) (c .if1 .left))
 
 returns-10 : tie.Need-returns-10
 returns-10 c = rw (c .enum-told .given .1)

@@ -1,7 +1,7 @@
 -- `code::encoding::put` meets its contract: the eight bytes are stored one by one.
 use mathlib.Core.Path.{_≡_, ap}
 use mathlib.Core.List.{List, [], _∷_}
-use Prim.Native.Nat.{ℕ, _*_, _/_, _%_, _<_}
+use Prim.Native.Nat.{ℕ, _*_, _/_, _%_, _≤_, _<_}
 use native.Mathlib.Numerals.{add-one, add-two, add-three, add-four, add-five, add-six, add-seven}
 use native.Mathlib.Omega.{arith}
 use lib.ListN.{length, length-set}
@@ -26,7 +26,10 @@ one-by-one : (s : List ℕ) (p : ℕ) (i : Instr) (o a w : ℕ) → eight o a w 
 one-by-one s p i o a w e h = rw (lt-ltb p (length s / 8) h, ← e) (ap (λ (l : List ℕ). sets s (8 * p) (o ∷ a ∷ 0 ∷ 0 ∷ l)) (bytes-by w))
 
 returns : tie.Need-returns
-returns c = rw (le-ltb (c .before .before .args .place) _ (c .if1 .taken))
+returns c =
+    let a = c .before .before .args in
+    let beyond : length (a .code .now) / 8 ≤ a .place = omega arith in
+    rw (le-ltb (a .place) _ beyond)
 
 mul-at : tie.Need-mul-at
 mul-at c = search needs
@@ -35,7 +38,7 @@ parts-of-requires : tie.Need-parts-of-requires
 parts-of-requires c κs = search needs
 
 slice-write-code : tie.Need-slice-write-code
-slice-write-code c = search needs
+slice-write-code c = omega arith
 
 add-code : tie.Need-add-code
 add-code c = search needs

@@ -70,9 +70,10 @@ enum-known-i-6 : tie.Need-enum-known-i-6
 enum-known-i-6 c = search needs
 
 returns : tie.Need-returns
-returns c =
-    let s = c .before .before .before .before in
-    at _ (c .before .before .i6 .given .1) (stops (s .pre .whole) (jump-short _ _ _ _ (c .if1 .taken)))
+returns c = at _ (c .before .before .before .i6 .given .1) (stops (c .before .before .before .before .before .pre .whole) (jump-short _ _ _ (c .if1 .taken)))
+
+popped-requires : tie.Need-popped-requires
+popped-requires c κs = search needs
 
 enum-told-3 : tie.Need-enum-told-3
 enum-told-3 c = search needs
@@ -99,12 +100,10 @@ returns-7 c = at _ (c .before .before .before .i4 .given .1) (c .binary .ensures
 
 returns-8 : tie.Need-returns-8
 unfolding moveOf
-returns-8 c = at _ (c .before .i5 .given .1) (record { room = c .before .before .before .pre; is = refl })
+returns-8 c = at _ (c .before .i5 .given .1) (record { keeps = c .before .before .before .pre; is = refl })
 
 returns-9 : tie.Need-returns-9
-returns-9 c =
-    let s = c .before .before .before .before in
-    at _ (c .before .before .i6 .given .1) (jump-one _ (s .args .h) (omega arith) (s .pre .whole) (s .pre .low) _ _)
+returns-9 c = at _ (c .before .before .before .before .i6 .given .1) (jump-one (c .before .before .before .before .before .before .pre) (omega arith) (c .popped .ensures) _ _)
 
 returns-10 : tie.Need-returns-10
 unfolding moveOf
@@ -130,6 +129,7 @@ typed-spec =
     enum-known-i-5
     enum-known-i-6
     returns
+    popped-requires
     enum-told-3
     returns-2
     returns-3

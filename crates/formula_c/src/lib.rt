@@ -1,0 +1,91 @@
+// The four operations for C: include/formula.h. A slice is a pointer and a length there, and the report is five 32-bit words.
+ghost use mathlib.Core.Path.{_≡_};
+ghost use Prim.Native.Nat.{_%_, _^_};
+ghost use lib.ListN.{length};
+ghost use Rattle.compiler.specs.Compile.{compiling, codedBytes};
+ghost use Rattle.operations.specs.Operations.{compileAnswer, request, performed, performedMemory, performedCode};
+ghost use Rattle.formula_c.specs.Words.{kindNumber, bitsOf, told, Checked, Ran};
+use operations::Answer;
+use values::Kind;
+use values::Value;
+
+fn kind_number(v: Value) -> u32
+    ensures { λ r. ⌜ r ≡ kindNumber v ⌝ }
+{
+    match v {
+        Value::Int(_) => 0,
+        Value::Real(_) => 1,
+    }
+}
+
+fn bits_of(v: Value) -> u32
+    ensures { λ r. ⌜ r ≡ bitsOf v ⌝ }
+{
+    match v {
+        Value::Int(z) => values::patterns::pattern(z),
+        Value::Real(x) => code::encoding::pattern_of(x),
+    }
+}
+
+fn low(n: usize) -> u32
+    ensures { λ r. ⌜ r ≡ n % 2 ^ 32 ⌝ }
+{
+    (n % 4294967296) as u32
+}
+
+fn tell(a: Answer, report: &mut [u32; 5])
+    ensures { λ _. ⌜ now (report .exit) ≡ told a ⌝ }
+{
+    let r = operations::reported(a);
+    let value = r.value;
+    let place = low(r.place);
+    let count = low(r.count);
+    *report = [r.answer, place, kind_number(value), bits_of(value), count];
+}
+
+#[no_mangle]
+pub extern "C" fn formula_compile(expr: &[u8], code: &mut [u8], report: &mut [u32; 5])
+    ensures { λ _. ⌜ now (report .exit) ≡ told (compileAnswer (compiling (length (now (code .entry))) (now (expr .entry)))) ⌝ }
+    ensures { λ _. ⌜ now (code .exit) ≡ codedBytes (now (code .entry)) (compiling (length (now (code .entry))) (now (expr .entry))) ⌝ }
+{
+    let answer = operations::compile(expr, code);
+    tell(answer, report);
+}
+
+#[no_mangle]
+pub extern "C" fn formula_check(code: &[u8], instructions: usize, report: &mut [u32; 5])
+    ensures { λ _. ⌜ Checked (now (code .entry)) instructions (now (report .exit)) ⌝ }
+{
+    let answer = operations::check(code, instructions);
+    tell(answer, report);
+}
+
+#[no_mangle]
+pub extern "C" fn formula_run(
+    code: &[u8],
+    instructions: usize,
+    memory: &mut [u8],
+    target: &[u8],
+    report: &mut [u32; 5],
+)
+    ensures { λ _. ⌜ Ran (now (code .entry)) instructions (now (target .entry)) (now (memory .entry)) (now (memory .exit)) (now (report .exit)) ⌝ }
+{
+    let answer = operations::run(code, instructions, memory, target);
+    tell(answer, report);
+}
+
+#[no_mangle]
+pub extern "C" fn formula_compile_and_run(
+    target: &[u8],
+    expr: &[u8],
+    memory: &mut [u8],
+    code: &mut [u8],
+    report: &mut [u32; 5],
+)
+    ensures { λ _. ⌜ now (report .exit) ≡ told (performed (now (memory .entry)) (request (now (target .entry)) (now (expr .entry)) (now (memory .entry)) (now (code .entry)))) ⌝ }
+    ensures { λ _. ⌜ now (memory .exit) ≡ performedMemory (now (memory .entry)) (request (now (target .entry)) (now (expr .entry)) (now (memory .entry)) (now (code .entry))) ⌝ }
+    ensures { λ _. ⌜ now (code .exit) ≡ performedCode (now (code .entry)) (request (now (target .entry)) (now (expr .entry)) (now (memory .entry)) (now (code .entry))) ⌝ }
+{
+    let answer = operations::compile_and_run(target, expr, memory, code);
+    tell(answer, report);
+}
