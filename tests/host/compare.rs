@@ -1,0 +1,113 @@
+//! One request by both implementations, and what differs.
+
+use crate::cases::{compiled_as_promised, Operation, Request};
+use crate::library::{self, Lent};
+use crate::memory::MEMORY_BYTES;
+use crate::ops::{self, Report, CODE_BYTES};
+
+struct Expected {
+    report: Report,
+    memory: Vec<u8>,
+    code: Vec<u8>,
+}
+
+struct Actual {
+    report: Report,
+    memory: Lent,
+    code: Lent,
+}
+
+/// The report that both give, or what differs.
+pub fn compare(request: &Request) -> Result<Report, String> {
+    let expected = expected(request);
+    let actual = actual(request)?;
+    if actual.report != expected.report {
+        return Err(format!("expected {:?}\ngot      {:?}", expected.report, actual.report));
+    }
+    same_bytes("memory", &expected.memory, actual.memory.content())?;
+    same_bytes("code buffer", &expected.code, actual.code.content())?;
+    same_as_tree(request, &actual)?;
+    let compiled = request.operation == Operation::Compile && actual.report.answer == 0;
+    if compiled && !compiled_as_promised(&request.expr, actual.code.content(), actual.report.count) {
+        return Err("the compiled code is not accepted or too long".into());
+    }
+    Ok(actual.report)
+}
+
+fn expected(request: &Request) -> Expected {
+    let Request { target, expr, instructions, .. } = request;
+    let (mut memory, mut code) = (request.memory.clone(), request.code.clone());
+    let report = match request.operation {
+        Operation::Compile => ops::compile(expr, &mut code),
+        Operation::Check => ops::check(&code, *instructions),
+        Operation::Run => ops::run(&code, *instructions, &mut memory, target),
+        Operation::CompileAndRun => ops::compile_and_run(target, expr, &mut memory, &mut code),
+    };
+    Expected { report, memory, code }
+}
+
+fn actual(request: &Request) -> Result<Actual, String> {
+    let lend = |bytes: &[u8]| Lent::new(bytes, request.alignment);
+    let (target, expr) = (lend(&request.target), lend(&request.expr));
+    let (mut memory, mut code) = (lend(&request.memory), lend(&request.code));
+    let report = match request.operation {
+        Operation::Compile => library::compile(&expr, &mut code),
+        Operation::Check => library::check(&code, request.instructions),
+        Operation::Run => library::run(&code, request.instructions, &mut memory, &target),
+        Operation::CompileAndRun => library::compile_and_run(&target, &expr, &mut memory, &mut code),
+    };
+    same_bytes("target", &request.target, target.content())?;
+    same_bytes("expression", &request.expr, expr.content())?;
+    if ![&target, &expr, &memory, &code].iter().all(|lent| lent.guards_stand()) {
+        return Err("bytes beside a lent buffer were written".into());
+    }
+    Ok(Actual { report, memory, code })
+}
+
+// The value of the tree against the value of the code. The tree counts no instructions.
+fn same_as_tree(request: &Request, actual: &Actual) -> Result<(), String> {
+    let sizes = request.memory.len() == MEMORY_BYTES && request.code.len() >= CODE_BYTES;
+    if request.operation != Operation::CompileAndRun || !sizes {
+        return Ok(());
+    }
+    let mut memory = request.memory.clone();
+    let walked = ops::walk(&request.target, &request.expr, &mut memory);
+    let report = Report { count: 0, ..actual.report };
+    if walked != report {
+        return Err(format!("the tree gives {walked:?}\nthe code      {report:?}"));
+    }
+    same_bytes("memory, by the tree,", &memory, actual.memory.content())
+}
+
+fn same_bytes(what: &str, expected: &[u8], actual: &[u8]) -> Result<(), String> {
+    if expected == actual {
+        return Ok(());
+    }
+    let at = expected.iter().zip(actual).position(|(e, a)| e != a).unwrap_or(0);
+    Err(format!("{what} differs at byte {at}: expected {}, got {}", expected[at], actual[at]))
+}
+
+fn text(bytes: &[u8]) -> String {
+    format!("{} bytes \"{}\"", bytes.len(), bytes.escape_ascii())
+}
+
+fn hex(bytes: &[u8]) -> String {
+    bytes.iter().map(|b| format!("{b:02x}")).collect()
+}
+
+/// The request in full, one input a line.
+pub fn show(request: &Request) -> String {
+    let mut lines = format!("{:?}\n", request.operation);
+    if matches!(request.operation, Operation::Compile | Operation::CompileAndRun) {
+        lines += &format!("expr {}\n", text(&request.expr));
+        lines += &format!("code buffer {} bytes\n", request.code.len());
+    } else {
+        lines += &format!("{} instructions\n", request.instructions);
+        lines += &format!("code {} bytes {}\n", request.code.len(), hex(&request.code));
+    }
+    if matches!(request.operation, Operation::Run | Operation::CompileAndRun) {
+        lines += &format!("target {}\n", text(&request.target));
+        lines += &format!("memory {} bytes {}\n", request.memory.len(), hex(&request.memory));
+    }
+    lines
+}

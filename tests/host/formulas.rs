@@ -1,0 +1,420 @@
+//! Random formulas that follow the grammar, and texts that do not.
+
+use crate::memory::BANKS;
+use crate::random::Random;
+use crate::text::tokens;
+use crate::value::Kind;
+
+const TEXT_LIMIT: usize = 1024;
+
+// Tightest first.
+const LEVELS: [&[&str]; 11] = [
+    &["**"],
+    &["*", "/", "%"],
+    &["+", "-"],
+    &["<<", ">>", ">>>"],
+    &["<", ">", "<=", ">="],
+    &["==", "!="],
+    &["&"],
+    &["^"],
+    &["|"],
+    &["&&"],
+    &["||"],
+];
+const LOOSEST_REAL: usize = 2;
+
+#[derive(Clone, Copy)]
+enum Shape {
+    Any,
+    /// The left operand takes all: long chains.
+    Chain,
+    /// The right operand takes all: deep brackets, many values held.
+    Deep,
+}
+
+struct Writer<'a> {
+    random: &'a mut Random,
+    text: Vec<u8>,
+    /// How many brackets may still be opened.
+    brackets: usize,
+    shape: Shape,
+    /// 0 none, 1 one space around operators, 2 any blanks.
+    blanks: usize,
+    /// Kinds are not looked after, so that answer 9 comes up.
+    careless: bool,
+}
+
+/// A formula of the grammar with at most 1,024 bytes. Few have operands of the wrong kind or a ninth bracket open.
+pub fn formula(random: &mut Random) -> Vec<u8> {
+    let most = match random.below(20) {
+        0..=9 => 6,
+        10..=16 => 25,
+        17..=18 => 90,
+        _ => 400,
+    };
+    let mut operands = 1 + random.below(most);
+    let shape = *random.pick(&[Shape::Any, Shape::Any, Shape::Chain, Shape::Deep]);
+    let blanks = random.below(3);
+    let careless = random.one_in(12);
+    let brackets = if random.one_in(20) { 9 } else { 8 };
+    loop {
+        let mut writer = Writer { random, text: Vec::new(), brackets, shape, blanks, careless };
+        let kind = writer.either();
+        writer.expression(kind, LEVELS.len(), operands);
+        let text = writer.text;
+        if text.len() <= TEXT_LIMIT {
+            return text;
+        }
+        operands = operands / 2 + 1;
+    }
+}
+
+impl Writer<'_> {
+    fn either(&mut self) -> Kind {
+        *self.random.pick(&[Kind::Int, Kind::Real])
+    }
+
+    fn blank(&mut self) {
+        match self.blanks {
+            1 => self.text.push(b' '),
+            2 => {
+                for _ in 0..self.random.below(3) {
+                    let blank = *self.random.pick(b" \t");
+                    self.text.push(blank);
+                }
+            }
+            _ => {}
+        }
+    }
+
+    fn write(&mut self, symbol: &str) {
+        self.text.extend(symbol.as_bytes());
+    }
+
+    // An expression with operators from fewer than the given number of levels and about as many operands as given.
+    fn expression(&mut self, kind: Kind, levels: usize, operands: usize) {
+        let kind = if self.careless && self.random.one_in(4) { self.either() } else { kind };
+        let levels = if kind == Kind::Real { levels.min(LOOSEST_REAL + 1) } else { levels };
+        if operands <= 1 || levels == 0 || self.random.one_in(8) {
+            return self.unary(kind, operands);
+        }
+        let level = match self.shape {
+            // One level after the other, so that as many values as possible wait.
+            Shape::Deep => levels - 1 - self.random.below(2).min(levels - 1),
+            _ => self.random.below(levels),
+        };
+        let right = match self.shape {
+            Shape::Any => 1 + self.random.below(operands - 1),
+            Shape::Chain => 1 + self.random.below(2).min(operands - 2),
+            Shape::Deep => operands - 1,
+        };
+        let (left_kind, right_kind) = self.operand_kinds(level, kind);
+        self.expression(left_kind, level + 1, operands - right);
+        self.blank();
+        let operator = self.random.pick(LEVELS[level]);
+        self.write(operator);
+        self.blank();
+        // Most exponents and shift counts are small: the others only give 13.
+        if (level == 0 || level == 3) && right < 10 && !self.random.one_in(5) {
+            let count = self.random.below(if level == 0 { 5 } else { 33 });
+            return self.write(&count.to_string());
+        }
+        self.expression(right_kind, level, right);
+    }
+
+    // Kinds of the operands with which an operator of the level gives the kind.
+    fn operand_kinds(&mut self, level: usize, kind: Kind) -> (Kind, Kind) {
+        match level {
+            0 => (kind, Kind::Int),
+            1 | 2 => self.at_least_one(kind),
+            4 | 5 | 9 | 10 => (self.either(), self.either()),
+            _ => (Kind::Int, Kind::Int),
+        }
+    }
+
+    fn at_least_one(&mut self, kind: Kind) -> (Kind, Kind) {
+        match kind {
+            Kind::Int => (Kind::Int, Kind::Int),
+            Kind::Real if self.random.one_in(2) => (Kind::Real, self.either()),
+            Kind::Real => (self.either(), Kind::Real),
+        }
+    }
+
+    fn unary(&mut self, kind: Kind, operands: usize) {
+        let mut kind = kind;
+        let operators = match self.random.below(60) {
+            0 => self.random.below(60),
+            1..=20 => 1 + self.random.below(2),
+            _ => 0,
+        };
+        for _ in 0..operators {
+            match (kind, self.random.below(3)) {
+                (Kind::Int, 0) => self.write("~"),
+                (Kind::Int, 1) => {
+                    self.write("!");
+                    kind = self.either();
+                }
+                _ => self.write("-"),
+            }
+            self.blank();
+        }
+        self.primary(kind, operands);
+    }
+
+    fn primary(&mut self, kind: Kind, operands: usize) {
+        if self.brackets == 0 || (operands <= 1 && !self.random.one_in(6)) {
+            return self.leaf(kind);
+        }
+        self.brackets -= 1;
+        match self.random.below(5) {
+            0 | 1 => {
+                self.write("(");
+                self.inside(kind, operands);
+                self.write(")");
+            }
+            2 => self.indexed(kind, operands),
+            _ => self.call(kind, operands),
+        }
+        self.brackets += 1;
+    }
+
+    fn inside(&mut self, kind: Kind, operands: usize) {
+        self.blank();
+        self.expression(kind, LEVELS.len(), operands);
+        self.blank();
+    }
+
+    fn indexed(&mut self, kind: Kind, operands: usize) {
+        let bank = if kind == Kind::Real { b'R' } else { *self.random.pick(b"XCVND") };
+        self.text.push(bank);
+        self.write("[");
+        // Most of the simple ones lie within their bank.
+        if operands <= 1 && self.random.one_in(2) {
+            let index = self.random.below(70);
+            self.write(&index.to_string());
+        } else {
+            let index = self.either();
+            self.inside(index, operands);
+        }
+        self.write("]");
+    }
+
+    fn call(&mut self, kind: Kind, operands: usize) {
+        let any = self.either();
+        match self.random.below(4) {
+            0 => self.arguments("ABS", &[kind], operands),
+            1 if kind == Kind::Real => {
+                let name = *self.random.pick(&["TOREAL", "FRAC"]);
+                self.arguments(name, &[any], operands);
+            }
+            1 => {
+                let name = *self.random.pick(&["TOINT", "TRUNC", "ROUND"]);
+                self.arguments(name, &[any], operands);
+            }
+            2 => {
+                let name = *self.random.pick(&["MAX", "MIN"]);
+                let (first, second) = self.at_least_one(kind);
+                self.arguments(name, &[first, second], operands);
+            }
+            _ => {
+                let (first, second) = self.at_least_one(kind);
+                self.arguments("IF", &[any, first, second], operands);
+            }
+        }
+    }
+
+    fn arguments(&mut self, name: &str, kinds: &[Kind], operands: usize) {
+        self.write(name);
+        self.blank();
+        self.write("(");
+        for (number, kind) in kinds.iter().enumerate() {
+            if number > 0 {
+                self.write(",");
+            }
+            self.inside(*kind, operands / kinds.len());
+        }
+        self.write(")");
+    }
+
+    fn leaf(&mut self, kind: Kind) {
+        match (kind, self.random.one_in(2)) {
+            (_, true) => self.cell(kind),
+            (Kind::Int, _) => self.integer(),
+            (Kind::Real, _) => self.real(),
+        }
+    }
+
+    fn cell(&mut self, kind: Kind) {
+        let bank = if kind == Kind::Real { BANKS[5] } else { BANKS[self.random.below(5)] };
+        let element = if self.random.one_in(4) { self.random.below(bank.cells()) } else { self.random.below(10) };
+        self.text.push(bank.letter());
+        self.write(&element.to_string());
+    }
+
+    fn integer(&mut self) {
+        let i = self.random.integer();
+        let text = match self.random.below(8) {
+            0 => format!("0x{i:x}"),
+            1 => format!("0x{i:08X}"),
+            2 => format!("000{}", i.unsigned_abs() % 1000),
+            3 => format!("{}", i.unsigned_abs().min(i32::MAX as u32)),
+            _ => format!("{}", self.random.below(20)),
+        };
+        self.write(&text);
+    }
+
+    fn real(&mut self) {
+        let digits = 2 + self.random.below(6);
+        let text: Vec<u8> = (0..digits).map(|_| b'0' + self.random.below(10) as u8).collect();
+        let dot = 1 + self.random.below(digits - 1);
+        self.text.extend(&text[..dot]);
+        self.text.push(b'.');
+        self.text.extend(&text[dot..]);
+    }
+}
+
+// Pieces that texts are damaged with: every symbol and name, and forms of numerals and words that are refused.
+#[rustfmt::skip]
+const PIECES: [&str; 78] = [
+    "-", "~", "!", "**", "*", "/", "%", "+", "<<", ">>", ">>>", "<", ">", "<=", ">=", "==", "!=", "&", "^", "|", "&&",
+    "||", "(", ")", "[", "]", ",", "ABS", "TOREAL", "TOINT", "TRUNC", "ROUND", "FRAC", "MAX", "MIN", "IF", "X", "C",
+    "V", "N", "D", "R", "D0", "R1", "X63", "C64", "V255", "D256", "D01", "d0", "abs", "T0", "E", "0", "7", "1.5",
+    "0x1F", "0xFFFFFFFFF", "0x", "0X1", "1.", "1..2", "1.2.3", "2147483648", "2147483647", "12345678.", "1234567.8",
+    "0.000001", "1e5", "3MAX", "=", ".", "$", ":R", " ", "\t", "\r", "_",
+];
+
+fn piece(random: &mut Random) -> &'static [u8] {
+    random.pick(&PIECES).as_bytes()
+}
+
+/// The text with one to three faults: bytes or tokens changed, swapped, left out, put in.
+pub fn damaged(random: &mut Random, text: &[u8]) -> Vec<u8> {
+    let mut text = text.to_vec();
+    for _ in 0..1 + random.below(3) {
+        match random.below(3) {
+            0 => damage_bytes(random, &mut text),
+            _ => damage_tokens(random, &mut text),
+        }
+    }
+    text
+}
+
+fn damage_bytes(random: &mut Random, text: &mut Vec<u8>) {
+    if text.is_empty() {
+        return text.push(random.byte());
+    }
+    let at = random.below(text.len());
+    match random.below(5) {
+        0 => text[at] ^= 1 << random.below(8),
+        1 => text[at] = random.byte(),
+        2 => drop(text.remove(at)),
+        3 => text.insert(at, random.byte()),
+        _ => text.truncate(at),
+    }
+}
+
+fn damage_tokens(random: &mut Random, text: &mut Vec<u8>) {
+    let mut parts = parts(text);
+    if parts.is_empty() {
+        return text.extend(piece(random));
+    }
+    let at = random.below(parts.len());
+    match random.below(5) {
+        0 => parts[at] = piece(random).to_vec(),
+        1 => drop(parts.remove(at)),
+        2 => parts.insert(at, piece(random).to_vec()),
+        3 => {
+            let other = random.below(parts.len());
+            parts.swap(at, other);
+        }
+        _ => parts.insert(at, parts[random.below(parts.len())].clone()),
+    }
+    *text = parts.concat();
+}
+
+// The text cut at the start of each token. A text with a refused token is one part.
+fn parts(text: &[u8]) -> Vec<Vec<u8>> {
+    let Ok(tokens) = tokens(text) else { return vec![text.to_vec()] };
+    let ends = tokens.iter().skip(1).map(|t| t.place).chain([text.len()]);
+    tokens.iter().zip(ends).map(|(t, end)| text[t.place..end].to_vec()).collect()
+}
+
+/// One numeral or word, good or not, sometimes with a minus: most of the borders of answers 4, 5 and 6.
+pub fn one_word(random: &mut Random) -> Vec<u8> {
+    let mut text = if random.one_in(4) { b"-".to_vec() } else { Vec::new() };
+    let mut digits = |most: usize, of: &[u8]| -> Vec<u8> {
+        let number = random.below(most + 1);
+        (0..number).map(|_| *random.pick(of)).collect()
+    };
+    let (before, after) = (digits(7, b"00123456789"), digits(7, b"0123456789"));
+    let (decimal, hex) = (digits(11, b"0012345678999"), digits(10, b"000123456789abcdefABCDEF"));
+    let number = digits(3, b"0123456");
+    match random.below(8) {
+        0..=3 => text.extend([&before[..], b".", &after].concat()),
+        4 => text.extend(decimal),
+        5 => text.extend([b"0x", &hex[..]].concat()),
+        6 => text.extend([&[random.pick(&BANKS).letter()][..], &number].concat()),
+        _ => text.extend((0..2).flat_map(|_| piece(random))),
+    }
+    text
+}
+
+// Six to eleven openers, then pieces: answers 7 and 8 close to each other.
+fn openers(random: &mut Random) -> Vec<u8> {
+    const OPENERS: [&str; 9] = ["(", "(", "D[", "-(", "MAX(", "MAX(1,", "1+(", "IF(1,(2),", "ABS("];
+    let number = 6 + random.below(6);
+    let mut text: Vec<u8> = (0..number).flat_map(|_| random.pick(&OPENERS).bytes()).collect();
+    for _ in 0..random.below(4) {
+        text.extend(random.pick(&["1", ")", "(", "D", "ABS", "[", "]", ",", "+", " "]).as_bytes());
+    }
+    text
+}
+
+/// A text that no grammar made: bytes or pieces at random.
+pub fn noise(random: &mut Random) -> Vec<u8> {
+    let length = random.below(40);
+    match random.below(4) {
+        3 => openers(random),
+        0 => (0..length).map(|_| random.byte()).collect(),
+        1 => (0..length).map(|_| *random.pick(b"0123456789.xXABCDFNRVM()[]+-*/%<>=!&|^~, \t")).collect(),
+        _ => (0..length).flat_map(|_| piece(random)).copied().collect(),
+    }
+}
+
+// What long texts are made of.
+#[rustfmt::skip]
+const UNITS: [&str; 17] = [
+    "1+", "1&&", "1||", "-", "!", "0", " ", "(", "D0**", "R1*", "1<", "IF(1,1,1)+", "D[0]-", "1.5,", "~", "IF(1,2,R1)+",
+    "MAX(1,",
+];
+
+// A value waits at every level in every bracket: the most values that a formula can hold.
+fn deepest(random: &mut Random) -> Vec<u8> {
+    let brackets = random.below(10);
+    let level = "V0|1^1&1==1<1<<1+1*1**";
+    [&format!("{level}MAX(1,").repeat(brackets), level, "V1", &")".repeat(brackets)].concat().into_bytes()
+}
+
+/// A text at or near the borders of the length: nothing, blanks only, and 1,023 to 1,026 bytes.
+pub fn long(random: &mut Random) -> Vec<u8> {
+    let length = *random.pick(&[0, 1, 1022, 1023, 1024, 1024, 1024, 1025, 1026, 3000]);
+    let unit = random.pick(&UNITS).as_bytes();
+    let mut text: Vec<u8> = match random.below(6) {
+        0 | 1 => formula(random),
+        2 => deepest(random),
+        _ => Vec::new(),
+    };
+    let end: &[u8] = if random.one_in(3) { b"" } else { b"1" };
+    text.truncate(length);
+    if !text.is_empty() {
+        text.resize(length.max(text.len()), b' ');
+        return text;
+    }
+    let body = length.saturating_sub(end.len());
+    text.extend(unit.iter().cycle().take(body / unit.len() * unit.len()));
+    text.extend(&end[..end.len().min(length)]);
+    // Blanks at the start, so that the last byte stays the operand.
+    let missing = length - text.len();
+    text.splice(0..0, std::iter::repeat_n(b' ', missing));
+    text
+}

@@ -1,0 +1,106 @@
+//! The C library, called on buffers with guard bytes around them.
+
+use crate::ops::Report;
+
+#[link(name = "formula_c", kind = "static")]
+extern "C" {
+    fn formula_compile(expr: *const u8, expr_len: usize, code: *mut u8, code_len: usize, report: *mut Report);
+    fn formula_check(code: *const u8, code_len: usize, instructions: usize, report: *mut Report);
+    fn formula_run(
+        code: *const u8,
+        code_len: usize,
+        instructions: usize,
+        memory: *mut u8,
+        memory_len: usize,
+        target: *const u8,
+        target_len: usize,
+        report: *mut Report,
+    );
+    fn formula_compile_and_run(
+        target: *const u8,
+        target_len: usize,
+        expr: *const u8,
+        expr_len: usize,
+        memory: *mut u8,
+        memory_len: usize,
+        code: *mut u8,
+        code_len: usize,
+        report: *mut Report,
+    );
+}
+
+const GUARD: usize = 24;
+const GUARD_BYTE: u8 = 0xA5;
+
+/// Bytes lent to the library. They start at any alignment, and what stands around them must stay as it is.
+pub struct Lent {
+    bytes: Vec<u8>,
+    start: usize,
+    length: usize,
+}
+
+impl Lent {
+    pub fn new(content: &[u8], alignment: usize) -> Lent {
+        let start = GUARD + alignment;
+        let mut bytes = Vec::with_capacity(start + content.len() + GUARD);
+        bytes.resize(start, GUARD_BYTE);
+        bytes.extend_from_slice(content);
+        bytes.resize(start + content.len() + GUARD, GUARD_BYTE);
+        Lent { bytes, start, length: content.len() }
+    }
+
+    pub fn content(&self) -> &[u8] {
+        &self.bytes[self.start..self.start + self.length]
+    }
+
+    pub fn guards_stand(&self) -> bool {
+        let (before, rest) = self.bytes.split_at(self.start);
+        before.iter().chain(&rest[self.length..]).all(|b| *b == GUARD_BYTE)
+    }
+
+    fn lend(&self) -> (*const u8, usize) {
+        (self.content().as_ptr(), self.length)
+    }
+
+    fn lend_to_write(&mut self) -> (*mut u8, usize) {
+        (self.bytes[self.start..].as_mut_ptr(), self.length)
+    }
+}
+
+// What a report holds before the call: every word must be written.
+const UNWRITTEN: Report = Report { answer: 77, place: 77, kind: 77, bits: 77, count: 77 };
+
+// Each call lends what the header asks for: readable or writable bytes of the given length that do not overlap.
+
+pub fn compile(expr: &Lent, code: &mut Lent) -> Report {
+    let mut report = UNWRITTEN;
+    let (expr, (code, code_len)) = (expr.lend(), code.lend_to_write());
+    unsafe { formula_compile(expr.0, expr.1, code, code_len, &mut report) };
+    report
+}
+
+pub fn check(code: &Lent, instructions: usize) -> Report {
+    let mut report = UNWRITTEN;
+    let code = code.lend();
+    unsafe { formula_check(code.0, code.1, instructions, &mut report) };
+    report
+}
+
+pub fn run(code: &Lent, instructions: usize, memory: &mut Lent, target: &Lent) -> Report {
+    let mut report = UNWRITTEN;
+    let (code, target, memory) = (code.lend(), target.lend(), memory.lend_to_write());
+    unsafe {
+        formula_run(code.0, code.1, instructions, memory.0, memory.1, target.0, target.1, &mut report);
+    }
+    report
+}
+
+pub fn compile_and_run(target: &Lent, expr: &Lent, memory: &mut Lent, code: &mut Lent) -> Report {
+    let mut report = UNWRITTEN;
+    let (target, expr) = (target.lend(), expr.lend());
+    let (memory, code) = (memory.lend_to_write(), code.lend_to_write());
+    unsafe {
+        formula_compile_and_run(target.0, target.1, expr.0, expr.1, memory.0, memory.1, code.0, code.1, &mut report);
+    }
+    report
+}

@@ -1,0 +1,116 @@
+//! The program of the requirements: lines of key=value in, answer, place and the target's cell out.
+
+use crate::memory::{cell_name, offset, read, store, target_cell, Bank, MEMORY_BYTES};
+use crate::ops::{Report, CODE_BYTES};
+use crate::value::Value;
+
+/// An implementation of compile-and-run: target, expression, memory, code buffer.
+pub type Operation = fn(&[u8], &[u8], &mut [u8], &mut [u8]) -> Report;
+
+pub struct Input {
+    pub memory: Vec<u8>,
+    pub target: Vec<u8>,
+    pub expr: Vec<u8>,
+}
+
+/// Reads the lines of one case. Lines of any other form are skipped.
+pub fn read_input(lines: &[u8]) -> Input {
+    let mut input = Input { memory: vec![0; MEMORY_BYTES], target: Vec::new(), expr: Vec::new() };
+    for line in lines.split(|b| *b == b'\n') {
+        let Some(equals) = line.iter().position(|b| *b == b'=') else { continue };
+        let (key, value) = (&line[..equals], &line[equals + 1..]);
+        match key {
+            b"target" => input.target = value.to_vec(),
+            b"expr" => input.expr = value.to_vec(),
+            _ => set_cell(&mut input.memory, key, value),
+        }
+    }
+    input
+}
+
+fn set_cell(memory: &mut [u8], key: &[u8], value: &[u8]) {
+    let Some((bank, Some(element))) = cell_name(key) else { return };
+    let Ok(text) = std::str::from_utf8(value) else { return };
+    let value = match bank {
+        Bank::R => pattern(text),
+        Bank::X | Bank::C => integer(text, 0, 1),
+        Bank::V => integer(text, 0, 65535),
+        Bank::N => integer(text, -32768, 32767),
+        Bank::D => integer(text, i32::MIN, i32::MAX),
+    };
+    match value {
+        // A pattern is written as it stands: it may be an infinity or a NaN, which no store gives.
+        Some(Value::Real(r)) => {
+            let at = offset(bank, element);
+            memory[at..at + 4].copy_from_slice(&r.to_bits().to_le_bytes());
+        }
+        Some(value) => store(memory, (bank, element), value).expect("the value is in range"),
+        None => {}
+    }
+}
+
+// Exactly the form in which integers are printed, so no plus sign and no leading zero.
+fn integer(text: &str, least: i32, greatest: i32) -> Option<Value> {
+    let i: i32 = text.parse().ok()?;
+    (i.to_string() == text && least <= i && i <= greatest).then_some(Value::Int(i))
+}
+
+fn pattern(text: &str) -> Option<Value> {
+    let digits = text.strip_prefix("0x")?;
+    if digits.len() != 8 || !digits.bytes().all(|b| b.is_ascii_hexdigit()) {
+        return None;
+    }
+    u32::from_str_radix(digits, 16).ok().map(|bits| Value::Real(f32::from_bits(bits)))
+}
+
+/// What the program prints for one case.
+pub fn output(mut input: Input, operation: Operation) -> String {
+    let mut code = vec![0; CODE_BYTES];
+    let report = operation(&input.target, &input.expr, &mut input.memory, &mut code);
+    let mut printed = format!("answer={}\nplace={}\n", report.answer, report.place);
+    if report.answer == 0 {
+        printed += &cell_line(&input.memory, &input.target);
+    }
+    printed
+}
+
+fn cell_line(memory: &[u8], target: &[u8]) -> String {
+    let (bank, element) = target_cell(target).expect("answer 0 has a good target");
+    let name = String::from_utf8_lossy(target);
+    match read(memory, bank, element) {
+        Ok(Value::Int(i)) => format!("{name}={i}\n"),
+        Ok(Value::Real(r)) => format!("{name}=0x{:08X}\n", r.to_bits()),
+        Err(_) => panic!("a store left an infinity or a NaN"),
+    }
+}
+
+/// Runs a file of cases, each followed by an empty line, against a file of outputs in the same form. Gives the number
+/// of cases, or the first one that differs.
+pub fn run_list(cases: &[u8], expected: &[u8], operation: Operation) -> Result<usize, String> {
+    let (cases, expected) = (blocks(cases), blocks(expected));
+    if cases.len() != expected.len() {
+        return Err(format!("{} cases but {} outputs", cases.len(), expected.len()));
+    }
+    for (number, (case, wanted)) in cases.iter().zip(&expected).enumerate() {
+        let got = output(read_input(case), operation);
+        if got.as_bytes() != *wanted {
+            let (case, wanted) = (String::from_utf8_lossy(case), String::from_utf8_lossy(wanted));
+            return Err(format!("case {}\n{case}expected\n{wanted}got\n{got}", number + 1));
+        }
+    }
+    Ok(cases.len())
+}
+
+// The parts of a file that each end with an empty line, without it.
+fn blocks(file: &[u8]) -> Vec<&[u8]> {
+    let mut found = Vec::new();
+    let (mut start, mut line) = (0, 0);
+    for end in (0..file.len()).filter(|i| file[*i] == b'\n') {
+        if end == line {
+            found.push(&file[start..line]);
+            start = end + 1;
+        }
+        line = end + 1;
+    }
+    found
+}

@@ -1,0 +1,80 @@
+//! The tree of a formula: its kind, answer 9, and its value worked out on the tree itself.
+
+use crate::memory::{read, read_indexed, Bank};
+use crate::value::{binary, binary_kind, unary, unary_kind, wider, Binary, Fault, Kind, Unary, Value};
+
+#[derive(Debug)]
+pub enum Tree {
+    Literal(Value),
+    Cell(Bank, usize),
+    Indexed(Bank, Box<Tree>),
+    /// An operator and its place in the text.
+    Unary(Unary, usize, Box<Tree>),
+    Binary(Binary, usize, Box<Tree>, Box<Tree>),
+    /// `&&` (false) or `||` (true): the truth of the left side that decides.
+    Decide(bool, Box<Tree>, Box<Tree>),
+    If(Box<Tree>, Box<Tree>, Box<Tree>),
+}
+
+/// The tree's kind. `wrong` becomes the smallest place of an operator with an operand of the wrong kind.
+pub fn kind(tree: &Tree, wrong: &mut Option<usize>) -> Kind {
+    match tree {
+        Tree::Literal(v) => v.kind(),
+        Tree::Cell(bank, _) => bank.kind(),
+        Tree::Indexed(bank, index) => {
+            kind(index, wrong);
+            bank.kind()
+        }
+        Tree::Unary(op, place, t) => {
+            let operand = kind(t, wrong);
+            judge(unary_kind(*op, operand), *place, wrong)
+        }
+        Tree::Binary(op, place, t, u) => {
+            let (left, right) = (kind(t, wrong), kind(u, wrong));
+            judge(binary_kind(*op, left, right), *place, wrong)
+        }
+        Tree::Decide(_, t, u) => {
+            kind(t, wrong);
+            kind(u, wrong);
+            Kind::Int
+        }
+        Tree::If(c, t, u) => {
+            kind(c, wrong);
+            wider(kind(t, wrong), kind(u, wrong))
+        }
+    }
+}
+
+fn judge((kind, taken): (Kind, bool), place: usize, wrong: &mut Option<usize>) -> Kind {
+    if !taken {
+        *wrong = Some(wrong.map_or(place, |smallest| smallest.min(place)));
+    }
+    kind
+}
+
+/// The value of the whole tree, or the first fault met in working it out.
+pub fn worth(tree: &Tree, memory: &[u8]) -> Result<Value, Fault> {
+    match tree {
+        Tree::Literal(v) => Ok(*v),
+        Tree::Cell(bank, element) => read(memory, *bank, *element),
+        Tree::Indexed(bank, index) => read_indexed(memory, *bank, worth(index, memory)?),
+        Tree::Unary(op, _, t) => unary(*op, worth(t, memory)?),
+        Tree::Binary(op, _, t, u) => {
+            let left = worth(t, memory)?;
+            binary(*op, left, worth(u, memory)?)
+        }
+        Tree::Decide(decides, t, u) => {
+            let left = worth(t, memory)?.truth();
+            let truth = if left == *decides { left } else { worth(u, memory)?.truth() };
+            Ok(Value::Int(i32::from(truth)))
+        }
+        Tree::If(c, t, u) => {
+            let chosen = if worth(c, memory)?.truth() { t } else { u };
+            let value = worth(chosen, memory)?;
+            Ok(match wider(kind(t, &mut None), kind(u, &mut None)) {
+                Kind::Real => Value::Real(value.real()),
+                Kind::Int => value,
+            })
+        }
+    }
+}

@@ -1,0 +1,276 @@
+//! Values, and what the operators do with them.
+
+#[derive(Clone, Copy, PartialEq, Debug)]
+pub enum Kind {
+    Int,
+    Real,
+}
+
+#[derive(Clone, Copy, Debug)]
+pub enum Value {
+    Int(i32),
+    Real(f32),
+}
+
+#[derive(Clone, Copy, PartialEq, Debug)]
+pub enum Fault {
+    DividedByZero = 11,
+    Overflow = 12,
+    OutOfRange = 13,
+    IndexError = 14,
+}
+
+#[derive(Clone, Copy, PartialEq, Debug)]
+pub enum Unary {
+    Negate,
+    Invert,
+    Not,
+    Abs,
+    ToReal,
+    Trunc,
+    Round,
+    Frac,
+}
+
+#[derive(Clone, Copy, PartialEq, Debug)]
+pub enum Binary {
+    Power,
+    Times,
+    Divide,
+    Remainder,
+    Plus,
+    Minus,
+    ShiftLeft,
+    ShiftRight,
+    ShiftRightZero,
+    Less,
+    Greater,
+    LessEqual,
+    GreaterEqual,
+    Equal,
+    NotEqual,
+    And,
+    Xor,
+    Or,
+    Max,
+    Min,
+}
+
+use Binary::*;
+use Fault::*;
+use Value::{Int, Real};
+
+// In the order of the operand numbers of the instruction set.
+pub const UNARIES: [Unary; 8] =
+    [Unary::Negate, Unary::Invert, Unary::Not, Unary::Abs, Unary::ToReal, Unary::Trunc, Unary::Round, Unary::Frac];
+#[rustfmt::skip]
+pub const BINARIES: [Binary; 20] = [
+    Power, Times, Divide, Remainder, Plus, Minus, ShiftLeft, ShiftRight, ShiftRightZero, Less, Greater, LessEqual,
+    GreaterEqual, Equal, NotEqual, And, Xor, Or, Max, Min,
+];
+
+impl Value {
+    pub fn kind(self) -> Kind {
+        match self {
+            Int(_) => Kind::Int,
+            Real(_) => Kind::Real,
+        }
+    }
+
+    pub fn bits(self) -> u32 {
+        match self {
+            Int(i) => i as u32,
+            Real(r) => r.to_bits(),
+        }
+    }
+
+    pub fn truth(self) -> bool {
+        match self {
+            Int(i) => i != 0,
+            Real(r) => r != 0.0,
+        }
+    }
+
+    // The nearest single, ties to even: that is what `as` gives.
+    pub fn real(self) -> f32 {
+        match self {
+            Int(i) => i as f32,
+            Real(r) => r,
+        }
+    }
+
+    // The integer, or the real cut toward zero.
+    pub fn trunc(self) -> Result<i32, Fault> {
+        match self {
+            Int(i) => Ok(i),
+            Real(r) => whole(r.trunc()),
+        }
+    }
+}
+
+// A single without a fraction as an integer. A double holds both ends of the range exactly.
+fn whole(r: f32) -> Result<i32, Fault> {
+    let r = f64::from(r);
+    if (-2147483648.0..=2147483647.0).contains(&r) {
+        Ok(r as i32)
+    } else {
+        Err(OutOfRange)
+    }
+}
+
+fn exact(i: i64) -> Result<Value, Fault> {
+    i32::try_from(i).map(Int).map_err(|_| Overflow)
+}
+
+fn finite(r: f32) -> Result<Value, Fault> {
+    if r.is_infinite() {
+        Err(Overflow)
+    } else if r.is_nan() {
+        Err(OutOfRange)
+    } else {
+        Ok(Real(r))
+    }
+}
+
+fn truth(b: bool) -> Result<Value, Fault> {
+    Ok(Int(i32::from(b)))
+}
+
+/// The kind of the result, and whether the operand's kind is taken.
+pub fn unary_kind(op: Unary, operand: Kind) -> (Kind, bool) {
+    match op {
+        Unary::Negate | Unary::Abs => (operand, true),
+        Unary::ToReal | Unary::Frac => (Kind::Real, true),
+        Unary::Not | Unary::Trunc | Unary::Round => (Kind::Int, true),
+        Unary::Invert => (Kind::Int, operand == Kind::Int),
+    }
+}
+
+/// The kind of the result, and whether the operands' kinds are taken.
+pub fn binary_kind(op: Binary, left: Kind, right: Kind) -> (Kind, bool) {
+    match op {
+        Power => (left, right == Kind::Int),
+        Times | Divide | Remainder | Plus | Minus | Max | Min => (wider(left, right), true),
+        Less | Greater | LessEqual | GreaterEqual | Equal | NotEqual => (Kind::Int, true),
+        ShiftLeft | ShiftRight | ShiftRightZero | And | Xor | Or => {
+            (Kind::Int, left == Kind::Int && right == Kind::Int)
+        }
+    }
+}
+
+pub fn wider(a: Kind, b: Kind) -> Kind {
+    if a == Kind::Real {
+        a
+    } else {
+        b
+    }
+}
+
+pub fn unary(op: Unary, v: Value) -> Result<Value, Fault> {
+    match (op, v) {
+        (Unary::Negate, Int(i)) => exact(-i64::from(i)),
+        (Unary::Negate, Real(r)) => Ok(Real(-r)),
+        (Unary::Invert, v) => Ok(Int(!integer(v))),
+        (Unary::Not, v) => truth(!v.truth()),
+        (Unary::Abs, Int(i)) => exact(i64::from(i).abs()),
+        (Unary::Abs, Real(r)) => Ok(Real(r.abs())),
+        (Unary::ToReal, v) => Ok(Real(v.real())),
+        (Unary::Trunc, v) => v.trunc().map(Int),
+        (Unary::Round, Int(i)) => Ok(Int(i)),
+        // f32::round takes halves away from zero.
+        (Unary::Round, Real(r)) => whole(r.round()).map(Int),
+        (Unary::Frac, v) => finite(v.real() % 1.0),
+    }
+}
+
+// Only for operands that the kinds have shown to be integers.
+fn integer(v: Value) -> i32 {
+    match v {
+        Int(i) => i,
+        Real(_) => panic!("a real where the check asks for an integer"),
+    }
+}
+
+pub fn binary(op: Binary, a: Value, b: Value) -> Result<Value, Fault> {
+    match op {
+        Power => power(a, integer(b)),
+        ShiftLeft | ShiftRight | ShiftRightZero => shift(op, integer(a), integer(b)),
+        And => Ok(Int(integer(a) & integer(b))),
+        Xor => Ok(Int(integer(a) ^ integer(b))),
+        Or => Ok(Int(integer(a) | integer(b))),
+        _ => match (a, b) {
+            (Int(a), Int(b)) => on_integers(op, i64::from(a), i64::from(b)),
+            _ => on_reals(op, a.real(), b.real()),
+        },
+    }
+}
+
+// In 64 bits no result can overflow, so exact() sees the exact one.
+fn on_integers(op: Binary, a: i64, b: i64) -> Result<Value, Fault> {
+    match op {
+        Times => exact(a * b),
+        Divide if b == 0 => Err(DividedByZero),
+        Divide => exact(a / b),
+        Remainder if b == 0 => Err(DividedByZero),
+        Remainder => exact(a % b),
+        Plus => exact(a + b),
+        Minus => exact(a - b),
+        Max => exact(if a < b { b } else { a }),
+        Min => exact(if b < a { b } else { a }),
+        _ => truth(compare(op, a, b)),
+    }
+}
+
+fn on_reals(op: Binary, a: f32, b: f32) -> Result<Value, Fault> {
+    match op {
+        Times => finite(a * b),
+        Divide if b == 0.0 => Err(DividedByZero),
+        Divide => finite(a / b),
+        Remainder if b == 0.0 => Err(DividedByZero),
+        Remainder => finite(a % b),
+        Plus => finite(a + b),
+        Minus => finite(a - b),
+        Max => Ok(Real(if a < b { b } else { a })),
+        Min => Ok(Real(if b < a { b } else { a })),
+        _ => truth(compare(op, a, b)),
+    }
+}
+
+fn compare<T: PartialOrd>(op: Binary, a: T, b: T) -> bool {
+    match op {
+        Less => a < b,
+        Greater => a > b,
+        LessEqual => a <= b,
+        GreaterEqual => a >= b,
+        Equal => a == b,
+        NotEqual => a != b,
+        _ => unreachable!("not a comparison"),
+    }
+}
+
+fn power(base: Value, exponent: i32) -> Result<Value, Fault> {
+    if !(0..=64).contains(&exponent) {
+        return Err(OutOfRange);
+    }
+    let mut product = match base {
+        Int(_) => Int(1),
+        Real(_) => Real(1.0),
+    };
+    // A product that has left the range never comes back, so the first fault is the power's.
+    for _ in 0..exponent {
+        product = binary(Times, product, base)?;
+    }
+    Ok(product)
+}
+
+fn shift(op: Binary, a: i32, count: i32) -> Result<Value, Fault> {
+    if !(0..=31).contains(&count) {
+        return Err(OutOfRange);
+    }
+    let pattern = a as u32;
+    Ok(Int(match op {
+        ShiftLeft => (pattern << count) as i32,
+        ShiftRight => a >> count,
+        _ => (pattern >> count) as i32,
+    }))
+}
