@@ -7,3 +7,4 @@ mod Endings
 mod Numbers
 mod Verdicts
 mod Requests
+pub mod Sheet

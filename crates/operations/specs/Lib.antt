@@ -1,3 +1,4 @@
 pub mod Operations
 pub mod Terms
 pub mod Promises
+pub mod Sheet

@@ -1,0 +1,31 @@
+-- The sheet of sums, by computing each: the text is judged, its tree's worth is stored, and the cell is read back.
+use mathlib.Core.Path.{refl}
+use lib.Ieee as Ieee
+use Rattle.memory.specs.Names.{bankOf, namedRule}
+use Rattle.tokens.specs.Words.{otherWord, wordOf}
+use Rattle.tokens.specs.Scan.{lexemeOf, scanFrom}
+use Rattle.grammar.specs.Symbols.{groupNumber}
+use Rattle.grammar.specs.Tree.{treeKind, wrongKind}
+use Rattle.grammar.specs.Parse.{expression, parse}
+use Rattle.grammar.specs.Worth.{worth}
+use Rattle.text.specs.Judge.{ofParse, ofScan, judge}
+use Rattle.machine.specs.Machine.{exec, act}
+use Rattle.compiler.specs.Code.{codeOf}
+use Rattle.operations.specs.Sheet.{Sums, none, more, reads, answers, sheet, ascii, zeros}
+
+pub sums : Sums sheet
+unfolding Ieee.ofBits Ieee.toBits Ieee.ofInt Ieee.add Ieee.div Ieee.eq ascii zeros bankOf namedRule otherWord wordOf lexemeOf scanFrom groupNumber treeKind wrongKind expression parse worth ofParse ofScan judge exec act codeOf
+sums =
+    more (reads refl refl)
+    (more (reads refl refl)
+    (more (reads refl refl)
+    (more (reads refl refl)
+    (more (reads refl refl)
+    (more (reads refl refl)
+    (more (reads refl refl)
+    (more (reads refl refl)
+    (more (reads refl refl)
+    (more (reads refl refl)
+    (more (reads refl refl)
+    (more (answers refl)
+    none)))))))))))
