@@ -30,7 +30,7 @@ use Rattle.compiler.proofs.Theorems.{compile-theorems}
 use Rattle.operations.specs.declared.Answer.{Answer}
 use Rattle.operations.specs.declared.Answer.the-variants.{Done}
 use Rattle.operations.specs.Operations.{compileAnswer, Checks, accepts, refuses}
-use Rattle.operations.specs.Terms.{number, Ends}
+use Rattle.operations.specs.Terms.{compiled, compiledCode, number, Ends}
 use Rattle.operations.specs.Promises.{Faithful}
 use Rattle.operations.proofs.Requests.{with-room, run-tree}
 use Rattle.operations.proofs.Texts.{is-formula}
@@ -60,8 +60,7 @@ beyond code n k (accepted t) e h =
     other-kept code 0 (encoded (codeOf t)) k (inr (omega (arith, encoded-length (codeOf t))))
 beyond code n k (refused a p) e h = refl
 
-pub only-code : (text code : List ℕ) (n k : ℕ) → compileAnswer (compiling (length code) text) ≡ Done (Int (pos 0)) n → 8 * n ≤ k
-    → getD (codedBytes code (compiling (length code) text)) k 0 ≡ getD code k 0
+pub only-code : (text code : List ℕ) (n k : ℕ) → compiled text code ≡ Done (Int (pos 0)) n → 8 * n ≤ k → getD (compiledCode text code) k 0 ≡ getD code k 0
 only-code text code n k = beyond code n k (compiling (length code) text)
 
 -- ---- accepted code
@@ -93,10 +92,10 @@ module _ {text : List ℕ} {t : Tree} (code : List ℕ) (a : Accepts text t) whe
   room true l e = let z : _≡_ {A = ℕ} 0 1 = cc in absurd (omega arith)
   room false l e = ltb-false (length code) 16384 l
 
-  pub faithful : {n : ℕ} → compileAnswer (compiling (length code) text) ≡ Done (Int (pos 0)) n → Faithful text t (codedBytes code (compiling (length code) text)) n
+  pub faithful : {n : ℕ} → compiled text code ≡ Done (Int (pos 0)) n → Faithful text t (compiledCode text code) n
   faithful {n} e =
       let h = room (ltb (length code) 16384) refl e in
       let w : compiling (length code) text ≡ accepted t = with-room code text h ∙ is-formula a in
       let d : Done (Int (pos 0)) (length (codeOf t)) ≡ Done (Int (pos 0)) n = ap compileAnswer (sym w) ∙ e in
       let l : length (codeOf t) ≡ n = cc in
-      subst (λ n. Faithful text t (codedBytes code (compiling (length code) text)) n) l (rw w (in-buffer h))
+      subst (λ n. Faithful text t (compiledCode text code) n) l (rw w (in-buffer h))

@@ -1,12 +1,12 @@
 -- Where a run ends well, what is stored or flagged: `Gives`. The target's element is one of its bank, so the store finds its cell.
-use mathlib.Core.Path.{_≡_, refl}
+use mathlib.Core.Path.{_≡_, refl, sym, _∙_}
 use mathlib.Core.Bool.{Bool, true, false, _&&_, cond, and-eq-true-iff}
 use mathlib.Core.List.{List, [], _∷_}
 use Prim.Native.Nat.{ℕ, _<_}
+use native.Mathlib.Decide.{ℕ-discrete}
 use native.Mathlib.Omega.{arith}
-use lib.Dec.{eqb}
 use lib.ListN.{length, set}
-use borrow.Author.Tests.{eqb-true, eq-eqb, ltb-true, lt-ltb}
+use borrow.Author.Tests.{eq-eqb, ltb-true, lt-ltb}
 use Rattle.values.specs.declared.Kind.{Kind}
 use Rattle.values.specs.declared.Value.{Value}
 use Rattle.values.specs.declared.Fault.{Fault as FaultName}
@@ -27,9 +27,10 @@ use Rattle.machine.specs.declared.Ended.{Ended}
 use Rattle.machine.specs.declared.Ended.the-variants as Ended
 use Rattle.verifier.specs.Safety.{EndsWell, value, fault}
 use Rattle.compiler.specs.Demand.{endOf}
-use Rattle.operations.specs.Operations.{afterStore, finished, memoryAfter, to, none, goalOf, goal}
+use Rattle.operations.specs.Operations.{afterStore, finished, memoryAfter, to, goalOf, goal}
 use Rattle.operations.specs.Terms as Term
 use Rattle.operations.specs.Terms.{Gives}
+use Rattle.operations.proofs.Verdicts.{no-memory, named}
 
 -- ---- the target
 
@@ -77,11 +78,11 @@ goal-cell (Cell b i) e = cc
 goal-cell Other e = let z : _≡_ {A = ℕ} 0 1 = cc in absurd (omega arith)
 
 pub goes-to : {b : Bank} {i : ℕ} (target m : List ℕ) → goal target m ≡ to b i → (length m ≡ imageSize) × (targetRule target ≡ Cell b i)
-goes-to {b} {i} target m e = by (eqb (length m) imageSize) refl e
+goes-to {b} {i} target m e = by (ℕ-discrete (length m) imageSize)
   where
-    by : (t : Bool) → eqb (length m) imageSize ≡ t → cond t (goalOf (targetRule target)) (none 1) ≡ to b i → (length m ≡ imageSize) × (targetRule target ≡ Cell b i)
-    by true l e = (eqb-true (length m) imageSize l, goal-cell (targetRule target) e)
-    by false l e = let z : _≡_ {A = ℕ} 0 1 = cc in absurd (omega arith)
+    by : Dec (length m ≡ imageSize) → (length m ≡ imageSize) × (targetRule target ≡ Cell b i)
+    by (yes h) = (h, goal-cell (targetRule target) (sym (named target m h refl) ∙ e))
+    by (no h) = let z : _≡_ {A = ℕ} 0 1 = cc (no-memory target m h) in absurd (omega arith)
 
 -- ---- the end
 

@@ -1,14 +1,13 @@
 -- Demand 1: every answer of every operation is one of three sorts, and what each sort leaves.
-use mathlib.Core.Path.{_≡_, refl, ap, subst}
+use mathlib.Core.Path.{_≡_, refl, sym, ap, subst, subst⁻¹, _∙_}
 use mathlib.Core.Logic.{_⊎_, inl, inr, ⊎-elim}
-use mathlib.Core.Bool.{Bool, true, false, cond}
 use mathlib.Core.List.{List}
-use Prim.Native.Nat.{ℕ, _≤_}
+use Prim.Native.Nat.{ℕ, _≤_, _<_}
+use native.Mathlib.Decide.{ℕ-discrete, decLt}
 use native.Mathlib.Omega.{arith}
-use lib.Dec.{eqb, ltb}
+use lib.Dec.{ltb}
 use lib.ListN.{length, getD, set, length-set}
 use lib.Seq.{length-sets}
-use borrow.Author.Tests.{eqb-true}
 use Rattle.words.specs.Words.{bytesOf}
 use Rattle.values.specs.declared.Value.{Value}
 use Rattle.values.specs.declared.Fault.{Fault as FaultName}
@@ -25,15 +24,17 @@ use Rattle.text.proofs.Theorems.{text-theorems}
 use Rattle.code.specs.Instructions.{instructions}
 use Rattle.machine.specs.declared.Ended.{Ended}
 use Rattle.verifier.proofs.Safe.{safe, memory-kinded}
-use Rattle.compiler.specs.Compile.{compiling, codedBytes, encoded}
+use Rattle.compiler.specs.Compile.{codedBytes, encoded}
 use Rattle.compiler.proofs.Theorems.{compile-theorems}
 use Rattle.compiler.specs.Code.{codeOf}
 use Rattle.operations.specs.declared.Answer.{Answer}
 use Rattle.operations.specs.declared.Answer.the-variants.{Done, Fault, Refused}
-use Rattle.operations.specs.Operations.{compileAnswer, Checks, accepts, refuses, Runs, unready, unaccepted, ran, none, goalOf, goal, Request, stops, ofTarget, ofText, request, performed, performedMemory, performedCode}
-use Rattle.operations.specs.Terms.{Refusal, Gives, stored, unstored, stopped}
+use Rattle.operations.specs.Operations.{compileAnswer, Checks, accepts, refuses, Runs, unready, unaccepted, ran, none, goalOf, goal, Request, ofTarget, ofText, request, performed, performedMemory, performedCode}
+use Rattle.operations.specs.Terms.{compiled, compiledCode, Refusal, Gives, stored, unstored, stopped}
 use Rattle.operations.specs.Promises.{Does, compile, check, run, compile-and-run, Keeps}
 use Rattle.operations.proofs.Numbers.{either, Numbered, formula, three-to-nine, numbered, fault-range, no-fault, own-number}
+use Rattle.operations.proofs.Verdicts as Run
+use Rattle.operations.proofs.Requests.{no-memory, no-room, named}
 use Rattle.operations.proofs.Endings.{target-element, goes-to, ends-well, gives}
 
 -- the byte k is none of the target's cell
@@ -41,7 +42,8 @@ abbrev Elsewhere : List ℕ → ℕ → Type 0
 Elsewhere target k = (b : Bank) (i : ℕ) → targetRule target ≡ Cell b i → Within b i k → ⊥
 
 data Sorted (target m code : List ℕ) : Answer → List ℕ → List ℕ → Type 0 where
-  done : {v : Value} {n : ℕ} {m′ code′ : List ℕ} → ((k : ℕ) → Elsewhere target k → getD m′ k 0 ≡ getD m k 0) → length m′ ≡ length m → length code′ ≡ length code → Sorted target m code (Done v n) m′ code′
+  done : {v : Value} {n : ℕ} {m′ code′ : List ℕ} → ((k : ℕ) → Elsewhere target k → getD m′ k 0 ≡ getD m k 0) → length m′ ≡ length m → length code′ ≡ length code
+      → Sorted target m code (Done v n) m′ code′
   fault : {f : FaultName} {n : ℕ} {code′ : List ℕ} → length code′ ≡ length code → Sorted target m code (Fault f n) (set m (flagAt f) 1) code′
   refusal : (a p : ℕ) → Refusal a → Sorted target m code (Refused a p) m code
 
@@ -83,7 +85,8 @@ module _ (target m code : List ℕ) where
   fifteen = refusal 15 0 (omega arith, inr refl)
 
   -- after a run that ends well
-  sorted-end : {b : Bank} {i n : ℕ} {e : Ended} {r : Answer} {m′ code′ : List ℕ} → targetRule target ≡ Cell b i → length code′ ≡ length code → Gives m b i n e r m′ → Sorted target m code r m′ code′
+  sorted-end : {b : Bank} {i n : ℕ} {e : Ended} {r : Answer} {m′ code′ : List ℕ} → targetRule target ≡ Cell b i → length code′ ≡ length code → Gives m b i n e r m′
+      → Sorted target m code r m′ code′
   sorted-end {b} {i} t w (stored {p = p} e) = done (λ k h. cell-kept m b i p k (h b i t)) (length-sets m (cellAt b i) (bytesOf (layoutOf b .width) p)) w
   sorted-end t w (unstored e) = fault w
   sorted-end t w stopped = fault w
@@ -96,7 +99,7 @@ module _ (target m code : List ℕ) where
   sorted-judged {j} formula = done (λ k h. refl) refl (coded-length j)
   sorted-judged (three-to-nine a p l h) = low a p (omega arith) (omega arith)
 
-  sorted-compile : (text : List ℕ) → Sorted target m code (compileAnswer (compiling (length code) text)) m (codedBytes code (compiling (length code) text))
+  sorted-compile : (text : List ℕ) → Sorted target m code (compiled text code) m (compiledCode text code)
   sorted-compile text =
       either (λ j. Sorted target m code (compileAnswer j) m (codedBytes code j)) (ltb (length code) 16384)
       (low 10 0 (omega arith) (omega arith))
@@ -107,7 +110,7 @@ module _ (target m code : List ℕ) where
   sorted-check (refuses h) = fifteen
 
   no-goal : {a : ℕ} → goal target m ≡ none a → Refusal a
-  no-goal {a} = either (λ g. g ≡ none a → Refusal a) (eqb (length m) imageSize) (of-name (targetRule target)) (is 1 (omega arith) (omega arith))
+  no-goal {a} e = by (ℕ-discrete (length m) imageSize)
     where
       is : (d : ℕ) → 1 ≤ d → d ≤ 10 → none d ≡ none a → Refusal a
       is d l h e = let q : d ≡ a = cc in (omega arith, inl (omega arith))
@@ -115,6 +118,10 @@ module _ (target m code : List ℕ) where
       of-name : (x : Named) → goalOf x ≡ none a → Refusal a
       of-name (Cell b i) e = let z : _≡_ {A = ℕ} 0 1 = cc in absurd (omega arith)
       of-name Other e = is 2 (omega arith) (omega arith) e
+
+      by : Dec (length m ≡ imageSize) → Refusal a
+      by (yes h) = of-name (targetRule target) (sym (Run.named target m h refl) ∙ e)
+      by (no h) = is 1 (omega arith) (omega arith) (sym (Run.no-memory target m h) ∙ e)
 
   sorted-run : {n : ℕ} {m′ : List ℕ} {r : Answer} → Runs code n target m m′ r → Sorted target m code r m′ code
   sorted-run (unready {a} e) = refusal a 0 (no-goal e)
@@ -139,19 +146,18 @@ module _ (target m code : List ℕ) where
   sorted-target text l Other e = low 2 0 (omega arith) (omega arith)
 
   sorted-request : (text : List ℕ) → Performs (request target text m code)
-  sorted-request text = by (eqb (length m) imageSize) refl
+  sorted-request text = by (ℕ-discrete (length m) imageSize) (decLt (length code) 16384)
     where
-      by : (t : Bool) → eqb (length m) imageSize ≡ t → Performs (cond t (cond (ltb (length code) 16384) (stops 10 0) (ofTarget text (targetRule target))) (stops 1 0))
-      by true e =
-          either Performs (ltb (length code) 16384) (low 10 0 (omega arith) (omega arith))
-          (sorted-target text (eqb-true (length m) imageSize e) (targetRule target) refl)
-      by false e = low 1 0 (omega arith) (omega arith)
+      by : Dec (length m ≡ imageSize) → Dec (length code < 16384) → Performs (request target text m code)
+      by (no h) d = subst⁻¹ Performs (no-memory target text m code h) (low 1 0 (omega arith) (omega arith))
+      by (yes h) (yes l) = subst⁻¹ Performs (no-room target text m code h l) (low 10 0 (omega arith) (omega arith))
+      by (yes h) (no l) = subst⁻¹ Performs (named target text m code h (omega arith) refl) (sorted-target text h (targetRule target) refl)
 
 sorted : {target m code m′ code′ : List ℕ} {r : Answer} → Does target m code r m′ code′ → Sorted target m code r m′ code′
 sorted {target} {m} {code} (compile text) = sorted-compile target m code text
 sorted {target} {m} {code} (check n w) = sorted-check target m code w
 sorted {target} {m} {code} (run n w) = sorted-run target m code w
-sorted {target} {m} {code} (compile-and-run text) = sorted-request target m code text
+sorted {target} {m} {code} (compile-and-run text e) = subst⁻¹ (λ q. Performs target m code q) e (sorted-request target m code text)
 
 pub kept : {target m code m′ code′ : List ℕ} {r : Answer} → Does target m code r m′ code′ → Keeps target m code r m′ code′
 kept w = keeps (sorted w)

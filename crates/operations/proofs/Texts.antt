@@ -17,11 +17,10 @@ use Rattle.machine.specs.Machine.{exec}
 use Rattle.verifier.proofs.Safe.{memory-kinded}
 use Rattle.compiler.specs.Code.{codeOf}
 use Rattle.compiler.specs.Demand.{endOf}
-use Rattle.compiler.specs.Compile.{compiling, codedBytes}
 use Rattle.compiler.proofs.Theorems.{compile-theorems}
 use Rattle.operations.specs.declared.Answer.{Answer}
 use Rattle.operations.specs.Operations.{compileAnswer, stores, ofText, request, performed, performedMemory, performedCode}
-use Rattle.operations.specs.Terms.{number, Refusal, Ready, Gives, stored, unstored, stopped}
+use Rattle.operations.specs.Terms.{compiled, compiledCode, number, Refusal, Ready, Gives, stored, unstored, stopped}
 use Rattle.operations.proofs.Numbers.{Numbered, three-to-nine, numbered, no-fault}
 use Rattle.operations.proofs.Endings.{target-element, ends-well, gives}
 use Rattle.operations.proofs.Requests.{named, with-room}
@@ -36,7 +35,7 @@ low text q = of (subst Numbered q (numbered (text-theorems .outcome text)))
     of : {a p : ℕ} → Numbered (refused a p) → (3 ≤ a) × (a ≤ 9)
     of (three-to-nine a p l h) = (l, h)
 
-pub compiles : (text code : List ℕ) → 16384 ≤ length code → number (compileAnswer (compiling (length code) text)) ≡ 0 ↔ ((t : Tree) × Accepts text t)
+pub compiles : (text code : List ℕ) → 16384 ≤ length code → number (compiled text code) ≡ 0 ↔ ((t : Tree) × Accepts text t)
 compiles text code h = rw (with-room code text h) (only (judge text) refl, λ x. rw (is-formula (x .1)) refl)
   where
     only : (j : Judgement) → judge text ≡ j → number (compileAnswer j) ≡ 0 → (t : Tree) × Accepts text t
@@ -69,5 +68,5 @@ module _ {target m code : List ℕ} {b : Bank} {i : ℕ} (ready : Ready target m
       only (accepted t) q e = (t, text-theorems .accepts text t .0 q)
       only (refused a p) q e = absurd (let h = low text q in e (omega arith, inl (omega arith)))
 
-  pub same-code : {text : List ℕ} {t : Tree} → Accepts text t → performedCode code (request target text m code) ≡ codedBytes code (compiling (length code) text)
+  pub same-code : {text : List ℕ} {t : Tree} → Accepts text t → performedCode code (request target text m code) ≡ compiledCode text code
   same-code {text} a = rw (the-tree a, with-room code text (ready .room), is-formula a) refl

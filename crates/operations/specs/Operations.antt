@@ -46,7 +46,7 @@ abbrev pub compileAnswer : Judgement → Answer
 compileAnswer (accepted t) = Done (Int (pos 0)) (length (codeOf t))
 compileAnswer (refused a p) = Refused a p
 
--- "a check that accepts returns integer 0, count 0"; 15: "the given number of instructions reaches beyond the buffer, or the check does not accept them"
+-- "a check that accepts returns integer 0, count 0"; 15: "the given number of instructions reaches beyond the buffer, or the check does not accept them". Either case shuts out the other.
 pub data Checks (code : List ℕ) (n : ℕ) : Answer → Type 0 where
   accepts : {k : Kind} → Accepts (instructions code n) k → Checks code n (Done (Int (pos 0)) 0)
   refuses : ((k : Kind) → Accepts (instructions code n) k → ⊥) → Checks code n (Refused 15 0)
@@ -83,7 +83,7 @@ goalOf Named.Other = none 2
 abbrev pub goal : List ℕ → List ℕ → Goal
 goal target m = cond (eqb (length m) imageSize) (goalOf (targetRule target)) (none 1)
 
--- running n instructions of the code: what the memory m becomes, and the answer
+-- running n instructions of the code: what the memory m becomes, and the answer; again one case shuts out the others
 pub data Runs (code : List ℕ) (n : ℕ) (target m : List ℕ) : List ℕ → Answer → Type 0 where
   unready : {a : ℕ} → goal target m ≡ none a → Runs code n target m m (Refused a 0)
   unaccepted : {b : Bank} {i : ℕ} → goal target m ≡ to b i → ((k : Kind) → Accepts (instructions code n) k → ⊥) → Runs code n target m m (Refused 15 0)

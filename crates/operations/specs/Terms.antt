@@ -19,9 +19,17 @@ use Rattle.machine.specs.declared.Ended.{Ended}
 use Rattle.machine.specs.declared.Ended.the-variants as Ended
 use Rattle.machine.specs.Machine.{runs}
 use Rattle.verifier.specs.Safety.{EndsWell}
+use Rattle.compiler.specs.Compile.{compiling, codedBytes}
 use Rattle.operations.specs.declared.Answer.{Answer}
 use Rattle.operations.specs.declared.Answer.the-variants.{Done, Fault}
-use Rattle.operations.specs.Operations.{reportOf}
+use Rattle.operations.specs.Operations.{reportOf, compileAnswer}
+
+-- compile's answer, and what it leaves in the buffer
+abbrev pub compiled : List ℕ → List ℕ → Answer
+compiled text code = compileAnswer (compiling (length code) text)
+
+abbrev pub compiledCode : List ℕ → List ℕ → List ℕ
+compiledCode text code = codedBytes code (compiling (length code) text)
 
 -- the answer's number in paper 01's list
 abbrev pub number : Answer → ℕ

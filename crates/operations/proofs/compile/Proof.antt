@@ -23,13 +23,17 @@ same-length : tie.Need-same-length
 same-length c = search needs
 
 returns : tie.Need-returns
-returns c = (answered (judged (c .before .before .before .before .before .before .before .before .before)) (c .before .count .given .1) (c .before .before .before .before .before .compile .ensures .0), c .before .before .before .before .before .compile .ensures .1)
+returns c =
+    let w = c .before .before .before .before .before .compile .ensures in
+    (answered (judged (c .before .before .before .before .before .before .before .before .before)) (c .before .count .given .1) (w .0), w .1)
 
 same-length-2 : tie.Need-same-length-2
 same-length-2 c = search needs
 
 returns-2 : tie.Need-returns-2
-returns-2 c = (answered (judged (c .before .before .before .before .before .before .before .before .before)) (c .before .a .given .1) (c .before .before .before .before .before .compile .ensures .0), c .before .before .before .before .before .compile .ensures .1)
+returns-2 c =
+    let w = c .before .before .before .before .before .compile .ensures in
+    (answered (judged (c .before .before .before .before .before .before .before .before .before)) (c .before .a .given .1) (w .0), w .1)
 
 pub compile-spec : {M : Type 1} → statement M
 compile-spec =

@@ -98,7 +98,9 @@ returns-4 c =
     let s = start g in
     let e = with-room (code s) (text s) (room g) in
     let w = c .before .before .before .before .before .before .before .before .before .before .before .before .compile .ensures in
-    performs (text s) (code s) (memory s) (bank g) (element g) (judge (text s)) (the-text g) refl (room g) (sym (c .before .before .before .before .before .before .before .before .count .given .1) ∙ w .0 ∙ ap codedAnswer e) (w .1 ∙ ap (codedBytes (code s)) e) (c .before .before .before .before .run .ensures) (c .before .before .finish .ensures)
+    let done = sym (c .before .before .before .before .before .before .before .before .count .given .1) in
+    performs (text s) (code s) (memory s) (bank g) (element g) (judge (text s)) (the-text g) refl (room g) (done ∙ w .0 ∙ ap codedAnswer e) (w .1 ∙ ap (codedBytes (code s)) e)
+    (c .before .before .before .before .run .ensures) (c .before .before .finish .ensures)
 
 same-length-3 : tie.Need-same-length-3
 same-length-3 c = search needs
