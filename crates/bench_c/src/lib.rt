@@ -1,8 +1,11 @@
-// The reader, the verifier and the machine for a host program that measures them (tests/bench). A slice passes as a pointer and then a length.
+// The reader, the compiler, the verifier and the machine for a host program that measures them (bench). A slice passes as a pointer and then a length.
 ghost use mathlib.Core.Path.{_≡_};
+ghost use lib.ListN.{length};
 ghost use Rattle.text.specs.Judge.{judge, answer};
 ghost use Rattle.machine.specs.Machine.{runs};
-ghost use Rattle.bench_c.specs.Numbers.{judgedNumber, verdictNumber, Checked};
+ghost use Rattle.compiler.specs.Compile.{compiling, codedAnswer, codedBytes};
+ghost use Rattle.bench_c.specs.Numbers.{judgedNumber, codedNumber, verdictNumber, Checked};
+use compiler::Coded;
 use text::Judged;
 use values::Kind;
 use verifier::Verdict;
@@ -13,6 +16,15 @@ fn judged_number(j: Judged) -> u32
     match j {
         Judged::Accepted(_) => 0,
         Judged::Refused(a, _) => a,
+    }
+}
+
+fn coded_number(c: Coded) -> usize
+    ensures { λ r. ⌜ r ≡ codedNumber c ⌝ }
+{
+    match c {
+        Coded::Done(n) => n,
+        Coded::Refused(_, _) => 0,
     }
 }
 
@@ -34,6 +46,15 @@ pub extern "C" fn bench_judge(text: &[u8]) -> u32
     ensures { λ r. ⌜ r ≡ judgedNumber (answer (judge (now (text .entry)))) ⌝ }
 {
     judged_number(text::judge(text))
+}
+
+// How many instructions were written, 0 for a text or a buffer that is refused.
+#[no_mangle]
+pub extern "C" fn bench_compile(text: &[u8], code: &mut [u8]) -> usize
+    ensures { λ r. ⌜ r ≡ codedNumber (codedAnswer (compiling (length (now (code .entry))) (now (text .entry)))) ⌝ }
+    ensures { λ r. ⌜ now (code .exit) ≡ codedBytes (now (code .entry)) (compiling (length (now (code .entry))) (now (text .entry))) ⌝ }
+{
+    coded_number(compiler::compile(text, code))
 }
 
 // 0 or 1 for code that ends with an integer or a real, 15 for code that is refused.

@@ -1,7 +1,8 @@
--- The compiler's theorem, step by step; other crates cite Theorems, Demand and Laws.
+-- The compiler's theorem, step by step; other crates cite Theorems, Demand, Laws and Bytes.
 pub mod Theorems
 pub mod Demand
 pub mod Laws
+pub mod Bytes
 mod Well
 mod Need
 mod Gives
@@ -12,7 +13,6 @@ mod Nodes
 mod Size
 mod Height
 mod Each
-mod Bytes
 mod Encodable
 mod Least
 mod Scanned

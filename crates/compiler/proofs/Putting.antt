@@ -57,11 +57,6 @@ puts-before s p q i j h =
     (either (ltb p (length s / 8)) (ltb q (length s / 8)) s (8 * p) (8 * q) (encode i) (encode j) (omega (arith, eight-long i)))
 
 -- ---- a row of instructions
-pub length-put : (s : List ℕ) (p : ℕ) (c : List Instr) → length (put s p c) ≡ length s
-unfolding put
-length-put s p [] = refl
-length-put s p (i ∷ c) = length-put (puts s p i) (suc p) c ∙ length-puts s p i
-
 pub put-next : (s : List ℕ) (p q : ℕ) (c d : List Instr) → q ≡ p + length c → put (put s p c) q d ≡ put s p (c ++ d)
 unfolding put
 put-next s p q [] d e = ap (λ k. put s k d) (e ∙ add-zero p)

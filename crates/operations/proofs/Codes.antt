@@ -2,12 +2,12 @@
 use mathlib.Core.Path.{_≡_, refl, sym, ap, subst, _∙_}
 use mathlib.Core.Logic.{inr}
 use mathlib.Core.Bool.{Bool, true, false, cond}
-use mathlib.Core.List.{List, [], _∷_}
+use mathlib.Core.List.{List}
 use Prim.Native.Nat.{ℕ, _*_, _≤_}
 use native.Mathlib.Omega.{arith}
 use lib.Dec.{ltb}
 use lib.IntN.{pos}
-use lib.ListN.{length, getD, length-append}
+use lib.ListN.{length, getD}
 use borrow.Author.Tests.{ltb-false}
 use Rattle.values.specs.declared.Kind.{Kind}
 use Rattle.values.specs.declared.Value.the-variants.{Int}
@@ -16,9 +16,6 @@ use Rattle.memory.proofs.Runs.{other-kept}
 use Rattle.grammar.specs.Tree.{Tree, treeKind}
 use Rattle.text.specs.Judge.{Judgement, accepted, refused, judge}
 use Rattle.text.specs.Theorems.{Accepts}
-use Rattle.code.specs.declared.Instr.{Instr}
-use Rattle.code.specs.declared.Instr.the-variants.{PushInt, PushReal, Load, LoadIndexed, Unary, Binary, Jump, JumpIf, Unknown}
-use Rattle.code.specs.Encode.{encode}
 use Rattle.code.specs.Instructions.{instructions}
 use Rattle.code.proofs.Parts.{decode-length}
 use Rattle.machine.specs.Machine.{runs}
@@ -26,6 +23,7 @@ use Rattle.verifier.specs.Accepts as Verifier
 use Rattle.verifier.proofs.Safe.{safe, memory-kinded}
 use Rattle.compiler.specs.Code.{codeOf}
 use Rattle.compiler.specs.Compile.{compiling, codedBytes, encoded}
+use Rattle.compiler.proofs.Bytes.{encoded-length}
 use Rattle.compiler.proofs.Theorems.{compile-theorems}
 use Rattle.operations.specs.declared.Answer.{Answer}
 use Rattle.operations.specs.declared.Answer.the-variants.{Done}
@@ -36,23 +34,6 @@ use Rattle.operations.proofs.Requests.{with-room, run-tree}
 use Rattle.operations.proofs.Texts.{is-formula}
 
 -- ---- what compiling writes
-
-encode-length : (i : Instr) → length (encode i) ≡ 8
-encode-length (PushInt z) = refl
-encode-length (PushReal x) = refl
-encode-length (Load b i) = refl
-encode-length (LoadIndexed b) = refl
-encode-length (Unary o) = refl
-encode-length (Binary o) = refl
-encode-length (Jump d) = refl
-encode-length (JumpIf false d) = refl
-encode-length (JumpIf true d) = refl
-encode-length Unknown = refl
-
-encoded-length : (c : List Instr) → length (encoded c) ≡ 8 * length c
-unfolding encoded
-encoded-length [] = refl
-encoded-length (i ∷ c) = simp length-append (omega (arith, encode-length i, encoded-length c))
 
 beyond : (code : List ℕ) (n k : ℕ) (j : Judgement) → compileAnswer j ≡ Done (Int (pos 0)) n → 8 * n ≤ k → getD (codedBytes code j) k 0 ≡ getD code k 0
 beyond code n k (accepted t) e h =

@@ -27,9 +27,10 @@ use Rattle.code.specs.Encode.{puts}
 use Rattle.compiler.specs.declared.writer.Written.{Written}
 use Rattle.compiler.specs.Code.{push}
 use Rattle.compiler.specs.Writing.{Goes, Wrote, Writes, callOf, Signs, Unaries, after, thenAt}
-use Rattle.compiler.proofs.writer.Parsed.{operand-plain, number-ok, cell-ok, letter-ok, name-ok, symbol-ok}
+use Rattle.compiler.proofs.writer.Parsed.{operand-plain}
+use Rattle.compiler.proofs.writer.Enclosed.{number-ok, cell-ok, letter-ok, name-ok, symbol-ok}
 use Rattle.compiler.proofs.writer.Writes.{wrote-as, wrote-literal, wrote-cell, wrote-indexed}
-use Rattle.compiler.proofs.writer.Calls.{after-within, after-token, after-head, Argued, argued}
+use Rattle.compiler.proofs.writer.Behind.{after-within, after-token, after-head, Argued, argued}
 
 -- ---- unary operators and a primary
 pub operand-way : {tbl : List ℕ} {at first pc : ℕ} {o o₁ o₂ : List ℕ} {u w : Written} → Signs tbl at first → Writes 0 (λ f d ts. primaryOf f d ts) tbl first pc o o₁ u → Unaries tbl at first o₁ u o₂ w

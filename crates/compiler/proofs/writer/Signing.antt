@@ -1,17 +1,19 @@
 -- Unary operators: looked for from the first to the last, written from the last to the first.
 use mathlib.Core.Path.{_≡_, refl, sym, ap, subst, _∙_}
-use mathlib.Core.Bool.{false}
+use mathlib.Core.Bool.{true, false}
 use mathlib.Core.Logic.{_≢_}
-use mathlib.Core.List.{List}
+use mathlib.Core.List.{List, [], _∷_}
 use Prim.Native.Nat.{ℕ, suc, _+_, _≤_, _<_}
 use native.Mathlib.Omega.{arith}
 use borrow.Author.Count.{below-more}
 use denote.Enum.Declared.{tagOf}
+use types.Run.{OneOf}
 use lib.Dec.{eqb}
 use lib.ListN.{length}
 use Rattle.values.specs.declared.Kind.{Kind}
 use Rattle.operators.specs.declared.UnaryOp.{UnaryOp}
 use Rattle.operators.specs.Kinds.{unaryKind}
+use Rattle.operators.proofs.Keys.{by-keys}
 use Rattle.tokens.specs.Scan.{Tok}
 use Rattle.token_table.specs.Table.{from}
 use Rattle.grammar.specs.Tree.{Tree}
@@ -35,12 +37,15 @@ module _ {s : List ℕ} {at : ℕ} where
       let n : _≡_ {A = ℕ} 0 1 = cc (z .sign) in
       omega arith
 
-  -- any sign but the last variant, which is none
-  pub sign-there : {x : Sign} → Begins s at x → false ≡ eqb (tagOf the-type x) 3 → (at < length s) × (headSign (from s at) ≢ none)
-  sign-there (minus p z) e = (z .splits .within, a-sign z)
-  sign-there (complement z) e = (z .splits .within, a-sign z)
-  sign-there (negation p z) e = (z .splits .within, a-sign z)
-  sign-there (plain h) e = let n : _≡_ {A = ℕ} 0 1 = cc in absurd (omega arith)
+  -- any variant but the last, which is none
+  pub sign-there : {x : Sign} → Begins s at x → OneOf (0 ∷ 1 ∷ 2 ∷ []) (tagOf the-type x) → (at < length s) × (headSign (from s at) ≢ none)
+  sign-there (minus p z) k = (z .splits .within, a-sign z)
+  sign-there (complement z) k = (z .splits .within, a-sign z)
+  sign-there (negation p z) k = (z .splits .within, a-sign z)
+  sign-there (plain h) k =
+      let e : false ≡ true = by-keys false (λ n. eqb n 3) (0 ∷ 1 ∷ 2 ∷ []) 3 (refl, (refl, (refl, tt))) k in
+      let n : _≡_ {A = ℕ} 0 1 = cc in
+      absurd (omega arith)
 
   signed-as : {x : Sign} → Begins s at x → headSign (from s at) ≢ none → (p : ℕ) × Signed s at (signOp x) p
   signed-as (minus p z) h = (p, z)

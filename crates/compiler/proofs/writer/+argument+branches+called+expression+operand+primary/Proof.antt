@@ -12,7 +12,8 @@ use Rattle.grammar.specs.Parse.{operand as operandOf}
 use Rattle.text.specs.Reading.{Binds}
 use Rattle.compiler.specs.Writing.{Writes}
 use Rattle.compiler.proofs.writer.Climbing.{operator-at, reserved-few, Climbing, climbing-starts, climbing-goes-on, climbing-stops}
-use Rattle.compiler.proofs.writer.Calls.{after-within, argument-way, branches-way, form-is, called-one, called-two, called-choice}
+use Rattle.compiler.proofs.writer.Behind.{after-within, argument-way}
+use Rattle.compiler.proofs.writer.Calls.{branches-way, form-is, called-one, called-two, called-choice}
 use Rattle.compiler.proofs.writer.Primaries.{operand-way, stands, primary-number, primary-cell, primary-letter, primary-name, primary-symbol, primary-end}
 use Rattle.compiler.proofs.writer.argument.Reads as argument
 use Rattle.compiler.proofs.writer.argument.Kinds as argument-kinds
@@ -132,69 +133,47 @@ abbrev primary-calls : ℕ → primary-lts.Claims
 primary-calls t = (past-reads.Asked, past-reads.Learnt, entry-at-reads.Asked, entry-at-reads.Learnt, pushed-reads.Asked, pushed-reads.Learnt, kind-of-reads.Asked, kind-of-reads.Learnt, with-reads.Asked, with-reads.Learnt, cells-kind-of-reads.Asked, cells-kind-of-reads.Learnt, argument-below t, argument.Post, called-below t, called.Post)
 
 argument-expression-requires : (t : ℕ) → argument-lts.Need-expression-requires (argument-calls t) (argument-at t) argument.Post
-argument-expression-requires t c κs = (omega (arith, c .before .before .before .pre .0), c .before .before .before .pre .1)
+argument-expression-requires t c κs = search needs
 
 argument-past-requires : (t : ℕ) → argument-lts.Need-past-requires (argument-calls t) (argument-at t) argument.Post
 argument-past-requires t c κs = search needs
 
 argument-same-length : (t : ℕ) → argument-lts.Need-same-length (argument-calls t) (argument-at t) argument.Post
-argument-same-length t c = c .before .before .before .expression .kept .1 .0
+argument-same-length t c = search needs
 
 argument-returns : (t : ℕ) → argument-lts.Need-returns (argument-calls t) (argument-at t) argument.Post
 argument-returns t c = argument-way _ (c .before .before .before .expression .ensures) (c .past .ensures)
 
 branches-add-argument : (t : ℕ) → branches-lts.Need-add-argument (branches-calls t) (branches-at t) branches.Post
-branches-add-argument t c =
-    let f = c .before .before .before .before .pre .1 in
-    omega arith
+branches-add-argument t c = search needs
 
 branches-argument-requires : (t : ℕ) → branches-lts.Need-argument-requires (branches-calls t) (branches-at t) branches.Post
-branches-argument-requires t c κs =
-    let z = c .before .before .before .before .pre .0 in
-    let f = c .before .before .before .before .pre .1 in
-    (omega arith, record { within = omega arith; room = omega arith })
+branches-argument-requires t c κs = search needs
 
 branches-sub-t8 : (t : ℕ) → branches-lts.Need-sub-t8 (branches-calls t) (branches-at t) branches.Post
-branches-sub-t8 t c =
-    let f = c .before .before .before .before .before .before .before .before .before .before .pre .1 in
-    let g = c .before .before .before .before .before .argument .ensures .goes in
-    omega arith
+branches-sub-t8 t c = search needs
 
 branches-cast-t12 : (t : ℕ) → branches-lts.Need-cast-t12 (branches-calls t) (branches-at t) branches.Post
-branches-cast-t12 t c =
-    let f = c .before .before .before .before .before .before .before .before .before .before .pre .1 in
-    let g = c .before .before .before .before .before .argument .ensures .goes in
-    omega arith
+branches-cast-t12 t c = search needs
 
 branches-put-requires : (t : ℕ) → branches-lts.Need-put-requires (branches-calls t) (branches-at t) branches.Post
 branches-put-requires t c κs = search needs
 
 branches-add-argument-2 : (t : ℕ) → branches-lts.Need-add-argument-2 (branches-calls t) (branches-at t) branches.Post
-branches-add-argument-2 t c =
-    let f = c .before .before .before .before .before .before .before .before .before .before .before .before .before .before .before .pre .1 in
-    let g = c .before .before .before .before .before .before .before .before .before .before .argument .ensures .goes in
-    omega arith
+branches-add-argument-2 t c = search needs
 
 branches-argument-requires-2 : (t : ℕ) → branches-lts.Need-argument-requires-2 (branches-calls t) (branches-at t) branches.Post
-branches-argument-requires-2 t c κs =
-    let z = c .before .before .before .before .before .before .before .before .before .before .before .before .before .before .before .pre .0 in
-    let f = c .before .before .before .before .before .before .before .before .before .before .before .before .before .before .before .pre .1 in
-    let g = c .before .before .before .before .before .before .before .before .before .before .argument .ensures .goes in
-    (omega arith, record { within = omega arith; room = omega arith })
+branches-argument-requires-2 t c κs = search needs
 
 branches-chosen-requires : (t : ℕ) → branches-lts.Need-chosen-requires (branches-calls t) (branches-at t) branches.Post
 branches-chosen-requires t c κs =
     let f = c .before .before .before .before .before .before .before .before .before .before .before .before .before .before .before .before .before .before .before .pre .1 in
     let g = c .before .before .before .before .before .before .before .before .before .before .before .before .before .before .argument .ensures .goes in
     let h = c .before .before .before .argument2 .ensures .goes in
-    (omega arith, omega arith)
+    (search needs, omega arith)
 
 branches-same-length : (t : ℕ) → branches-lts.Need-same-length (branches-calls t) (branches-at t) branches.Post
-branches-same-length t c =
-    c .before .before .chosen .kept .0
-    ∙ c .before .before .before .before .before .before .argument2 .kept .1 .0
-    ∙ c .before .before .before .before .before .before .before .before .before .before .before .put .kept .0
-    ∙ c .before .before .before .before .before .before .before .before .before .before .before .before .before .before .before .before .before .argument .kept .1 .0
+branches-same-length t c = search needs
 
 branches-returns : (t : ℕ) → branches-lts.Need-returns (branches-calls t) (branches-at t) branches.Post
 branches-returns t c =
@@ -210,11 +189,9 @@ called-past-requires t c κs = search needs
 
 called-argument-requires : (t : ℕ) → called-lts.Need-argument-requires (called-calls t) (called-at t) called.Post
 called-argument-requires t c κs =
-    let z = c .before .before .before .before .pre .0 in
-    let f = c .before .before .before .before .pre .1 in
-    let b = after-within (c .before .before .before .before .args .table .now) (c .before .before .before .before .args .at) (c .before .before .before .before .pre .1 .within) in
-    let p = c .past .ensures in
-    (omega arith, record { within = omega arith; room = omega arith })
+    let s = c .before .before .before .before in
+    let b = after-within (s .args .table .now) (s .args .at) (s .pre .1 .within) in
+    search needs
 
 called-form-of-requires : (t : ℕ) → called-lts.Need-form-of-requires (called-calls t) (called-at t) called.Post
 called-form-of-requires t c κs = search needs
@@ -227,108 +204,85 @@ called-of-unary-requires t c κs = search needs
 
 called-with-requires : (t : ℕ) → called-lts.Need-with-requires (called-calls t) (called-at t) called.Post
 called-with-requires t c κs =
-    let f = c .before .before .before .before .before .before .before .before .before .before .before .before .before .pre .1 in
-    let b =
-    after-within
-    (c .before .before .before .before .before .before .before .before .before .before .before .before .before .args .table .now)
-    (c .before .before .before .before .before .before .before .before .before .before .before .before .before .args .at)
-    (c .before .before .before .before .before .before .before .before .before .before .before .before .before .pre .1 .within) in
-    let p = c .before .before .before .before .before .before .before .before .before .past .ensures in
-    let g = c .before .before .before .before .before .before .before .before .argument .ensures .goes in
-    omega arith
+    let s = c .before .before .before .before .before .before .before .before .before .before .before .before .before in
+    let b = after-within (s .args .table .now) (s .args .at) (s .pre .1 .within) in
+    search needs
 
 called-enum-known-op-2 : (t : ℕ) → called-lts.Need-enum-known-op-2 (called-calls t) (called-at t) called.Post
 called-enum-known-op-2 t c = search needs
 
 called-argument-requires-2 : (t : ℕ) → called-lts.Need-argument-requires-2 (called-calls t) (called-at t) called.Post
 called-argument-requires-2 t c κs =
-    let z = c .before .before .before .before .before .before .before .before .before .before .before .before .pre .0 in
-    let f = c .before .before .before .before .before .before .before .before .before .before .before .before .pre .1 in
-    let b =
-    after-within
-    (c .before .before .before .before .before .before .before .before .before .before .before .before .args .table .now)
-    (c .before .before .before .before .before .before .before .before .before .before .before .before .args .at)
-    (c .before .before .before .before .before .before .before .before .before .before .before .before .pre .1 .within) in
-    let p = c .before .before .before .before .before .before .before .before .past .ensures in
-    let g = c .before .before .before .before .before .before .before .argument .ensures .goes in
-    (omega arith, record { within = omega arith; room = omega arith })
+    let s = c .before .before .before .before .before .before .before .before .before .before .before .before in
+    let b = after-within (s .args .table .now) (s .args .at) (s .pre .1 .within) in
+    search needs
 
 called-of-binary-requires : (t : ℕ) → called-lts.Need-of-binary-requires (called-calls t) (called-at t) called.Post
 called-of-binary-requires t c κs = search needs
 
 called-with-requires-2 : (t : ℕ) → called-lts.Need-with-requires-2 (called-calls t) (called-at t) called.Post
 called-with-requires-2 t c κs =
-    let f = c .before .before .before .before .before .before .before .before .before .before .before .before .before .before .before .before .before .pre .1 in
-    let b =
-    after-within
-    (c .before .before .before .before .before .before .before .before .before .before .before .before .before .before .before .before .before .args .table .now)
-    (c .before .before .before .before .before .before .before .before .before .before .before .before .before .before .before .before .before .args .at)
-    (c .before .before .before .before .before .before .before .before .before .before .before .before .before .before .before .before .before .pre .1 .within) in
-    let p = c .before .before .before .before .before .before .before .before .before .before .before .before .before .past .ensures in
-    let g = c .before .before .before .before .before .before .before .before .before .before .before .before .argument .ensures .goes in
-    let h = c .before .before .before .before .argument2 .ensures .goes in
-    omega arith
+    let s = c .before .before .before .before .before .before .before .before .before .before .before .before .before .before .before .before .before in
+    let b = after-within (s .args .table .now) (s .args .at) (s .pre .1 .within) in
+    search needs
 
 called-enum-told : (t : ℕ) → called-lts.Need-enum-told (called-calls t) (called-at t) called.Post
 called-enum-told t c = search needs
 
 called-branches-requires : (t : ℕ) → called-lts.Need-branches-requires (called-calls t) (called-at t) called.Post
 called-branches-requires t c κs =
-    let z = c .before .before .before .before .before .before .before .before .before .before .before .pre .0 in
-    let f = c .before .before .before .before .before .before .before .before .before .before .before .pre .1 in
-    let b =
-    after-within
-    (c .before .before .before .before .before .before .before .before .before .before .before .args .table .now)
-    (c .before .before .before .before .before .before .before .before .before .before .before .args .at)
-    (c .before .before .before .before .before .before .before .before .before .before .before .pre .1 .within) in
-    let p = c .before .before .before .before .before .before .before .past .ensures in
-    let g = c .before .before .before .before .before .before .argument .ensures .goes in
-    (omega arith, record { within = omega arith; room = omega arith })
+    let s = c .before .before .before .before .before .before .before .before .before .before .before in
+    let b = after-within (s .args .table .now) (s .args .at) (s .pre .1 .within) in
+    search needs
 
 called-same-length : (t : ℕ) → called-lts.Need-same-length (called-calls t) (called-at t) called.Post
-called-same-length t c = c .before .before .with .kept .0 ∙ c .before .before .before .before .before .before .before .before .before .before .before .argument .kept .1 .0
+called-same-length t c = search needs
 
 called-returns : (t : ℕ) → called-lts.Need-returns (called-calls t) (called-at t) called.Post
 called-returns t c =
+    let s = c .before .before .before .before .before .before .before .before .before .before .before .before .before .before .before .before in
+    let x = form-is (s .args .f) (c .before .before .before .before .before .before .before .before .form-of .ensures) (c .before .before .before .before .before .before .op .given .1) in
     called-one
-    (c .before .before .before .before .before .before .before .before .before .before .before .before .before .before .before .before .pre .1 .within)
+    (s .pre .1 .within)
     (c .before .before .before .before .before .before .before .before .before .before .before .before .past .ensures)
     (c .before .before .before .before .before .before .before .before .before .before .before .argument .ensures)
-    (form-is (c .before .before .before .before .before .before .before .before .before .before .before .before .before .before .before .before .args .f) (c .before .before .before .before .before .before .before .before .form-of .ensures) (c .before .before .before .before .before .before .op .given .1))
+    x
     (c .before .before .before .of-unary .ensures)
     (c .before .before .with .ensures .0)
     (c .before .before .with .ensures .1)
 
 called-same-length-2 : (t : ℕ) → called-lts.Need-same-length-2 (called-calls t) (called-at t) called.Post
-called-same-length-2 t c =
-    c .before .before .with2 .kept .0
-    ∙ c .before .before .before .before .before .before .before .argument2 .kept .1 .0
-    ∙ c .before .before .before .before .before .before .before .before .before .before .before .before .before .before .before .argument .kept .1 .0
+called-same-length-2 t c = search needs
 
 called-returns-2 : (t : ℕ) → called-lts.Need-returns-2 (called-calls t) (called-at t) called.Post
 called-returns-2 t c =
+    let s = c .before .before .before .before .before .before .before .before .before .before .before .before .before .before .before .before .before .before .before .before in
+    let x = form-is (s .args .f) (c .before .before .before .before .before .before .before .before .before .before .before .before .form-of .ensures) (c .before .before .before .before .before .before .before .before .before .before .op2 .given .1) in
     called-two
-    (c .before .before .before .before .before .before .before .before .before .before .before .before .before .before .before .before .before .before .before .before .pre .1 .within)
+    (s .pre .1 .within)
     (c .before .before .before .before .before .before .before .before .before .before .before .before .before .before .before .before .past .ensures)
     (c .before .before .before .before .before .before .before .before .before .before .before .before .before .before .before .argument .ensures)
-    (form-is (c .before .before .before .before .before .before .before .before .before .before .before .before .before .before .before .before .before .before .before .before .args .f) (c .before .before .before .before .before .before .before .before .before .before .before .before .form-of .ensures) (c .before .before .before .before .before .before .before .before .before .before .op2 .given .1))
+    x
     (c .before .before .before .before .before .before .before .argument2 .ensures)
     (c .before .before .before .of-binary .ensures)
     (c .before .before .with2 .ensures .0)
     (c .before .before .with2 .ensures .1)
 
 called-same-length-3 : (t : ℕ) → called-lts.Need-same-length-3 (called-calls t) (called-at t) called.Post
-called-same-length-3 t c = c .before .before .branches .kept .1 .0 ∙ c .before .before .before .before .before .before .before .before .before .argument .kept .1 .0
+called-same-length-3 t c = search needs
 
 called-returns-3 : (t : ℕ) → called-lts.Need-returns-3 (called-calls t) (called-at t) called.Post
 called-returns-3 t c =
+    let s = c .before .before .before .before .before .before .before .before .before .before .before .before .before .before in
+    let x = form-is (s .args .f) (c .before .before .before .before .before .before .form-of .ensures) (c .before .before .before .before .enum-told .given .1) in
     called-choice
-    (c .before .before .before .before .before .before .before .before .before .before .before .before .before .before .pre .1 .within)
+    (s .pre .1 .within)
     (c .before .before .before .before .before .before .before .before .before .before .past .ensures)
     (c .before .before .before .before .before .before .before .before .before .argument .ensures)
-    (form-is (c .before .before .before .before .before .before .before .before .before .before .before .before .before .before .args .f) (c .before .before .before .before .before .before .form-of .ensures) (c .before .before .before .before .enum-told .given .1))
+    x
     (c .before .before .branches .ensures)
 
+-- a loop knows the code only from its own start on: so, whatever the code was that the operand was written into
 abbrev expression-Inv-loop : expression-lts.InvT-loop
 expression-Inv-loop table code₀ at pc level left₀ code left = (length code ≡ length code₀) × ((out : List ℕ) → Writes 0 (λ f d ts. operandOf f d ts) table at pc out code₀ left₀ → Climbing level table at pc out code left)
 
@@ -336,7 +290,7 @@ abbrev expression-μ-loop : expression-lts.MeasureT-loop
 expression-μ-loop table code₀ at pc level left₀ code left = length table - left .next
 
 expression-operand-requires : (t : ℕ) → expression-lts.Need-operand-requires (expression-calls t) (expression-at t) expression.Post expression-Inv-loop expression-μ-loop
-expression-operand-requires t c κs = (omega (arith, c .before .before .before .pre .0), c .before .before .before .pre .1)
+expression-operand-requires t c κs = search needs
 
 expression-loop-holds : (t : ℕ) → expression-lts.Need-loop-holds (expression-calls t) (expression-at t) expression.Post expression-Inv-loop expression-μ-loop
 expression-loop-holds t c = (refl, λ o h. climbing-starts h)
@@ -349,60 +303,56 @@ expression-enum-known-n t c = search needs
 
 expression-add-expression : (t : ℕ) → expression-lts.Need-add-expression (expression-calls t) (expression-at t) expression.Post expression-Inv-loop expression-μ-loop
 expression-add-expression t c =
-    let f = c .before .before .before .before .before .before .before .before .before .before .before .before .before .pre .1 in
     let g = (c .before .before .before .before .before .before .loop .inv .1 _ (c .before .before .before .before .before .before .before .before .before .operand .ensures)) .goes in
-    let s = operator-at (subst (Binds _ _ _) (c .before .before .before .n .given .1) (c .before .before .before .before .before .infix-at .ensures)) in
-    omega arith
+    let b = subst (Binds _ _ _) (c .before .before .before .n .given .1) (c .before .before .before .before .before .infix-at .ensures) in
+    let i = operator-at b in
+    search needs
 
 expression-reserve-requires : (t : ℕ) → expression-lts.Need-reserve-requires (expression-calls t) (expression-at t) expression.Post expression-Inv-loop expression-μ-loop
 expression-reserve-requires t c κs = search needs
 
 expression-add-expression-2 : (t : ℕ) → expression-lts.Need-add-expression-2 (expression-calls t) (expression-at t) expression.Post expression-Inv-loop expression-μ-loop
 expression-add-expression-2 t c =
-    let f = c .before .before .before .before .before .before .before .before .before .before .before .before .before .before .before .pre .1 in
     let g = (c .before .before .before .before .before .before .before .before .loop .inv .1 _ (c .before .before .before .before .before .before .before .before .before .before .before .operand .ensures)) .goes in
-    let r = c .before .reserve .ensures in
     let q = reserved-few (c .before .before .before .before .before .n .given .0 .0) in
-    omega arith
+    search needs
 
 expression-sub-expression : (t : ℕ) → expression-lts.Need-sub-expression (expression-calls t) (expression-at t) expression.Post expression-Inv-loop expression-μ-loop
 expression-sub-expression t c =
-    let s = operator-at (subst (Binds _ _ _) (c .before .before .before .before .before .n .given .1) (c .before .before .before .before .before .before .before .infix-at .ensures)) in
+    let b = subst (Binds _ _ _) (c .before .before .before .before .before .n .given .1) (c .before .before .before .before .before .before .before .infix-at .ensures) in
+    let i = operator-at b in
     omega arith
 
 expression-expression-requires : (t : ℕ) → expression-lts.Need-expression-requires (expression-calls t) (expression-at t) expression.Post expression-Inv-loop expression-μ-loop
 expression-expression-requires t c κs =
-    let z = c .before .before .before .before .before .before .before .before .before .before .before .before .before .before .before .pre .0 in
-    let f = c .before .before .before .before .before .before .before .before .before .before .before .before .before .before .before .pre .1 in
     let g = (c .before .before .before .before .before .before .before .before .loop .inv .1 _ (c .before .before .before .before .before .before .before .before .before .before .before .operand .ensures)) .goes in
-    let s = operator-at (subst (Binds _ _ _) (c .before .before .before .before .before .n .given .1) (c .before .before .before .before .before .before .before .infix-at .ensures)) in
-    let r = c .before .reserve .ensures in
+    let b = subst (Binds _ _ _) (c .before .before .before .before .before .n .given .1) (c .before .before .before .before .before .before .before .infix-at .ensures) in
+    let i = operator-at b in
     let q = reserved-few (c .before .before .before .before .before .n .given .0 .0) in
-    (omega arith, record { within = omega arith; room = omega arith })
+    search needs
 
 expression-joined-requires : (t : ℕ) → expression-lts.Need-joined-requires (expression-calls t) (expression-at t) expression.Post expression-Inv-loop expression-μ-loop
 expression-joined-requires t c κs =
     let f = c .before .before .before .before .before .before .before .before .before .before .before .before .before .before .before .before .before .before .before .pre .1 in
     let g = (c .before .before .before .before .before .before .before .before .before .before .before .before .loop .inv .1 _ (c .before .before .before .before .before .before .before .before .before .before .before .before .before .before .before .operand .ensures)) .goes in
-    let s =
-    operator-at
-    (subst (Binds _ _ _) (c .before .before .before .before .before .before .before .before .before .n .given .1) (c .before .before .before .before .before .before .before .before .before .before .before .infix-at .ensures)) in
-    let r = c .before .before .before .before .before .reserve .ensures in
     let q = reserved-few (c .before .before .before .before .before .before .before .before .before .n .given .0 .0) in
     let x = c .before .before .before .expression .ensures .goes in
-    (omega arith, omega arith)
+    (search needs, omega arith)
 
 expression-loop-less : (t : ℕ) → expression-lts.Need-loop-less (expression-calls t) (expression-at t) expression.Post expression-Inv-loop expression-μ-loop
 expression-loop-less t c =
-    let s =
-    operator-at
-    (subst (Binds _ _ _) (c .before .before .before .before .before .before .before .before .before .before .before .before .n .given .1) (c .before .before .before .before .before .before .before .before .before .before .before .before .before .before .infix-at .ensures)) in
-    let x = c .before .before .before .before .before .before .expression .ensures .goes in
+    let b = subst (Binds _ _ _) (c .before .before .before .before .before .before .before .before .before .before .before .before .n .given .1) (c .before .before .before .before .before .before .before .before .before .before .before .before .before .before .infix-at .ensures) in
+    let i = operator-at b in
     let e = ap (λ w. w .next) (c .before .before .joined .ensures .0) in
-    omega arith
+    search needs
 
 expression-loop-again : (t : ℕ) → expression-lts.Need-loop-again (expression-calls t) (expression-at t) expression.Post expression-Inv-loop expression-μ-loop
-expression-loop-again t c = (c .before .before .joined .kept .0 ∙ c .before .before .before .before .before .before .expression .kept .1 .0 ∙ c .before .before .before .before .before .before .before .before .before .before .before .before .before .before .before .loop .inv .0, λ o h. climbing-goes-on (c .before .before .before .before .before .before .before .before .before .before .before .before .before .before .before .loop .inv .1 o h) (subst (Binds _ _ _) (c .before .before .before .before .before .before .before .before .before .before .before .before .n .given .1) (c .before .before .before .before .before .before .before .before .before .before .before .before .before .before .infix-at .ensures)) (c .before .before .before .before .before .before .before .before .reserve .ensures) (c .before .before .before .before .before .before .expression .ensures) (c .before .before .joined .ensures .0) (c .before .before .joined .ensures .1))
+expression-loop-again t c =
+    let l = c .before .before .before .before .before .before .before .before .before .before .before .before .before .before .before .loop .inv in
+    let j = c .before .before .joined in
+    let r = c .before .before .before .before .before .before .expression in
+    let b = subst (Binds _ _ _) (c .before .before .before .before .before .before .before .before .before .before .before .before .n .given .1) (c .before .before .before .before .before .before .before .before .before .before .before .before .before .before .infix-at .ensures) in
+    (j .kept .0 ∙ r .kept .1 .0 ∙ l .0, λ o h. climbing-goes-on (l .1 o h) b (c .before .before .before .before .before .before .before .before .reserve .ensures) (r .ensures) (j .ensures .0) (j .ensures .1))
 
 expression-enum-told : (t : ℕ) → expression-lts.Need-enum-told (expression-calls t) (expression-at t) expression.Post expression-Inv-loop expression-μ-loop
 expression-enum-told t c = search needs
@@ -412,29 +362,20 @@ expression-same-length t c = c .before .before .before .loop .inv .0 ∙ c .befo
 
 expression-returns : (t : ℕ) → expression-lts.Need-returns (expression-calls t) (expression-at t) expression.Post expression-Inv-loop expression-μ-loop
 expression-returns t c =
-    climbing-stops
-    (c .before .before .before .loop .inv .1 _ (c .before .before .before .before .before .before .operand .ensures))
-    (subst (Binds _ _ _) (c .enum-told .given .1) (c .before .before .infix-at .ensures))
+    let b = subst (Binds _ _ _) (c .enum-told .given .1) (c .before .before .infix-at .ensures) in
+    climbing-stops (c .before .before .before .loop .inv .1 _ (c .before .before .before .before .before .before .operand .ensures)) b
 
 operand-signs-end-requires : (t : ℕ) → operand-lts.Need-signs-end-requires (operand-calls t) (operand-at t) operand.Post
-operand-signs-end-requires t c κs = c .before .before .pre .1 .within
+operand-signs-end-requires t c κs = search needs
 
 operand-primary-requires : (t : ℕ) → operand-lts.Need-primary-requires (operand-calls t) (operand-at t) operand.Post
-operand-primary-requires t c κs =
-    let z = c .before .before .before .before .pre .0 in
-    let f = c .before .before .before .before .pre .1 in
-    let s = c .before .signs-end .ensures in
-    (omega arith, record { within = omega arith; room = omega arith })
+operand-primary-requires t c κs = search needs
 
 operand-signed-requires : (t : ℕ) → operand-lts.Need-signed-requires (operand-calls t) (operand-at t) operand.Post
-operand-signed-requires t c κs =
-    let f = c .before .before .before .before .before .before .before .before .pre .1 in
-    let s = c .before .before .before .before .before .signs-end .ensures in
-    let g = c .before .before .before .primary .ensures .goes in
-    (s, omega arith)
+operand-signed-requires t c κs = search needs
 
 operand-same-length : (t : ℕ) → operand-lts.Need-same-length (operand-calls t) (operand-at t) operand.Post
-operand-same-length t c = c .before .before .signed .kept .1 .0 ∙ c .before .before .before .before .before .before .primary .kept .1 .0
+operand-same-length t c = search needs
 
 operand-returns : (t : ℕ) → operand-lts.Need-returns (operand-calls t) (operand-at t) operand.Post
 operand-returns t c =
@@ -462,9 +403,7 @@ primary-kind-of-requires : (t : ℕ) → primary-lts.Need-kind-of-requires (prim
 primary-kind-of-requires t c κs = search needs
 
 primary-with-requires : (t : ℕ) → primary-lts.Need-with-requires (primary-calls t) (primary-at t) primary.Post
-primary-with-requires t c κs =
-    let f = c .before .before .before .before .before .before .before .before .before .before .before .before .before .pre .1 in
-    omega arith
+primary-with-requires t c κs = search needs
 
 primary-enum-known-t-3 : (t : ℕ) → primary-lts.Need-enum-known-t-3 (primary-calls t) (primary-at t) primary.Post
 primary-enum-known-t-3 t c = search needs
@@ -473,9 +412,7 @@ primary-kind-of-requires-2 : (t : ℕ) → primary-lts.Need-kind-of-requires-2 (
 primary-kind-of-requires-2 t c κs = search needs
 
 primary-with-requires-2 : (t : ℕ) → primary-lts.Need-with-requires-2 (primary-calls t) (primary-at t) primary.Post
-primary-with-requires-2 t c κs =
-    let f = c .before .before .before .before .before .before .before .before .before .before .before .before .pre .1 in
-    omega arith
+primary-with-requires-2 t c κs = search needs
 
 primary-enum-known-t-4 : (t : ℕ) → primary-lts.Need-enum-known-t-4 (primary-calls t) (primary-at t) primary.Post
 primary-enum-known-t-4 t c = search needs
@@ -485,136 +422,68 @@ primary-past-requires-2 t c κs = search needs
 
 primary-argument-requires : (t : ℕ) → primary-lts.Need-argument-requires (primary-calls t) (primary-at t) primary.Post
 primary-argument-requires t c κs =
-    let z = c .before .before .before .before .before .before .before .before .before .before .before .before .pre .0 in
-    let f = c .before .before .before .before .before .before .before .before .before .before .before .before .pre .1 in
-    let s =
-    stands
-    (c .before .before .before .before .before .before .before .before .before .before .before .before .args .table .now)
-    (c .before .before .before .before .before .before .before .before .before .before .before .before .args .at)
-    (c .before .before .before .before .before .before .before .before .before .past .ensures)
-    (c .before .before .before .before .before .before .before .before .entry-at .ensures)
-    (c .before .before .before .before .before .before .t .given .1)
-    (c .before .before .before .t4 .given .1) in
-    let h = s .within in
-    let i = s .next in
-    let b =
-    after-within
-    (c .before .before .before .before .before .before .before .before .before .before .before .before .args .table .now)
-    (c .before .before .before .before .before .before .before .before .before .past .result)
-    (omega arith) in
-    let p = c .past2 .ensures in
-    (omega arith, record { within = omega arith; room = omega arith })
+    let s = c .before .before .before .before .before .before .before .before .before .before .before .before in
+    let x = stands (s .args .table .now) (s .args .at) (c .before .before .before .before .before .before .before .before .before .past .ensures) (c .before .before .before .before .before .before .before .before .entry-at .ensures) (c .before .before .before .before .before .before .t .given .1) (c .before .before .before .t4 .given .1) in
+    let b = after-within (s .args .table .now) (c .before .before .before .before .before .before .before .before .before .past .result) (search needs) in
+    search needs
 
 primary-kind-of-requires-3 : (t : ℕ) → primary-lts.Need-kind-of-requires-3 (primary-calls t) (primary-at t) primary.Post
 primary-kind-of-requires-3 t c κs = search needs
 
 primary-with-requires-3 : (t : ℕ) → primary-lts.Need-with-requires-3 (primary-calls t) (primary-at t) primary.Post
 primary-with-requires-3 t c κs =
-    let f = c .before .before .before .before .before .before .before .before .before .before .before .before .before .before .before .before .before .pre .1 in
-    let s =
-    stands
-    (c .before .before .before .before .before .before .before .before .before .before .before .before .before .before .before .before .before .args .table .now)
-    (c .before .before .before .before .before .before .before .before .before .before .before .before .before .before .before .before .before .args .at)
-    (c .before .before .before .before .before .before .before .before .before .before .before .before .before .before .past .ensures)
-    (c .before .before .before .before .before .before .before .before .before .before .before .before .before .entry-at .ensures)
-    (c .before .before .before .before .before .before .before .before .before .before .before .t .given .1)
-    (c .before .before .before .before .before .before .before .before .t4 .given .1) in
-    let h = s .within in
-    let i = s .next in
-    let b =
-    after-within
-    (c .before .before .before .before .before .before .before .before .before .before .before .before .before .before .before .before .before .args .table .now)
-    (c .before .before .before .before .before .before .before .before .before .before .before .before .before .before .past .result)
-    (omega arith) in
-    let p = c .before .before .before .before .before .past2 .ensures in
-    let g = c .before .before .before .before .argument .ensures .goes in
-    omega arith
+    let s = c .before .before .before .before .before .before .before .before .before .before .before .before .before .before .before .before .before in
+    let x = stands (s .args .table .now) (s .args .at) (c .before .before .before .before .before .before .before .before .before .before .before .before .before .before .past .ensures) (c .before .before .before .before .before .before .before .before .before .before .before .before .before .entry-at .ensures) (c .before .before .before .before .before .before .before .before .before .before .before .t .given .1) (c .before .before .before .before .before .before .before .before .t4 .given .1) in
+    let b = after-within (s .args .table .now) (c .before .before .before .before .before .before .before .before .before .before .before .before .before .before .past .result) (search needs) in
+    search needs
 
 primary-enum-known-t-5 : (t : ℕ) → primary-lts.Need-enum-known-t-5 (primary-calls t) (primary-at t) primary.Post
 primary-enum-known-t-5 t c = search needs
 
 primary-called-requires : (t : ℕ) → primary-lts.Need-called-requires (primary-calls t) (primary-at t) primary.Post
 primary-called-requires t c κs =
-    let z = c .before .before .before .before .before .before .before .before .before .before .before .pre .0 in
-    let f = c .before .before .before .before .before .before .before .before .before .before .before .pre .1 in
-    let s =
-    stands
-    (c .before .before .before .before .before .before .before .before .before .before .before .args .table .now)
-    (c .before .before .before .before .before .before .before .before .before .before .before .args .at)
-    (c .before .before .before .before .before .before .before .before .past .ensures)
-    (c .before .before .before .before .before .before .before .entry-at .ensures)
-    (c .before .before .before .before .before .t .given .1)
-    (c .before .before .t5 .given .1) in
-    let h = s .within in
-    let i = s .next in
-    (omega arith, record { within = omega arith; room = omega arith })
+    let s = c .before .before .before .before .before .before .before .before .before .before .before in
+    let x = stands (s .args .table .now) (s .args .at) (c .before .before .before .before .before .before .before .before .past .ensures) (c .before .before .before .before .before .before .before .entry-at .ensures) (c .before .before .before .before .before .t .given .1) (c .before .before .t5 .given .1) in
+    search needs
 
 primary-enum-told : (t : ℕ) → primary-lts.Need-enum-told (primary-calls t) (primary-at t) primary.Post
 primary-enum-told t c = search needs
 
 primary-argument-requires-2 : (t : ℕ) → primary-lts.Need-argument-requires-2 (primary-calls t) (primary-at t) primary.Post
 primary-argument-requires-2 t c κs =
-    let z = c .before .before .before .before .before .before .before .before .before .before .pre .0 in
-    let f = c .before .before .before .before .before .before .before .before .before .before .pre .1 in
-    let s =
-    stands
-    (c .before .before .before .before .before .before .before .before .before .before .args .table .now)
-    (c .before .before .before .before .before .before .before .before .before .before .args .at)
-    (c .before .before .before .before .before .before .before .past .ensures)
-    (c .before .before .before .before .before .before .entry-at .ensures)
-    (c .before .before .before .before .t .given .1)
-    (c .before .enum-told .given .1) in
-    let h = s .within in
-    let i = s .next in
-    (omega arith, record { within = omega arith; room = omega arith })
+    let s = c .before .before .before .before .before .before .before .before .before .before in
+    let x = stands (s .args .table .now) (s .args .at) (c .before .before .before .before .before .before .before .past .ensures) (c .before .before .before .before .before .before .entry-at .ensures) (c .before .before .before .before .t .given .1) (c .before .enum-told .given .1) in
+    search needs
 
 primary-enum-told-2 : (t : ℕ) → primary-lts.Need-enum-told-2 (primary-calls t) (primary-at t) primary.Post
 primary-enum-told-2 t c = search needs
 
 primary-same-length : (t : ℕ) → primary-lts.Need-same-length (primary-calls t) (primary-at t) primary.Post
-primary-same-length t c = c .before .before .with .kept .0
+primary-same-length t c = search needs
 
 primary-returns : (t : ℕ) → primary-lts.Need-returns (primary-calls t) (primary-at t) primary.Post
 primary-returns t c =
-    let s =
-    stands
-    (c .before .before .before .before .before .before .before .before .before .before .before .before .before .before .before .before .args .table .now)
-    (c .before .before .before .before .before .before .before .before .before .before .before .before .before .before .before .before .args .at)
-    (c .before .before .before .before .before .before .before .before .before .before .before .before .before .past .ensures)
-    (c .before .before .before .before .before .before .before .before .before .before .before .before .entry-at .ensures)
-    (c .before .before .before .before .before .before .before .before .before .before .t .given .1)
-    (c .before .before .before .before .before .before .before .t2 .given .1) in
-    primary-number _ s (c .before .before .before .before .pushed .ensures) (c .before .before .before .kind-of .ensures) (c .before .before .with .ensures .0) (c .before .before .with .ensures .1)
+    let s = c .before .before .before .before .before .before .before .before .before .before .before .before .before .before .before .before in
+    let x = stands (s .args .table .now) (s .args .at) (c .before .before .before .before .before .before .before .before .before .before .before .before .before .past .ensures) (c .before .before .before .before .before .before .before .before .before .before .before .before .entry-at .ensures) (c .before .before .before .before .before .before .before .before .before .before .t .given .1) (c .before .before .before .before .before .before .before .t2 .given .1) in
+    primary-number _ x (c .before .before .before .before .pushed .ensures) (c .before .before .before .kind-of .ensures) (c .before .before .with .ensures .0) (c .before .before .with .ensures .1)
 
 primary-same-length-2 : (t : ℕ) → primary-lts.Need-same-length-2 (primary-calls t) (primary-at t) primary.Post
-primary-same-length-2 t c = c .before .before .with2 .kept .0
+primary-same-length-2 t c = search needs
 
 primary-returns-2 : (t : ℕ) → primary-lts.Need-returns-2 (primary-calls t) (primary-at t) primary.Post
 primary-returns-2 t c =
-    let s =
-    stands
-    (c .before .before .before .before .before .before .before .before .before .before .before .before .before .before .before .args .table .now)
-    (c .before .before .before .before .before .before .before .before .before .before .before .before .before .before .before .args .at)
-    (c .before .before .before .before .before .before .before .before .before .before .before .before .past .ensures)
-    (c .before .before .before .before .before .before .before .before .before .before .before .entry-at .ensures)
-    (c .before .before .before .before .before .before .before .before .before .t .given .1)
-    (c .before .before .before .before .before .before .t3 .given .1) in
-    primary-cell _ s (c .before .before .before .kind-of2 .ensures) (c .before .before .with2 .ensures .0) (c .before .before .with2 .ensures .1)
+    let s = c .before .before .before .before .before .before .before .before .before .before .before .before .before .before .before in
+    let x = stands (s .args .table .now) (s .args .at) (c .before .before .before .before .before .before .before .before .before .before .before .before .past .ensures) (c .before .before .before .before .before .before .before .before .before .before .before .entry-at .ensures) (c .before .before .before .before .before .before .before .before .before .t .given .1) (c .before .before .before .before .before .before .t3 .given .1) in
+    primary-cell _ x (c .before .before .before .kind-of2 .ensures) (c .before .before .with2 .ensures .0) (c .before .before .with2 .ensures .1)
 
 primary-same-length-3 : (t : ℕ) → primary-lts.Need-same-length-3 (primary-calls t) (primary-at t) primary.Post
-primary-same-length-3 t c = c .before .before .with3 .kept .0 ∙ c .before .before .before .before .before .before .before .argument .kept .1 .0
+primary-same-length-3 t c = search needs
 
 primary-returns-3 : (t : ℕ) → primary-lts.Need-returns-3 (primary-calls t) (primary-at t) primary.Post
 primary-returns-3 t c =
-    let s =
-    stands
-    (c .before .before .before .before .before .before .before .before .before .before .before .before .before .before .before .before .before .before .before .before .args .table .now)
-    (c .before .before .before .before .before .before .before .before .before .before .before .before .before .before .before .before .before .before .before .before .args .at)
-    (c .before .before .before .before .before .before .before .before .before .before .before .before .before .before .before .before .before .past .ensures)
-    (c .before .before .before .before .before .before .before .before .before .before .before .before .before .before .before .before .entry-at .ensures)
-    (c .before .before .before .before .before .before .before .before .before .before .before .before .before .before .t .given .1)
-    (c .before .before .before .before .before .before .before .before .before .before .before .t4 .given .1) in
-    primary-letter s
+    let s = c .before .before .before .before .before .before .before .before .before .before .before .before .before .before .before .before .before .before .before .before in
+    let x = stands (s .args .table .now) (s .args .at) (c .before .before .before .before .before .before .before .before .before .before .before .before .before .before .before .before .before .past .ensures) (c .before .before .before .before .before .before .before .before .before .before .before .before .before .before .before .before .entry-at .ensures) (c .before .before .before .before .before .before .before .before .before .before .before .before .before .before .t .given .1) (c .before .before .before .before .before .before .before .before .before .before .before .t4 .given .1) in
+    primary-letter x
     (c .before .before .before .before .before .before .before .before .past2 .ensures)
     (c .before .before .before .before .before .before .before .argument .ensures)
     (c .before .before .before .kind-of3 .ensures)
@@ -622,42 +491,27 @@ primary-returns-3 t c =
     (c .before .before .with3 .ensures .1)
 
 primary-same-length-4 : (t : ℕ) → primary-lts.Need-same-length-4 (primary-calls t) (primary-at t) primary.Post
-primary-same-length-4 t c = c .before .before .called .kept .1 .0
+primary-same-length-4 t c = search needs
 
 primary-returns-4 : (t : ℕ) → primary-lts.Need-returns-4 (primary-calls t) (primary-at t) primary.Post
 primary-returns-4 t c =
-    let s =
-    stands
-    (c .before .before .before .before .before .before .before .before .before .before .before .before .before .before .args .table .now)
-    (c .before .before .before .before .before .before .before .before .before .before .before .before .before .before .args .at)
-    (c .before .before .before .before .before .before .before .before .before .before .before .past .ensures)
-    (c .before .before .before .before .before .before .before .before .before .before .entry-at .ensures)
-    (c .before .before .before .before .before .before .before .before .t .given .1)
-    (c .before .before .before .before .before .t5 .given .1) in
-    primary-name s (c .before .before .called .ensures)
+    let s = c .before .before .before .before .before .before .before .before .before .before .before .before .before .before in
+    let x = stands (s .args .table .now) (s .args .at) (c .before .before .before .before .before .before .before .before .before .before .before .past .ensures) (c .before .before .before .before .before .before .before .before .before .before .entry-at .ensures) (c .before .before .before .before .before .before .before .before .t .given .1) (c .before .before .before .before .before .t5 .given .1) in
+    primary-name x (c .before .before .called .ensures)
 
 primary-same-length-5 : (t : ℕ) → primary-lts.Need-same-length-5 (primary-calls t) (primary-at t) primary.Post
-primary-same-length-5 t c = c .before .before .argument2 .kept .1 .0
+primary-same-length-5 t c = search needs
 
 primary-returns-5 : (t : ℕ) → primary-lts.Need-returns-5 (primary-calls t) (primary-at t) primary.Post
 primary-returns-5 t c =
-    let s =
-    stands
-    (c .before .before .before .before .before .before .before .before .before .before .before .before .before .args .table .now)
-    (c .before .before .before .before .before .before .before .before .before .before .before .before .before .args .at)
-    (c .before .before .before .before .before .before .before .before .before .before .past .ensures)
-    (c .before .before .before .before .before .before .before .before .before .entry-at .ensures)
-    (c .before .before .before .before .before .before .before .t .given .1)
-    (c .before .before .before .before .enum-told .given .1) in
-    primary-symbol s (c .before .before .argument2 .ensures)
+    let s = c .before .before .before .before .before .before .before .before .before .before .before .before .before in
+    let x = stands (s .args .table .now) (s .args .at) (c .before .before .before .before .before .before .before .before .before .before .past .ensures) (c .before .before .before .before .before .before .before .before .before .entry-at .ensures) (c .before .before .before .before .before .before .before .t .given .1) (c .before .before .before .before .enum-told .given .1) in
+    primary-symbol x (c .before .before .argument2 .ensures)
 
 primary-returns-6 : (t : ℕ) → primary-lts.Need-returns-6 (primary-calls t) (primary-at t) primary.Post
 primary-returns-6 t c =
-    primary-end _ _ _ _
-    (c .before .before .before .before .before .before .pre .1 .within)
-    (c .before .before .before .past .ensures)
-    (c .before .before .entry-at .ensures)
-    (c .enum-told2 .given .1)
+    let s = c .before .before .before .before .before .before in
+    primary-end _ _ _ _ (s .pre .1 .within) (c .before .before .before .past .ensures) (c .before .before .entry-at .ensures) (c .enum-told2 .given .1)
 
 pub +argument+branches+called+expression+operand+primary-spec : {M : Type 1} → statement M
 +argument+branches+called+expression+operand+primary-spec =

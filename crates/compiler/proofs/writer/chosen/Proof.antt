@@ -15,10 +15,14 @@ skipped-requires : tie.Need-skipped-requires
 skipped-requires c κs = search needs
 
 add-skip : tie.Need-add-skip
-add-skip c = omega (arith, c .skipped .ensures, over-few (c .before .before .before .before .args .first .kind) (c .before .before .before .before .args .second .kind))
+add-skip c =
+    let a = c .before .before .before .before .args in
+    omega (arith, c .skipped .ensures, over-few (a .first .kind) (a .second .kind))
 
 cast-t13 : tie.Need-cast-t13
-cast-t13 c = omega (arith, c .before .skipped .ensures, over-few (c .before .before .before .before .before .args .first .kind) (c .before .before .before .before .before .args .second .kind))
+cast-t13 c =
+    let a = c .before .before .before .before .before .args in
+    omega (arith, c .before .skipped .ensures, over-few (a .first .kind) (a .second .kind))
 
 put-requires : tie.Need-put-requires
 put-requires c κs = search needs
@@ -34,11 +38,12 @@ same-length c = search needs
 
 returns : tie.Need-returns
 returns c =
+    let s = c .before .before .before .before .before .before .before .before .before .before .before .before .before in
     chosen-way
-    (c .before .before .before .before .before .before .before .before .before .before .before .before .before .args .code .now)
-    (c .before .before .before .before .before .before .before .before .before .before .before .before .before .args .first)
-    (c .before .before .before .before .before .before .before .before .before .before .before .before .before .args .second)
-    (c .before .before .before .before .before .before .before .before .before .before .before .before .before .pre .0)
+    (s .args .code .now)
+    (s .args .first)
+    (s .args .second)
+    (s .pre .0)
     (c .before .before .before .before .before .before .before .before .before .skipped .ensures)
     (c .before .before .before .before .before .before .before .put .ensures)
     (c .before .before .before .promoting .ensures .0)

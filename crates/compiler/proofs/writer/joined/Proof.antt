@@ -23,10 +23,11 @@ same-length c = search needs
 
 returns : tie.Need-returns
 returns c =
+    let a = c .before .before .before .before .before .before .before .before .args in
     settled-way _
-    (c .before .before .before .before .before .before .before .before .args .code .now)
-    (c .before .before .before .before .before .before .before .before .args .left)
-    (c .before .before .before .before .before .before .before .before .args .right)
+    (a .code .now)
+    (a .left)
+    (a .right)
     (c .before .before .before .before .before .if1 .taken)
     (c .before .before .before .before .before .before .infix-kind .ensures)
     refl
@@ -49,12 +50,13 @@ same-length-2 c = search needs
 
 returns-2 : tie.Need-returns-2
 returns-2 c =
+    let a = c .before .before .before .before .before .before .before .before .before .before .before .args in
     joined-way
     (c .before .before .before .before .before .before .before .binary-of .ensures)
     (c .before .before .before .before .before .before .before .before .if1 .left)
-    (c .before .before .before .before .before .before .before .before .before .before .before .args .code .now)
-    (c .before .before .before .before .before .before .before .before .before .before .before .args .left)
-    (c .before .before .before .before .before .before .before .before .before .before .before .args .right)
+    (a .code .now)
+    (a .left)
+    (a .right)
     (c .before .before .before .before .before .op .given .1)
     (c .before .before .before .before .before .before .before .before .before .infix-kind .ensures)
     (c .before .before .with .ensures .0)

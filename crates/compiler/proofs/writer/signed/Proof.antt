@@ -37,7 +37,11 @@ loop-less : tie.Need-loop-less Inv-loop μ-loop
 loop-less c = omega arith
 
 loop-again : tie.Need-loop-again Inv-loop μ-loop
-loop-again c = let h = c .before .before .before .before .before .before .before .before .before .before .before .pre .0 .each in (omega arith, omega arith, c .before .before .with .kept .0 ∙ c .before .before .before .before .before .before .before .before .loop .inv .2, unaries-more (omega arith) (c .before .before .before .before .before .before .before .before .loop .inv .3) (c .before .before .before .before .before .before .sign-at .ensures) (h (c .before .before .before .before .before .before .before .before .loop .i - 1) (omega arith) (omega arith)) (c .before .before .before .before .before .operator-of .ensures) (c .before .before .before .of-unary .ensures) (c .before .before .with .ensures .0) (c .before .before .with .ensures .1))
+loop-again c =
+    let l = c .before .before .before .before .before .before .before .before .loop in
+    let w = c .before .before .with in
+    let s = c .before .before .before .before .before .before .before .before .before .before .before .pre .0 .each (l .i - 1) (omega arith) (omega arith) in
+    (omega arith, omega arith, w .kept .0 ∙ l .inv .2, unaries-more (omega arith) (l .inv .3) (c .before .before .before .before .before .before .sign-at .ensures) s (c .before .before .before .before .before .operator-of .ensures) (c .before .before .before .of-unary .ensures) (w .ensures .0) (w .ensures .1))
 
 same-length : tie.Need-same-length Inv-loop μ-loop
 same-length c = c .before .loop .inv .2

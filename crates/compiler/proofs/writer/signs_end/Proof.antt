@@ -1,13 +1,8 @@
 -- `compiler::writer::signs_end` meets its contract. The invariant: every position passed has a unary operator. The measure is what is left of the table.
-use mathlib.Core.Bool.{false}
-use mathlib.Core.List.{[], _∷_}
-use mathlib.Core.Path.{refl}
 use Prim.Native.Nat.{_-_, _≤_}
 use native.Mathlib.Omega.{arith}
-use lib.Dec.{eqb}
 use lib.ListN.{length}
 use borrow.Author.Needs.{needs}
-use Rattle.operators.proofs.Keys.{by-keys}
 use Rattle.compiler.proofs.writer.Signing.{sign-there, no-sign, AllSigns, one-sign-more}
 use Rattle.compiler.proofs.writer.signs_end.Statement.{statement}
 use Rattle.compiler.proofs.writer.signs_end.Tie as tie
@@ -29,16 +24,19 @@ enum-told c = search needs
 
 returns : tie.Need-returns Inv-loop μ-loop
 returns c =
-    record { ahead = c .before .before .before .loop .inv .0; within = c .before .before .before .loop .inv .1; each = c .before .before .before .loop .inv .2; stops = no-sign (c .before .before .sign-at .ensures) (c .enum-told .given .1) }
+    let i = c .before .before .before .loop .inv in
+    record { ahead = i .0; within = i .1; each = i .2; stops = no-sign (c .before .before .sign-at .ensures) (c .enum-told .given .1) }
 
 add-end : tie.Need-add-end Inv-loop μ-loop
-add-end c = let s = sign-there (c .before .sign-at .ensures) (by-keys false (λ n. eqb n 3) (0 ∷ 1 ∷ 2 ∷ []) _ (refl, (refl, (refl, tt))) (c .match .keys2)) in omega arith
+add-end c = let s = sign-there (c .before .sign-at .ensures) (c .match .keys2) in omega arith
 
 loop-less : tie.Need-loop-less Inv-loop μ-loop
-loop-less c = let s = sign-there (c .before .sign-at .ensures) (by-keys false (λ n. eqb n 3) (0 ∷ 1 ∷ 2 ∷ []) _ (refl, (refl, (refl, tt))) (c .match .keys2)) in omega arith
+loop-less c = let s = sign-there (c .before .sign-at .ensures) (c .match .keys2) in omega arith
 
 loop-again : tie.Need-loop-again Inv-loop μ-loop
-loop-again c = let s = sign-there (c .before .sign-at .ensures) (by-keys false (λ n. eqb n 3) (0 ∷ 1 ∷ 2 ∷ []) _ (refl, (refl, (refl, tt))) (c .match .keys2)) in (omega arith, omega arith, one-sign-more _ _ _ (c .before .before .loop .inv .2) (s .1))
+loop-again c =
+    let s = sign-there (c .before .sign-at .ensures) (c .match .keys2) in
+    (omega arith, omega arith, one-sign-more _ _ _ (c .before .before .loop .inv .2) (s .1))
 
 pub signs-end-spec : {M : Type 1} → statement M
 signs-end-spec =

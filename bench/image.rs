@@ -1,0 +1,123 @@
+//! The memory in plain Rust: cells read and stored, flags, and the names of targets.
+
+#![forbid(unsafe_code)]
+
+use crate::values::{Outcome, Stop, Value};
+
+use Value::{Int, Real};
+
+pub const BYTES: usize = 3204;
+pub const REAL_BANK: u8 = 5;
+
+pub fn elements(bank: u8) -> u32 {
+    if bank < 2 {
+        64
+    } else {
+        256
+    }
+}
+
+pub fn read(image: &[u8], bank: u8, element: usize) -> Outcome {
+    if image.len() != BYTES {
+        return Err(Stop::IndexError);
+    }
+    match bank {
+        0 => Ok(Int((image[element] != 0) as i32)),
+        1 => Ok(Int((image[64 + element] != 0) as i32)),
+        2 => Ok(Int(half(image, 128 + 2 * element) as i32)),
+        3 => Ok(Int(half(image, 640 + 2 * element) as i16 as i32)),
+        4 => Ok(Int(word(image, 1152 + 4 * element) as i32)),
+        _ => {
+            let x = f32::from_bits(word(image, 2176 + 4 * element));
+            if x.is_finite() {
+                Ok(Real(x))
+            } else {
+                Err(Stop::OutOfRange)
+            }
+        }
+    }
+}
+
+fn half(image: &[u8], at: usize) -> u16 {
+    u16::from_le_bytes([image[at], image[at + 1]])
+}
+
+fn word(image: &[u8], at: usize) -> u32 {
+    let bytes = &image[at..at + 4];
+    u32::from_le_bytes([bytes[0], bytes[1], bytes[2], bytes[3]])
+}
+
+pub fn read_indexed(image: &[u8], bank: u8, index: Value) -> Outcome {
+    let index = index.cut()? as u32;
+    // a negative index is beyond every bank
+    if index < elements(bank) {
+        read(image, bank, index as usize)
+    } else {
+        Err(Stop::IndexError)
+    }
+}
+
+/// The bank by its letter.
+pub fn bank(letter: u8) -> Option<u8> {
+    match letter {
+        b'X' => Some(0),
+        b'C' => Some(1),
+        b'V' => Some(2),
+        b'N' => Some(3),
+        b'D' => Some(4),
+        b'R' => Some(REAL_BANK),
+        _ => None,
+    }
+}
+
+/// The element that the digits of a cell's name stand for.
+pub fn element(bank: u8, digits: &[u8]) -> Option<u8> {
+    if digits.is_empty() || digits.len() > 3 || (digits[0] == b'0' && digits.len() > 1) {
+        return None;
+    }
+    let mut n = 0;
+    for &d in digits {
+        if !d.is_ascii_digit() {
+            return None;
+        }
+        n = n * 10 + (d - b'0') as u32;
+    }
+    if n < elements(bank) {
+        Some(n as u8)
+    } else {
+        None
+    }
+}
+
+/// The cell that a target names: any but an X cell.
+pub fn target(text: &[u8]) -> Option<(u8, u8)> {
+    let (&letter, digits) = text.split_first()?;
+    let bank = bank(letter)?;
+    if bank == 0 {
+        return None;
+    }
+    Some((bank, element(bank, digits)?))
+}
+
+pub fn store(image: &mut [u8], (bank, element): (u8, u8), v: Value) -> Result<(), Stop> {
+    let element = element as usize;
+    match bank {
+        1 => image[64 + element] = v.truth() as u8,
+        2 => image[128 + 2 * element..][..2].copy_from_slice(&(v.cut()? as u16).to_le_bytes()),
+        3 => image[640 + 2 * element..][..2].copy_from_slice(&(v.cut()? as u16).to_le_bytes()),
+        4 => image[1152 + 4 * element..][..4].copy_from_slice(&v.cut()?.to_le_bytes()),
+        _ => image[2176 + 4 * element..][..4].copy_from_slice(&v.single().to_le_bytes()),
+    }
+    Ok(())
+}
+
+pub fn set_flag(image: &mut [u8], fault: Stop) {
+    let flag = match fault {
+        Stop::IndexError => 3200,
+        Stop::OutOfRange => 3201,
+        Stop::Overflow => 3202,
+        Stop::DividedByZero => 3203,
+        Stop::Stuck => return,
+    };
+    image[flag] = 1;
+}

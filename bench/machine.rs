@@ -1,0 +1,135 @@
+//! The run of docs/INSTRUCTIONS.md in plain Rust. It takes any bytes for code, so it decodes and tests the height at each step.
+
+#![forbid(unsafe_code)]
+
+use crate::image::{elements, read, read_indexed};
+use crate::values::{binary, unary, Outcome, Stop, Value};
+
+pub type Instruction = [u8; 8];
+
+pub fn instruction(opcode: u8, operand: u8, word: u32) -> Instruction {
+    let [a, b, c, d] = word.to_le_bytes();
+    [opcode, operand, 0, 0, a, b, c, d]
+}
+
+/// The opcode, the operand and the word of a known instruction.
+#[inline]
+pub fn decode(code: &[u8], place: usize) -> Option<(u8, u8, u32)> {
+    let bytes: &Instruction = code.get(8 * place..8 * place + 8)?.try_into().ok()?;
+    // one load, and not a byte at a time
+    let whole = u64::from_le_bytes(*bytes);
+    if whole & 0xFFFF_0000 != 0 {
+        return None;
+    }
+    let (opcode, operand, word) = (whole as u8, (whole >> 8) as u8, (whole >> 32) as u32);
+    let good = match opcode {
+        1 | 7 | 8 | 9 => operand == 0,
+        2 => operand == 0 && f32::from_bits(word).is_finite(),
+        3 => operand < 6 && word < elements(operand),
+        4 => operand < 6 && word == 0,
+        5 => operand < 8 && word == 0,
+        6 => operand < 20 && word == 0,
+        _ => false,
+    };
+    if good {
+        Some((opcode, operand, word))
+    } else {
+        None
+    }
+}
+
+/// The values that an instruction takes.
+#[inline]
+pub fn taken(opcode: u8) -> usize {
+    match opcode {
+        4 | 5 | 8 | 9 => 1,
+        6 => 2,
+        _ => 0,
+    }
+}
+
+// The values are borrowed, so that the height can be kept in a register.
+struct Stack<'a> {
+    values: &'a mut [Value; 128],
+    height: usize,
+}
+
+impl Stack<'_> {
+    #[inline]
+    fn pop(&mut self) -> Result<Value, Stop> {
+        if self.height == 0 {
+            return Err(Stop::Stuck);
+        }
+        self.height -= 1;
+        Ok(self.values[self.height])
+    }
+
+    // What an instruction gives that is no jump.
+    #[inline]
+    fn given(&mut self, opcode: u8, operand: u8, word: u32, image: &[u8]) -> Outcome {
+        match opcode {
+            1 => Ok(Value::Int(word as i32)),
+            2 => Ok(Value::Real(f32::from_bits(word))),
+            3 => read(image, operand, word as usize),
+            4 => read_indexed(image, operand, self.pop()?),
+            5 => unary(operand, self.pop()?),
+            _ => {
+                let right = self.pop()?;
+                binary(operand, self.pop()?, right)
+            }
+        }
+    }
+
+    #[inline]
+    fn push(&mut self, v: Value) -> Result<(), Stop> {
+        if self.height == 128 {
+            return Err(Stop::Stuck);
+        }
+        self.values[self.height] = v;
+        self.height += 1;
+        Ok(())
+    }
+
+    // Whether a jump is made.
+    #[inline]
+    fn jumps(&mut self, opcode: u8) -> Result<bool, Stop> {
+        Ok(opcode == 7 || self.pop()?.truth() == (opcode == 9))
+    }
+}
+
+// Runs to the end and counts the instructions begun.
+#[inline]
+fn go(code: &[u8], n: usize, image: &[u8], count: &mut usize) -> Outcome {
+    let mut stack = Stack {
+        values: &mut [Value::Int(0); 128],
+        height: 0,
+    };
+    let mut place = 0;
+    while place < n {
+        *count += 1;
+        let (opcode, operand, word) = decode(code, place).ok_or(Stop::Stuck)?;
+        place += 1;
+        if opcode < 7 {
+            let v = stack.given(opcode, operand, word, image)?;
+            stack.push(v)?;
+        } else if stack.jumps(opcode)? {
+            if word as usize > n - place {
+                return Err(Stop::Stuck);
+            }
+            place += word as usize;
+        }
+    }
+    if stack.height == 1 {
+        Ok(stack.values[0])
+    } else {
+        Err(Stop::Stuck)
+    }
+}
+
+/// What the code gives, and the instructions begun.
+#[inline(never)]
+pub fn run(code: &[u8], n: usize, image: &[u8]) -> (Outcome, usize) {
+    let mut count = 0;
+    let given = go(code, n, image, &mut count);
+    (given, count)
+}

@@ -1,0 +1,118 @@
+#!/bin/sh
+# Builds the libraries bench_c and formula_c and measures them beside plain Rust: sh bench/run.sh [BATCHES [TEXTS]]
+# A row is the least of so many batches; before that, all must agree on so many random texts. A part whose tool is missing is left
+# out, and said so.
+cd "$(dirname "$0")/.." || exit 1
+libraries=target/staticlib
+out=target/bench
+data="bench/memory.txt bench/corpus.txt bench/worst.txt"
+# a controller of 100 MHz that does an instruction a cycle, for 50 ms
+budget=5000000
+mkdir -p "$out"
+failed=0
+
+have() {
+    for tool in $1; do
+        command -v "$tool" > /dev/null || { echo "$tool is missing: $2"; return 1; }
+    done
+}
+
+fail() {
+    echo "failed: $1"
+    failed=1
+}
+
+build_libraries() {
+    have rt "the libraries are taken as they lie in $libraries" || return
+    for library in bench_c formula_c; do
+        rt staticlib "$library" || fail "rt staticlib $library"
+    done
+}
+
+# One codegen unit, so that the contestants lose nothing by being written in several files.
+build() {
+    rustc --edition 2021 -C opt-level=3 -C codegen-units=1 --check-cfg 'cfg(parts,library)' -L "$libraries" "$@" bench/main.rs
+}
+
+measure_times() {
+    have "rustc cc" "no times" || return
+    if build --cfg parts --cfg library -o "$out/bench" 2> "$out/link.txt"; then
+        "$out/bench" "$@" || fail "bench"
+        return
+    fi
+    echo "not linked into one program (see $out/link.txt), so two:"
+    for half in parts library; do
+        build --cfg "$half" -o "$out/bench_$half" && "$out/bench_$half" "$@" || fail "bench_$half"
+    done
+}
+
+# Symbols are resolved at the start, so that no call pays for that.
+build_c() {
+    cc -std=gnu11 -Wall -Wextra -O2 -I include -Wl,-z,now -o "$out/$1" "bench/$1.c" bench/texts.c -L "$libraries" -lformula_c -lm
+}
+
+part() {
+    echo "$1" | awk -v budget="$budget" '{ printf "%.1f", 100 * $1 / budget }'
+}
+
+# The instructions of one function of a scan.
+counted() {
+    valgrind --tool=callgrind --callgrind-out-file=/dev/null --toggle-collect="$2" "$out/scan" $data "$1" 2>&1 |
+        sed -n 's/.*Collected *: *//p'
+}
+
+count_instructions() {
+    have "valgrind cc awk" "no instruction counts" || return
+    build_c scan || { fail "scan.c"; return; }
+    echo
+    echo "instructions of this machine, by callgrind, for a scan of forty formulas"
+    echo "the last column is the part that check, run and store take of $budget"
+    printf '%-20s %12s %12s %20s %8s\n' "" compile check "check, run, store" part
+    most=0
+    for name in $("$out/scan" $data); do
+        "$out/scan" $data "$name" > /dev/null || { fail "scan $name"; continue; }
+        run=$(counted "$name" run_scan)
+        [ -n "$run" ] || { fail "callgrind, $name"; continue; }
+        printf '%-20s %12s %12s %20s %7s%%\n' "$name" "$(counted "$name" compile_scan)" "$(counted "$name" check_scan)" \
+            "$run" "$(part "$run")"
+        [ "$run" -le "$most" ] || { most=$run; dearest=$name; }
+    done
+    [ "$most" = 0 ] || echo "the worst scan, $dearest, takes $(part "$most")% of $budget"
+}
+
+text_of() {
+    cc -O2 -I include -Wl,--gc-sections -o "$out/linked" -x c - -x none -L "$libraries" -lformula_c -lm && size "$out/linked" |
+        awk 'NR == 2 { print $1 }'
+}
+
+measure_sizes() {
+    have "size awk" "no sizes" || return
+    echo
+    size -t "$libraries/libformula_c.a" |
+        awk 'END { print "text of all " NR - 2 " members of libformula_c.a: " $1 " bytes, data " $2 ", bss " $3 }'
+    have cc "no size of what is linked" || return
+    # what the four operations add to a program that does nothing
+    empty=$(echo 'int main(void) { return 0; }' | text_of)
+    four=$(echo '#include "formula.h"
+        int main(void) {
+            static void (*volatile all[])(void) = {(void (*)(void))formula_compile, (void (*)(void))formula_check,
+                (void (*)(void))formula_run, (void (*)(void))formula_compile_and_run};
+            return all[0] == 0;
+        }' | text_of)
+    echo "text that the four operations add to a program: $((four - empty)) bytes"
+}
+
+measure_stacks() {
+    have cc "no stack depths" || return
+    build_c stack || { fail "stack.c"; return; }
+    echo
+    echo "deepest stack:"
+    "$out/stack" $data || fail "stack"
+}
+
+build_libraries
+measure_times "$@"
+count_instructions
+measure_sizes
+measure_stacks
+exit $failed

@@ -1,0 +1,142 @@
+/* Measures the deepest stack of each operation: it runs on a painted stack of its own, and the lowest byte that is no longer
+ * paint shows how deep it went. Arguments on the stack and the return address are counted in, the caller's frame is not.
+ *
+ *   stack MEMORY CORPUS WORST
+ *
+ * What a function reserves and never writes at the very bottom is not seen.
+ */
+#include <stdio.h>
+#include <string.h>
+#include <ucontext.h>
+
+#include "formula.h"
+#include "texts.h"
+
+#define STACK (1u << 19)
+
+static uint8_t stack[STACK] __attribute__((aligned(4096)));
+static ucontext_t caller, callee;
+
+static struct scan scans[SCANS];
+static uint8_t memory[FORMULA_MEMORY_BYTES];
+static uint8_t code[FORMULA_CODE_BYTES];
+static struct formula_report report;
+static const uint8_t *expr, *target;
+static size_t expr_len, target_len, count;
+
+static void nothing(void) {
+}
+
+static void compile(void) {
+    formula_compile(expr, expr_len, code, sizeof code, &report);
+}
+
+static void check(void) {
+    formula_check(code, sizeof code, count, &report);
+}
+
+static void run(void) {
+    formula_run(code, sizeof code, count, memory, sizeof memory, target, target_len, &report);
+}
+
+static void compile_and_run(void) {
+    formula_compile_and_run(target, target_len, expr, expr_len, memory, sizeof memory, code, sizeof code, &report);
+}
+
+static size_t painted_depth(void (*operation)(void), uint8_t paint) {
+    size_t low = 0;
+    memset(stack, paint, STACK);
+    getcontext(&callee);
+    callee.uc_stack.ss_sp = stack;
+    callee.uc_stack.ss_size = STACK;
+    callee.uc_link = &caller;
+    makecontext(&callee, operation, 0);
+    swapcontext(&caller, &callee);
+    while (low < STACK && stack[low] == paint) {
+        low++;
+    }
+    return STACK - low;
+}
+
+/* Two paints, since the lowest byte written may be of the one colour. */
+static size_t depth(void (*operation)(void)) {
+    size_t a = painted_depth(operation, 0xA5), b = painted_depth(operation, 0x5A);
+    return a > b ? a : b;
+}
+
+struct measured {
+    const char *name;
+    void (*operation)(void);
+    size_t deepest;
+    const char *by;
+};
+
+static struct measured measured[] = {
+    {"formula_compile", compile, 0, ""},
+    {"formula_check", check, 0, ""},
+    {"formula_run", run, 0, ""},
+    {"formula_compile_and_run", compile_and_run, 0, ""},
+};
+
+#define OPERATIONS (sizeof measured / sizeof measured[0])
+
+/* Compiling comes first, since the others take its code; where it is refused, they get no instructions. */
+static void measure(const char *name, const char *target_text, const char *expr_text) {
+    static size_t base;
+    if (base == 0) {
+        base = depth(nothing);
+    }
+    target = (const uint8_t *)target_text;
+    target_len = strlen(target_text);
+    expr = (const uint8_t *)expr_text;
+    expr_len = strlen(expr_text);
+    for (size_t i = 0; i < OPERATIONS; i++) {
+        size_t deep = depth(measured[i].operation) - base;
+        if (measured[i].operation == compile) {
+            count = report.count;
+        }
+        if (deep > measured[i].deepest) {
+            measured[i].deepest = deep;
+            measured[i].by = name;
+        }
+    }
+}
+
+/* Texts that nest as deep as may be, in every way that a reader may call itself, and one bracket too many. */
+static void measure_nested(void) {
+    static const char *const units[] = {"(", "D[", "MAX(1,", "IF(1,1,", "1|1^1&1==1<1<<1+1*1**(", "-~!(", "1||1&&ABS("};
+    static char text[FORMULA_TEXT_BYTES + 1];
+    for (size_t u = 0; u < sizeof units / sizeof units[0]; u++) {
+        for (int deep = 8; deep <= 9; deep++) {
+            text[0] = '\0';
+            for (int i = 0; i < deep; i++) {
+                strcat(text, units[u]);
+            }
+            strcat(text, "1");
+            for (int i = 0; i < deep; i++) {
+                strcat(text, strchr(units[u], '[') != NULL ? "]" : ")");
+            }
+            measure(deep == 8 ? "eight brackets" : "nine brackets", "D0", text);
+        }
+    }
+}
+
+int main(int arguments, char **argument) {
+    if (arguments != 4) {
+        fprintf(stderr, "stack MEMORY CORPUS WORST\n");
+        return 1;
+    }
+    read_memory(argument[1], memory);
+    size_t n = read_scans(argument[2], argument[3], scans);
+    for (size_t i = 0; i < n; i++) {
+        /* the formulas of a worst scan are all the same */
+        for (size_t f = 0; f < (i == 0 ? SCAN : 1); f++) {
+            measure(scans[i].name, scans[i].formulas[f].target, scans[i].formulas[f].expr);
+        }
+    }
+    measure_nested();
+    for (size_t i = 0; i < OPERATIONS; i++) {
+        printf("%-24s %7zu bytes, deepest with %s\n", measured[i].name, measured[i].deepest, measured[i].by);
+    }
+    return 0;
+}
