@@ -1,0 +1,3 @@
+-- Laws for the proofs of the whole crate.
+mod Stores
+mod Names

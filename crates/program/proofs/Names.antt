@@ -1,0 +1,55 @@
+-- A word that names a cell, or a target: the image has the cell. Assumes nothing.
+use mathlib.Core.Path.{_≡_, refl, subst}
+use mathlib.Core.Bool.{Bool, true, false, _&&_, cond}
+use mathlib.Core.List.{List, [], _∷_}
+use Prim.Native.Nat.{ℕ, _<_}
+use native.Mathlib.Omega.{arith}
+use lib.Dec.{T, ltb, ltb→lt}
+use lib.Ieee.Fits.{and-r}
+use lib.ListN.{length}
+use borrow.Author.Tests.{eq-eqb, lt-ltb}
+use Rattle.memory.specs.declared.Bank.{Bank}
+use Rattle.memory.specs.declared.Bank.the-variants.{X, C, «V», N, D, R}
+use Rattle.memory.specs.declared.names.Letter.{Letter}
+use Rattle.memory.specs.declared.names.Letter.the-variants as L
+use Rattle.memory.specs.declared.names.Named.{Named}
+use Rattle.memory.specs.declared.names.Named.the-variants.{Cell, Other}
+use Rattle.memory.specs.Layout.{layoutOf, hasCell}
+use Rattle.memory.specs.Names.{bankOf, plain, allDigits, decimal, numberBelow, cellOf, namedRule, storable, targetRule}
+
+no-cell : (b : Bank) (i : ℕ) → Other ≡ Cell b i → ⊥
+no-cell b i e = let z : _≡_ {A = ℕ} 0 1 = cc in omega arith
+
+of-letter : (cs : List ℕ) (l : Letter) {b : Bank} {i : ℕ} → cellOf cs l ≡ Cell b i → i < layoutOf b .elements
+of-letter cs (L.Of a) {b} {i} e = by (numberBelow (layoutOf a .elements) cs) refl e
+  where
+    by : (t : Bool) → numberBelow (layoutOf a .elements) cs ≡ t → cond t (Cell a (decimal cs)) Other ≡ Cell b i → i < layoutOf b .elements
+    by true n f =
+        let t : T (numberBelow (layoutOf a .elements) cs) = rw n tt in
+        let h = ltb→lt (decimal cs) (layoutOf a .elements) (and-r (plain cs && allDigits cs) (ltb (decimal cs) (layoutOf a .elements)) t) in
+        let same-bank : a ≡ b = cc in
+        let same-element : decimal cs ≡ i = cc in
+        subst (λ (x : Bank). i < layoutOf x .elements) same-bank (subst (λ (x : ℕ). x < layoutOf a .elements) same-element h)
+    by false n f = absurd (no-cell b i f)
+of-letter cs L.Other {b} {i} e = absurd (no-cell b i e)
+
+pub element-below : (w : List ℕ) {b : Bank} {i : ℕ} → namedRule w ≡ Cell b i → i < layoutOf b .elements
+unfolding namedRule
+element-below [] {b} {i} e = absurd (no-cell b i e)
+element-below (c ∷ cs) e = of-letter cs (bankOf c) e
+
+pub has-named : (m w : List ℕ) {b : Bank} {i : ℕ} → length m ≡ 3204 → namedRule w ≡ Cell b i → T (hasCell m b i)
+has-named m w {b} {i} l e = rw (eq-eqb (length m) 3204 l, lt-ltb i (layoutOf b .elements) (element-below w e)) tt
+
+-- ---- a target is such a name
+storable-named : (n : Named) {b : Bank} {i : ℕ} → storable n ≡ Cell b i → n ≡ Cell b i
+storable-named (Cell X j) {b} {i} e = absurd (no-cell b i e)
+storable-named (Cell C j) e = e
+storable-named (Cell «V» j) e = e
+storable-named (Cell N j) e = e
+storable-named (Cell D j) e = e
+storable-named (Cell R j) e = e
+storable-named Other {b} {i} e = absurd (no-cell b i e)
+
+pub has-target : (m w : List ℕ) {b : Bank} {i : ℕ} → length m ≡ 3204 → targetRule w ≡ Cell b i → T (hasCell m b i)
+has-target m w l e = has-named m w l (storable-named (namedRule w) e)

@@ -1,0 +1,3 @@
+-- Laws for the proofs of forms.
+mod Integers
+mod Hexadecimals

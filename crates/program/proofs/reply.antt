@@ -1,0 +1,4 @@
+-- Laws for the proofs of reply.
+mod Lengths
+mod Endings
+pub mod Whole

@@ -1,0 +1,65 @@
+-- `reply::put_reply` meets its contract, answer by answer.
+use mathlib.Core.Path.{ap}
+use native.Mathlib.Omega.{arith}
+use borrow.Author.Needs.{needs}
+use Rattle.program.specs.Reply.{reportText}
+use Rattle.program.proofs.Stores.{then, as-text}
+use Rattle.program.proofs.reply.Endings.{alone}
+use Rattle.program.proofs.reply.put_reply.Statement.{statement}
+use Rattle.program.proofs.reply.put_reply.Tie as tie
+
+reported-requires : tie.Need-reported-requires
+reported-requires c κs = search needs
+
+put-report-requires : tie.Need-put-report-requires
+put-report-requires c κs = search needs
+
+enum-told : tie.Need-enum-told
+enum-told c = search needs
+
+put-target-requires : tie.Need-put-target-requires
+put-target-requires c κs = search needs
+
+enum-told-2 : tie.Need-enum-told-2
+enum-told-2 c = search needs
+
+enum-told-3 : tie.Need-enum-told-3
+enum-told-3 c = search needs
+
+same-length : tie.Need-same-length
+same-length c = search needs
+
+returns : tie.Need-returns
+returns c =
+    (then (as-text (ap reportText (c .before .before .before .before .before .before .before .before .before .reported .ensures)) (c .before .before .before .before .before .before .before .before .put-report .ensures .0)) (rw (c .before .before .before .before .enum-told .given .1) (c .before .before .put-target .ensures .0)), omega (arith, c .before .before .before .before .before .before .before .before .put-report .ensures .1, c .before .before .put-target .ensures .1))
+
+same-length-2 : tie.Need-same-length-2
+same-length-2 c = search needs
+
+returns-2 : tie.Need-returns-2
+returns-2 c =
+    (rw (c .enum-told2 .given .1) (alone (rw (c .enum-told2 .given .1) at (as-text (ap reportText (c .before .before .before .before .before .reported .ensures)) (c .before .before .before .before .put-report .ensures .0)))), omega (arith, c .before .before .before .before .put-report .ensures .1))
+
+same-length-3 : tie.Need-same-length-3
+same-length-3 c = search needs
+
+returns-3 : tie.Need-returns-3
+returns-3 c =
+    (rw (c .enum-told3 .given .1) (alone (rw (c .enum-told3 .given .1) at (as-text (ap reportText (c .before .before .before .before .before .reported .ensures)) (c .before .before .before .before .put-report .ensures .0)))), omega (arith, c .before .before .before .before .put-report .ensures .1))
+
+pub put-reply-spec : {M : Type 1} → statement M
+put-reply-spec =
+    tie.close
+    (tie.spec
+    reported-requires
+    put-report-requires
+    enum-told
+    put-target-requires
+    enum-told-2
+    enum-told-3
+    same-length
+    returns
+    same-length-2
+    returns-2
+    same-length-3
+    returns-3)

@@ -1,0 +1,5 @@
+pub mod Forms
+pub mod Lines
+pub mod Printing
+pub mod Steps
+pub mod Reply

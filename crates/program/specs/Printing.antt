@@ -1,0 +1,58 @@
+-- What is printed (paper 01): "Integers print in signed decimal"; R "as its pattern", in the form `0x437A8000`.
+use mathlib.Core.Bool.{cond}
+use mathlib.Core.List.{List, [], _∷_, _++_}
+use Prim.Native.Nat.{ℕ, zero, suc, _+_, _/_, _%_}
+use lib.Dec.{ltb}
+use lib.IntN.{ℤ, pos, negsuc}
+use Rattle.values.specs.Patterns.{signedOf}
+use Rattle.memory.specs.declared.Bank.{Bank}
+use Rattle.memory.specs.declared.Bank.the-variants.{X, C, «V», N, D, R}
+use Rattle.memory.specs.Cells.{bitOf}
+
+-- `0` to `9`, then `A` to `F`
+abbrev pub numeralByte : ℕ → ℕ
+numeralByte d = cond (ltb d 10) (48 + d) (55 + d)
+
+-- the k lowest digits of n in a base, before the bytes cs
+abbrev pub digitsBefore : ℕ → ℕ → ℕ → List ℕ → List ℕ
+digitsBefore base zero n cs = cs
+digitsBefore base (suc k) n cs = digitsBefore base k (n / base) (numeralByte (n % base) ∷ cs)
+
+abbrev pub digitsOf : ℕ → ℕ → ℕ → List ℕ
+digitsOf base k n = digitsBefore base k n []
+
+-- how many digits n has without leading zeros; each step takes one away, so n steps are enough
+abbrev pub widthFrom : ℕ → ℕ → ℕ
+widthFrom zero n = 1
+widthFrom (suc f) n = cond (ltb n 10) 1 (suc (widthFrom f (n / 10)))
+
+abbrev pub widthOf : ℕ → ℕ
+widthOf n = widthFrom n n
+
+abbrev pub decimalText : ℕ → List ℕ
+decimalText n = digitsOf 10 (widthOf n) n
+
+abbrev pub signedText : ℤ → List ℕ
+signedText (pos n) = decimalText n
+signedText (negsuc n) = 45 ∷ decimalText (suc n)
+
+-- what a bank prints of the number of a cell's bytes
+abbrev pub cellText : Bank → ℕ → List ℕ
+cellText X n = signedText (bitOf n)
+cellText C n = signedText (bitOf n)
+cellText «V» n = signedText (pos n)
+cellText N n = signedText (signedOf 16 n)
+cellText D n = signedText (signedOf 32 n)
+cellText R n = 48 ∷ 120 ∷ digitsOf 16 8 n
+
+abbrev pub letterOf : Bank → ℕ
+letterOf X = 88
+letterOf C = 67
+letterOf «V» = 86
+letterOf N = 78
+letterOf D = 68
+letterOf R = 82
+
+-- a bank letter and the element's number
+abbrev pub cellName : Bank → ℕ → List ℕ
+cellName b i = letterOf b ∷ decimalText i

@@ -1,0 +1,73 @@
+-- The program's reply to a case (paper 01, "Sheet of sums"): the answer, its place and, on answer 0, the target cell after the store. "A refusal or fault prints the first two lines only." Each line
+-- ends with byte 10. proofs/respond proves that no reply is longer than 64 bytes.
+use mathlib.Core.Path.{_≡_}
+use mathlib.Core.Bool.{cond}
+use mathlib.Core.List.{List, [], _∷_, _++_}
+use Prim.Native.Nat.{ℕ, _≤_}
+use lib.Dec.{ltb}
+use lib.ListN.{length, take}
+use lib.Seq.{sets}
+use Rattle.words.specs.Words.{little}
+use Rattle.memory.specs.declared.Bank.{Bank}
+use Rattle.memory.specs.declared.names.Named.{Named}
+use Rattle.memory.specs.declared.names.Named.the-variants as Named
+use Rattle.memory.specs.Names.{targetRule}
+use Rattle.memory.specs.Cells.{bytesAt}
+use Rattle.operations.specs.declared.Answer.{Answer}
+use Rattle.operations.specs.declared.Answer.the-variants.{Done, Fault, Refused}
+use Rattle.operations.specs.declared.Report.{Report}
+use Rattle.operations.specs.Operations.{reportOf, Request, request, performed, performedMemory}
+use Rattle.program.specs.Lines.{Case, zeros, caseOf}
+use Rattle.program.specs.Printing.{decimalText, cellText, cellName}
+
+-- `answer=`
+abbrev pub answerKey : List ℕ
+answerKey = 97 ∷ 110 ∷ 115 ∷ 119 ∷ 101 ∷ 114 ∷ 61 ∷ []
+
+-- a line end and `place=`
+abbrev pub placeKey : List ℕ
+placeKey = 10 ∷ 112 ∷ 108 ∷ 97 ∷ 99 ∷ 101 ∷ 61 ∷ []
+
+-- the first two lines
+abbrev pub reportText : Report → List ℕ
+reportText r = answerKey ++ decimalText (r .answer) ++ placeKey ++ decimalText (r .place) ++ (10 ∷ [])
+
+-- a cell's name and what it holds
+abbrev pub cellLine : List ℕ → Bank → ℕ → List ℕ
+cellLine m b i = cellName b i ++ (61 ∷ []) ++ cellText b (little (bytesAt m b i)) ++ (10 ∷ [])
+
+abbrev pub targetLine : List ℕ → Named → List ℕ
+targetLine m (Named.Cell b i) = cellLine m b i
+targetLine m Named.Other = []
+
+-- the third line, in the memory after the store
+abbrev pub storedText : List ℕ → Named → Answer → List ℕ
+storedText m t (Done v n) = targetLine m t
+storedText m t (Fault f n) = []
+storedText m t (Refused a p) = []
+
+abbrev pub answerText : List ℕ → List ℕ → Answer → List ℕ
+answerText target m a = reportText (reportOf a) ++ storedText m (targetRule target) a
+
+-- what compile-and-run answers, and the memory that it leaves
+abbrev pub outcomeText : Case → Request → List ℕ
+outcomeText s q = answerText (s .target) (performedMemory (s .memory) q) (performed (s .memory) q)
+
+-- the code buffer has 16,384 zero bytes
+abbrev pub replyTo : Case → List ℕ
+replyTo s = outcomeText s (request (s .target) (s .text) (s .memory) (zeros 16384))
+
+unfoldable pub reply : List ℕ → List ℕ
+unfolding caseOf
+reply input = replyTo (caseOf input)
+
+-- a text goes to the front of a lent slice, if there is room for all of it
+abbrev pub handed : List ℕ → List ℕ → List ℕ
+handed out text = cond (ltb (length out) (length text)) out (sets out 0 text)
+
+abbrev pub handedCount : List ℕ → List ℕ → ℕ
+handedCount out text = cond (ltb (length out) (length text)) 0 (length text)
+
+-- for callers that take the first n bytes out of the slice: they are there
+abbrev pub Lies : ℕ → List ℕ → Type 0
+Lies n out = (n ≤ length out) × (n ≡ length (take n out))

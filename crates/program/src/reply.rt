@@ -1,0 +1,83 @@
+// The text of a reply, put into a slice that is long enough.
+ghost use mathlib.Core.Path.{_≡_};
+ghost use Prim.Native.Nat.{_+_, _≤_};
+ghost use lib.Dec.{T};
+ghost use lib.ListN.{length};
+ghost use Rattle.memory.specs.Layout.{hasCell};
+ghost use Rattle.memory.specs.Names.{targetRule};
+ghost use Rattle.program.specs.Steps.{Puts};
+ghost use Rattle.program.specs.Reply.{reportText, cellLine, targetLine, answerText, handed, handedCount, Lies};
+use crate::cells;
+use crate::printing;
+use memory::Bank;
+use memory::names::Named;
+use operations::Answer;
+use operations::Report;
+
+// The first two lines.
+fn put_report(out: &mut [u8], report: Report) -> usize
+    requires { ⌜ 45 ≤ length (now out) ⌝ }
+    ensures { λ r. ⌜ Puts (now (out .entry)) 0 (now (out .exit)) r (reportText report) ⌝ }
+    ensures { λ r. ⌜ r ≤ 45 ⌝ }
+{
+    let answer = report.answer as u64;
+    let place = report.place as u64;
+    let a = printing::put_all(out, 0, b"answer=");
+    let b = printing::put_decimal(out, a, answer);
+    let c = printing::put_all(out, b, b"\nplace=");
+    let d = printing::put_decimal(out, c, place);
+    printing::put_all(out, d, b"\n")
+}
+
+fn put_cell(out: &mut [u8], at: usize, memory: &[u8], bank: Bank, element: u32) -> usize
+    requires { ⌜ T (hasCell (now memory) bank element) ⌝ }
+    requires { ⌜ at + 17 ≤ length (now out) ⌝ }
+    ensures { λ r. ⌜ Puts (now (out .entry)) at (now (out .exit)) r (cellLine (now (memory .entry)) bank element) ⌝ }
+    ensures { λ r. ⌜ r ≤ at + 17 ⌝ }
+{
+    let n = cells::pattern_at(memory, bank, element);
+    let a = printing::put_name(out, at, bank, element);
+    let b = printing::put_all(out, a, b"=");
+    let c = printing::put_value(out, b, bank, n as u64);
+    printing::put_all(out, c, b"\n")
+}
+
+// The line of the cell that the target names.
+fn put_target(out: &mut [u8], at: usize, target: &[u8], memory: &[u8]) -> usize
+    requires { ⌜ length (now memory) ≡ 3204 ⌝ }
+    requires { ⌜ at + 17 ≤ length (now out) ⌝ }
+    ensures { λ r. ⌜ Puts (now (out .entry)) at (now (out .exit)) r (targetLine (now (memory .entry)) (targetRule (now (target .entry)))) ⌝ }
+    ensures { λ r. ⌜ r ≤ at + 17 ⌝ }
+{
+    match memory::names::target_of(target) {
+        Named::Cell(bank, element) => put_cell(out, at, memory, bank, element),
+        Named::Other => at,
+    }
+}
+
+// After answer 0 the cell is shown as it is after the store.
+pub fn put_reply(out: &mut [u8], answer: Answer, target: &[u8], memory: &[u8]) -> usize
+    requires { ⌜ length (now memory) ≡ 3204 ⌝ }
+    requires { ⌜ 64 ≤ length (now out) ⌝ }
+    ensures { λ r. ⌜ Puts (now (out .entry)) 0 (now (out .exit)) r (answerText (now (target .entry)) (now (memory .entry)) answer) ⌝ }
+    ensures { λ r. ⌜ r ≤ 64 ⌝ }
+{
+    let at = put_report(out, operations::reported(answer));
+    match answer {
+        Answer::Done(_, _) => put_target(out, at, target, memory),
+        Answer::Fault(_, _) => at,
+        Answer::Refused(_, _) => at,
+    }
+}
+
+// The bytes, if there is room for all of them.
+pub fn hand_over(bytes: &[u8], output: &mut [u8]) -> usize
+    ensures { λ r. ⌜ r ≡ handedCount (now (output .entry)) (now (bytes .entry)) ⌝ }
+    ensures { λ r. ⌜ now (output .exit) ≡ handed (now (output .entry)) (now (bytes .entry)) ⌝ }
+    ensures { λ r. ⌜ Lies r (now (output .exit)) ⌝ }
+{
+    if output.len() < bytes.len() {
+        return 0;
+    }
+    printing::put_all(output, 0, bytes)
+}
