@@ -4,13 +4,13 @@ ghost use Prim.Native.Nat.{_≤_};
 ghost use lib.ListN.{length};
 ghost use Rattle.memory.specs.Names.{namedRule};
 ghost use Rattle.tokens.specs.Bytes.{runLen};
-ghost use Rattle.tokens.specs.Symbols.{same};
 ghost use Rattle.program.specs.Lines.{except, lines, setCell, opened, afterLine, afterLines};
 ghost use Rattle.program.specs.Steps.{part, Within, held};
 use crate::cells;
 use crate::forms;
 use crate::forms::Form;
 use memory::names::Named;
+use tokens::identifiers;
 
 // The bytes of the input from one place to another.
 pub struct Span {
@@ -36,22 +36,6 @@ fn until(text: &[u8], b: u8) -> usize
         i += 1;
     }
     i
-}
-
-fn same_bytes(a: &[u8], b: &[u8]) -> bool
-    ensures { λ r. ⌜ r ≡ same (now (a .entry)) (now (b .entry)) ⌝ }
-{
-    if a.len() != b.len() {
-        return false;
-    }
-    let mut i = 0;
-    while i < a.len() {
-        if a[i] != b[i] {
-            return false;
-        }
-        i += 1;
-    }
-    true
 }
 
 // A line whose key is a cell's name and whose value has the bank's form sets the cell.
@@ -85,14 +69,14 @@ fn take_line(input: &[u8], line: Span, memory: &mut [u8], p: Places) -> Places
     }
     let key = &bytes[..k];
     let from = at + k + 1;
-    if same_bytes(key, b"target") {
+    if identifiers::same_bytes(key, b"target") {
         let text = p.text;
         return Places {
             target: Span { at: from, end },
             text,
         };
     }
-    if same_bytes(key, b"expr") {
+    if identifiers::same_bytes(key, b"expr") {
         let target = p.target;
         return Places {
             target,
