@@ -1,3 +1,7 @@
--- Laws for the proofs of the whole crate.
+-- What other crates may cite; below it, the laws that lead there.
+pub mod Laws
+mod Decimals
+mod Patterns
 mod Stores
 mod Names
+mod Tests

@@ -1,3 +1,3 @@
 -- Laws for the proofs of forms.
-mod Integers
+pub mod Integers
 mod Hexadecimals

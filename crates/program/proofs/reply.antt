@@ -1,4 +1,4 @@
 -- Laws for the proofs of reply.
-mod Lengths
+mod Cells
 mod Endings
 pub mod Whole

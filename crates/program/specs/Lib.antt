@@ -3,3 +3,4 @@ pub mod Lines
 pub mod Printing
 pub mod Steps
 pub mod Reply
+pub mod Laws

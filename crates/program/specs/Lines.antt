@@ -28,16 +28,19 @@ abbrev pub lines : List ℕ → List (List ℕ)
 lines [] = []
 lines (c ∷ cs) = cond (eqb c 10) ([] ∷ lines cs) (before c (lines cs))
 
+-- a byte that is not b
 abbrev pub except : ℕ → ℕ → Bool
 except b c = not (eqb c b)
 
--- "key=value": the key ends before the first `=`, and the value is all that follows it
+-- "key=value": the key ends before the first `=`, and the value is all that follows it. How long the key is; without `=` the whole line
 abbrev pub keyLength : List ℕ → ℕ
 keyLength l = runLen (except 61) l
 
+-- the key
 abbrev pub keyOf : List ℕ → List ℕ
 keyOf l = take (keyLength l) l
 
+-- the value, blanks at either end included
 abbrev pub valueOf : List ℕ → List ℕ
 valueOf l = drop (suc (keyLength l)) l
 
@@ -52,6 +55,7 @@ abbrev pub putForm : List ℕ → Bank → ℕ → Form → List ℕ
 putForm m b i (Pattern n) = written m b i (Encoded.Pattern n)
 putForm m b i Other = m
 
+-- a key that names a cell, of X too, and a value of the bank's form; "Lines of any other form are skipped"
 abbrev pub setCell : List ℕ → List ℕ → Named → List ℕ
 setCell m v (Named.Cell b i) = putForm m b i (patternOf b v)
 setCell m v Named.Other = m
@@ -77,6 +81,7 @@ unfoldable pub afterLine : Case → List ℕ → Case
 unfolding keyed
 afterLine s l = cond (ltb (keyLength l) (length l)) (keyed s (keyOf l) (valueOf l)) s
 
+-- line after line, in any order of keys
 unfoldable pub afterLines : Case → List (List ℕ) → Case
 unfolding afterLine
 afterLines s [] = s
@@ -86,6 +91,7 @@ afterLines s (l ∷ ls) = afterLines (afterLine s l) ls
 abbrev pub opened : List ℕ → Case
 opened m = record { memory = m; target = []; text = [] }
 
+-- n zero bytes
 unfoldable pub zeros : ℕ → List ℕ
 zeros n = replicate n 0
 

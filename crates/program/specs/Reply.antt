@@ -1,5 +1,5 @@
--- The program's reply to a case (paper 01, "Sheet of sums"): the answer, its place and, on answer 0, the target cell after the store. "A refusal or fault prints the first two lines only." Each line
--- ends with byte 10. proofs/respond proves that no reply is longer than 64 bytes.
+-- The program's reply to a case (paper 01, "Sheet of sums"): the answer, its place and, on answer 0, the target cell after the store. "A refusal or fault prints the first two
+-- lines only." Each line ends with byte 10. No reply is longer than 64 bytes: that is part of the contract of `respond`.
 use mathlib.Core.Path.{_≡_}
 use mathlib.Core.Bool.{cond}
 use mathlib.Core.List.{List, [], _∷_, _++_}
@@ -36,6 +36,7 @@ reportText r = answerKey ++ decimalText (r .answer) ++ placeKey ++ decimalText (
 abbrev pub cellLine : List ℕ → Bank → ℕ → List ℕ
 cellLine m b i = cellName b i ++ (61 ∷ []) ++ cellText b (little (bytesAt m b i)) ++ (10 ∷ [])
 
+-- the line of the cell that the target names
 abbrev pub targetLine : List ℕ → Named → List ℕ
 targetLine m (Named.Cell b i) = cellLine m b i
 targetLine m Named.Other = []
@@ -46,6 +47,7 @@ storedText m t (Done v n) = targetLine m t
 storedText m t (Fault f n) = []
 storedText m t (Refused a p) = []
 
+-- the lines of an answer, with the target's text and the memory that is left
 abbrev pub answerText : List ℕ → List ℕ → Answer → List ℕ
 answerText target m a = reportText (reportOf a) ++ storedText m (targetRule target) a
 
@@ -57,6 +59,7 @@ outcomeText s q = answerText (s .target) (performedMemory (s .memory) q) (perfor
 abbrev pub replyTo : Case → List ℕ
 replyTo s = outcomeText s (request (s .target) (s .text) (s .memory) (zeros 16384))
 
+-- the reply to an input, which is one case
 unfoldable pub reply : List ℕ → List ℕ
 unfolding caseOf
 reply input = replyTo (caseOf input)
@@ -65,6 +68,7 @@ reply input = replyTo (caseOf input)
 abbrev pub handed : List ℕ → List ℕ → List ℕ
 handed out text = cond (ltb (length out) (length text)) out (sets out 0 text)
 
+-- how many bytes are handed over
 abbrev pub handedCount : List ℕ → List ℕ → ℕ
 handedCount out text = cond (ltb (length out) (length text)) 0 (length text)
 

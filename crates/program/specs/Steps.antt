@@ -9,7 +9,6 @@ use lib.Seq.{sets}
 use Rattle.values.specs.declared.Value.{Value}
 use Rattle.values.specs.declared.Value.the-variants as Value
 use Rattle.values.specs.Patterns.{lowBits}
-use Rattle.memory.specs.declared.Bank.{Bank}
 use Rattle.tokens.specs.declared.Token.{Token}
 use Rattle.tokens.specs.declared.Token.the-variants as Token
 use Rattle.tokens.specs.declared.Scanned.{Scanned}
@@ -39,6 +38,7 @@ abbrev pub valueForm : Value → Form
 valueForm (Value.Int z) = Pattern (lowBits 32 z)
 valueForm (Value.Real x) = Other
 
+-- no other token is one
 abbrev pub tokenForm : Token → Form
 tokenForm (Token.Number v) = valueForm v
 tokenForm (Token.Cell b i) = Other
@@ -46,6 +46,7 @@ tokenForm (Token.Letter b) = Other
 tokenForm (Token.Name f) = Other
 tokenForm (Token.Symbol n) = Other
 
+-- bytes that are no token are none either
 abbrev pub scannedForm : Scanned → Form
 scannedForm (Scanned.Good t) = tokenForm t
 scannedForm (Scanned.Bad a) = Other

@@ -1,6 +1,6 @@
 // Text put into a slice. Each function answers the place behind what it put.
 ghost use mathlib.Core.Path.{_≡_};
-ghost use mathlib.Core.List.{[], _∷_};
+ghost use mathlib.Core.List.{_∷_};
 ghost use Prim.Native.Nat.{_+_, _*_, _^_, _≤_, _<_};
 ghost use lib.ListN.{length};
 ghost use Rattle.memory.specs.Layout.{layoutOf};
@@ -25,7 +25,11 @@ fn digit(d: u64) -> u8
     requires { ⌜ d < 16 ⌝ }
     ensures { λ r. ⌜ r ≡ numeralByte d ⌝ }
 {
-    if d < 10 { 48 + (d as u8) } else { 55 + (d as u8) }
+    if d < 10 {
+        48 + (d as u8)
+    } else {
+        55 + (d as u8)
+    }
 }
 
 // The k lowest digits of a number in a base, the last one first.
@@ -60,6 +64,7 @@ fn width_of(n: u64) -> usize
 pub fn put_decimal(out: &mut [u8], at: usize, n: u64) -> usize
     requires { ⌜ at + widthOf n ≤ length (now out) ⌝ }
     ensures { λ r. ⌜ Puts (now (out .entry)) at (now (out .exit)) r (decimalText n) ⌝ }
+    ensures { λ r. ⌜ r ≡ at + widthOf n ⌝ }
 {
     spell(out, at, width_of(n), 10, n)
 }
@@ -69,6 +74,7 @@ fn put_half(out: &mut [u8], at: usize, n: u64, half: u64) -> usize
     requires { ⌜ (n < 2 * half) × (half ≤ 2147483648) ⌝ }
     requires { ⌜ at + 11 ≤ length (now out) ⌝ }
     ensures { λ r. ⌜ Puts (now (out .entry)) at (now (out .exit)) r (halfText half n) ⌝ }
+    ensures { λ r. ⌜ r ≤ at + 11 ⌝ }
 {
     if n < half {
         return put_decimal(out, at, n);
@@ -88,6 +94,7 @@ fn put_hexadecimal(out: &mut [u8], at: usize, n: u64) -> usize
 fn put_bit(out: &mut [u8], at: usize, n: u64) -> usize
     requires { ⌜ at + 1 ≤ length (now out) ⌝ }
     ensures { λ r. ⌜ Puts (now (out .entry)) at (now (out .exit)) r (signedText (bitOf n)) ⌝ }
+    ensures { λ r. ⌜ r ≡ at + 1 ⌝ }
 {
     if n == 0 {
         return put_all(out, at, b"0");
@@ -100,6 +107,7 @@ pub fn put_value(out: &mut [u8], at: usize, bank: Bank, n: u64) -> usize
     requires { ⌜ n < 256 ^ layoutOf bank .width ⌝ }
     requires { ⌜ at + 11 ≤ length (now out) ⌝ }
     ensures { λ r. ⌜ Puts (now (out .entry)) at (now (out .exit)) r (cellText bank n) ⌝ }
+    ensures { λ r. ⌜ r ≤ at + 11 ⌝ }
 {
     match bank {
         Bank::X => put_bit(out, at, n),
@@ -128,6 +136,7 @@ pub fn put_name(out: &mut [u8], at: usize, bank: Bank, element: u32) -> usize
     requires { ⌜ element < 1000 ⌝ }
     requires { ⌜ at + 4 ≤ length (now out) ⌝ }
     ensures { λ r. ⌜ Puts (now (out .entry)) at (now (out .exit)) r (cellName bank element) ⌝ }
+    ensures { λ r. ⌜ r ≤ at + 4 ⌝ }
 {
     let first = [letter(bank)];
     let next = put_all(out, at, &first);

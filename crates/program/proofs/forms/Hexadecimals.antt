@@ -1,26 +1,24 @@
 -- Eight hexadecimal digits make a pattern of 32 bits, and are read as a formula's numeral. Assumes nothing.
 use mathlib.Core.Path.{_≡_, refl, sym, ap, subst, _∙_}
-use mathlib.Core.Logic.{_⊎_, inl, inr, ⊎-elim}
-use mathlib.Core.Bool.{Bool, true, false, _&&_, _||_, cond, and-true, and-false}
+use mathlib.Core.Bool.{Bool, true, false, cond, and-false}
 use mathlib.Core.List.{List, [], _∷_}
 use Prim.Native.Nat.{ℕ, suc, _+_, _-_, _*_, _^_, _≤_, _<_}
-use native.Mathlib.Nat.{lt-of-lt-of-le, mul-le-mul-right, mul-assoc, mul-one, one-mul, add-mul, pow-succ'}
+use native.Mathlib.Nat.{lt-of-lt-of-le, mul-le-mul-right, mul-assoc, mul-one, one-mul, pow-succ'}
 use native.Mathlib.Omega.{arith}
-use lib.Dec.{T, eqb, leb}
-use lib.IntN.{ℤ}
+use lib.Dec.{eqb, leb}
 use lib.ListN.{length, getD, drop}
-use borrow.Author.Tests.{eqb-true, leb-true, leb-false, le-leb, lt-leb, le-ltb, eq-eqb, ne-eqb}
+use borrow.Author.Tests.{leb-true, leb-false, lt-leb, le-ltb, eq-eqb, ne-eqb}
 use Rattle.values.specs.declared.Value.the-variants.{Int}
-use Rattle.values.specs.Patterns.{lowBits, signedOf}
+use Rattle.values.specs.Patterns.{signedOf}
 use Rattle.values.proofs.patterns.Readings.{low-signed}
 use Rattle.tokens.specs.declared.Token.the-variants.{Number}
 use Rattle.tokens.specs.declared.Scanned.the-variants.{Good, Bad}
 use Rattle.tokens.specs.Bytes.{all}
 use Rattle.tokens.specs.Numerals.{some, isHex, hexDigit, hexFrom, hexOf, numeralOf}
-use Rattle.program.specs.declared.forms.Form.{Form}
 use Rattle.program.specs.declared.forms.Form.the-variants.{Pattern, Other}
 use Rattle.program.specs.Forms.{hexForm}
 use Rattle.program.specs.Steps.{scannedForm}
+use Rattle.program.proofs.Tests.{both, no}
 
 -- ---- a digit is below 16
 beyond : (c : ℕ) → 102 < c → isHex c ≡ false
@@ -33,11 +31,7 @@ small c e = by (leb c 57) (leb c 70) (leb c 102) refl refl refl
     by true u w p q r = omega (arith, leb-true c 57 p)
     by false true w p q r = omega (arith, leb-true c 70 q)
     by false false true p q r = omega (arith, leb-true c 102 r)
-    by false false false p q r = absurd (subst T (sym (sym (beyond c (leb-false c 102 r)) ∙ e)) tt)
-
-both : (a b : Bool) → (a && b) ≡ true → (a ≡ true) × (b ≡ true)
-both true b e = (refl, e)
-both false b e = absurd (subst T (sym e) tt)
+    by false false false p q r = no (sym (beyond c (leb-false c 102 r)) ∙ e)
 
 -- ---- digits after those that make n
 bound : (n : ℕ) (cs : List ℕ) → all isHex cs ≡ true → hexFrom n cs < (n + 1) * 16 ^ length cs

@@ -1,8 +1,8 @@
 -- Integers in text: what the form of a number says of its digits, and how a sign is seen. Assumes nothing.
 use mathlib.Core.Path.{_≡_, refl, _∙_}
-use mathlib.Core.Bool.{Bool, true, false, _&&_, cond, and-true, and-false}
+use mathlib.Core.Bool.{Bool, true, false, _&&_, cond, and-false}
 use mathlib.Core.List.{List, [], _∷_}
-use Prim.Native.Nat.{ℕ, suc, _+_, _-_, _*_, _≤_, _<_}
+use Prim.Native.Nat.{ℕ, _+_, _-_, _*_, _≤_, _<_}
 use native.Mathlib.Numerals.{add-one}
 use native.Mathlib.Omega.{arith}
 use lib.Dec.{T, ltb, ltb→lt}
@@ -10,12 +10,11 @@ use lib.Ieee.Fits.{and-r}
 use lib.ListN.{length, getD, drop}
 use borrow.Author.Tests.{eq-eqb, ne-eqb}
 use Rattle.memory.specs.Names.{plain, allDigits, decimal, numberBelow}
-use Rattle.program.specs.declared.forms.Form.{Form}
 use Rattle.program.specs.declared.forms.Form.the-variants.{Pattern, Other}
 use Rattle.program.specs.Forms.{naturalForm, negativeForm, signedForm}
 
 -- ---- a choice between a pattern and none
-picked : (t : Bool) (m n : ℕ) → Pattern n ≡ cond t (Pattern m) Other → (t ≡ true) × (m ≡ n)
+pub picked : (t : Bool) (m n : ℕ) → Pattern n ≡ cond t (Pattern m) Other → (t ≡ true) × (m ≡ n)
 picked true m n e = (refl, cc)
 picked false m n e = absurd (let z : _≡_ {A = ℕ} 0 1 = cc in omega arith)
 

@@ -1,12 +1,12 @@
 -- The lines of a text: the first, and those behind it. A part of a line as a part of the text. Assumes nothing.
-use mathlib.Core.Path.{_≡_, refl, sym, ap, _∙_}
+use mathlib.Core.Path.{_≡_, refl, sym, ap}
 use mathlib.Core.Bool.{Bool, true, false, not, cond}
 use mathlib.Core.List.{List, [], _∷_}
-use Prim.Native.Nat.{ℕ, zero, suc, _+_, _-_, _≤_, _<_}
+use Prim.Native.Nat.{ℕ, zero, suc, _-_, _<_}
 use native.Mathlib.Omega.{arith}
 use lib.Dec.{eqb}
 use lib.ListN.{length, take, drop}
-use lib.Seq.{drop-drop, take-nil, drop-nil}
+use lib.Seq.{take-nil}
 use Rattle.tokens.specs.Bytes.{runLen}
 use Rattle.program.specs.Lines.{before, lines, except}
 

@@ -1,12 +1,11 @@
 -- A text put byte by byte: how it goes on, and how it ends. Assumes nothing.
-use mathlib.Core.Path.{_≡_, refl, sym, ap, _∙_}
-use mathlib.Core.List.{List, []}
+use mathlib.Core.Path.{_≡_}
+use mathlib.Core.List.{List}
 use Prim.Native.Nat.{ℕ, suc, _+_, _≤_, _<_}
 use native.Mathlib.Numerals.{add-one}
 use native.Mathlib.Omega.{arith}
 use lib.ListN.{length, getD, drop, set, length-drop, drop-of-length-le}
-use lib.Seq.{sets, drop-cons, length-sets}
-use Rattle.program.specs.Steps.{Puts}
+use lib.Seq.{drop-cons}
 use Rattle.program.proofs.Stores.{Left, first, done}
 
 module _ {goal m : List ℕ} (at : ℕ) (text : List ℕ) (k : ℕ) (l : Left goal m (at + k) (drop k text)) where

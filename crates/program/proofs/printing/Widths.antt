@@ -1,5 +1,5 @@
 -- How many digits a number has: one more than its tenth has, whatever the fuel, and no more than its bound has. Assumes nothing.
-use mathlib.Core.Path.{_≡_, refl, ap, _∙_}
+use mathlib.Core.Path.{_≡_, refl, ap}
 use mathlib.Core.Logic.{_⊎_, inl, inr, ⊎-elim}
 use mathlib.Core.Bool.{Bool, true, false, cond}
 use Prim.Native.Nat.{ℕ, zero, suc, _/_, _*_, _^_, _≤_, _<_}
@@ -30,7 +30,7 @@ pub more : (n : ℕ) → 10 ≤ n → widthOf n ≡ suc (widthOf (n / 10))
 more zero h = absurd (omega arith)
 more (suc n) h = rw (le-ltb (suc n) 10 h) (ap suc (enough n (suc n / 10) (suc n / 10) (omega arith) (omega arith)))
 
-few-or-many : (n : ℕ) → (n < 10) ⊎ (10 ≤ n)
+pub few-or-many : (n : ℕ) → (n < 10) ⊎ (10 ≤ n)
 few-or-many n = by (ltb n 10) refl
   where
     by : (t : Bool) → ltb n 10 ≡ t → (n < 10) ⊎ (10 ≤ n)

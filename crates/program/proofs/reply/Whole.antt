@@ -1,15 +1,15 @@
 -- What was put into the buffer is the reply to the case. Assumes nothing.
-use mathlib.Core.Path.{_≡_, sym, ap, _∙_}
+use mathlib.Core.Path.{_≡_, ap, _∙_}
 use mathlib.Core.List.{List}
-use Prim.Native.Nat.{ℕ, _+_, _≤_}
+use Prim.Native.Nat.{ℕ, _≤_}
 use native.Mathlib.Nat.{zero-add}
 use native.Mathlib.Omega.{arith}
-use lib.ListN.{length, take, length-take}
+use lib.ListN.{length, take}
 use Rattle.memory.proofs.Runs.{run-written}
 use Rattle.operations.specs.declared.Answer.{Answer}
 use Rattle.operations.specs.Operations.{request, performed, performedMemory}
 use Rattle.program.specs.declared.lines.Places.{Places}
-use Rattle.program.specs.Lines.{Case, lines, opened, afterLines, zeros, caseOf}
+use Rattle.program.specs.Lines.{lines, opened, afterLines, zeros, caseOf}
 use Rattle.program.specs.Steps.{part, held, Puts}
 use Rattle.program.specs.Reply.{answerText, replyTo, reply}
 

@@ -72,12 +72,20 @@ same-length c = search needs
 
 returns : tie.Need-returns
 returns c =
-    let e : take (c .before .before .before .before .before .before .put-reply .result) (c .before .before .before .before .before .before .put-reply .last .0) ≡ reply (c .before .before .before .before .before .before .before .before .before .before .before .before .before .before .before .before .before .before .before .before .before .before .before .args .input .now) =
-        front (c .before .before .before .before .before .before .put-reply .ensures .0) (c .before .before .before .before .before .before .put-reply .ensures .1)
-        ∙ text (c .before .before .before .before .before .before .before .before .before .before .before .before .before .before .before .before .before .before .before .before .before .before .before .args .input .now) (c .before .before .before .before .before .before .before .before .before .before .before .before .before .before .before .before .before .read .result) (c .before .before .before .before .before .before .before .before .before .before .before .before .before .before .before .before .before .read .last .1 .0) (c .before .before .before .before .before .before .before .before .before .before .before .before .before .before .before .before .before .before .before .before .blank-image .ensures .1) (c .before .before .before .before .before .before .before .before .before .before .before .before .before .before .before .before .before .before .before .blank-code .ensures .1) (c .before .before .before .before .before .before .before .before .before .before .before .before .before .before .before .before .before .read .ensures .1) (c .before .before .before .before .before .before .before .before .before .before .before .compile-and-run .ensures .0) (c .before .before .before .before .before .before .before .before .before .before .before .compile-and-run .ensures .1 .0) in
-    let short : length (take (c .before .before .before .before .before .before .put-reply .result) (c .before .before .before .before .before .before .put-reply .last .0)) ≤ 64 = rw length-take (omega (arith, c .before .before .before .before .before .before .put-reply .ensures .1)) in
-    (c .before .before .hand-over .ensures .0 ∙ ap (handedCount (c .before .before .before .before .before .before .before .before .before .before .before .before .before .before .before .before .before .before .before .before .before .before .before .args .output .now)) e,
-    (c .before .before .hand-over .ensures .1 .0 ∙ ap (handed (c .before .before .before .before .before .before .before .before .before .before .before .before .before .before .before .before .before .before .before .before .before .before .before .args .output .now)) e, (rw e at short, c .before .before .hand-over .ensures .1 .1)))
+    let a = c .before .before .before .before .before .before .before .before .before .before .before .before .before .before .before .before .before .before .before .before .before .before .before .args in
+    let image = c .before .before .before .before .before .before .before .before .before .before .before .before .before .before .before .before .before .before .before .before .blank-image .ensures in
+    let code = c .before .before .before .before .before .before .before .before .before .before .before .before .before .before .before .before .before .before .before .blank-code .ensures in
+    let got = c .before .before .before .before .before .before .before .before .before .before .before .before .before .before .before .before .before .read in
+    let ran = c .before .before .before .before .before .before .before .before .before .before .before .compile-and-run in
+    let put = c .before .before .before .before .before .before .put-reply in
+    let out = c .before .before .hand-over in
+    let e : take (put .result) (put .last .0) ≡ reply (a .input .now) =
+    front (put .ensures .0) (put .ensures .1)
+    ∙ text (a .input .now) (got .result) (got .last .1 .0) (image .1) (code .1) (got .ensures .1) (ran .ensures .0) (ran .ensures .1 .0) in
+    let short : length (take (put .result) (put .last .0)) ≤ 64 = rw length-take (omega (arith, put .ensures .1)) in
+    let count = out .ensures .0 ∙ ap (handedCount (a .output .now)) e in
+    let bytes = out .ensures .1 .0 ∙ ap (handed (a .output .now)) e in
+    (count, (bytes, (rw e at short, out .ensures .1 .1)))
 
 pub respond-spec : {M : Type 1} → statement M
 respond-spec =

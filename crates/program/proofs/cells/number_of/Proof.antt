@@ -1,5 +1,5 @@
 -- `cells::number_of` meets its contract. The loop's invariant: n is the number of the bytes from k on. The measure is k.
-use mathlib.Core.Path.{_≡_, _∙_}
+use mathlib.Core.Path.{_≡_}
 use Prim.Native.Nat.{_-_, _≤_, _<_}
 use native.Mathlib.Omega.{arith}
 use lib.ListN.{length, drop}

@@ -2,7 +2,7 @@
 use mathlib.Core.Path.{ap, _∙_}
 use Prim.Native.Nat.{_+_, _≤_}
 use native.Mathlib.Omega.{arith}
-use lib.ListN.{length, take, drop}
+use lib.ListN.{length}
 use borrow.Author.Needs.{needs}
 use Rattle.words.specs.Words.{little}
 use Rattle.memory.proofs.Places.{has-element, cell-within}
@@ -35,11 +35,14 @@ part-number-of-end : tie.Need-part-number-of-end
 part-number-of-end c = omega (arith, within (c .before))
 
 number-of-requires : tie.Need-number-of-requires
-number-of-requires c κs = part-length (c .before .before .before .before .before .args .memory .now) (c .before .before .before .before .before .args .bank) (c .before .before .before .place-of .result) (c .before .before .layout-of .ensures)
+number-of-requires c κs =
+    let a = c .before .before .before .before .before .args in
+    part-length (a .memory .now) (a .bank) (c .before .before .before .place-of .result) (c .before .before .layout-of .ensures)
 
 returns : tie.Need-returns
 returns c =
-    c .number-of .ensures ∙ ap little (part-is (c .before .before .before .before .before .before .args .memory .now) (c .before .before .before .before .before .before .args .bank) (c .before .before .before .before .before .before .args .element) (c .before .before .before .before .place-of .ensures) (c .before .before .before .layout-of .ensures))
+    let a = c .before .before .before .before .before .before .args in
+    c .number-of .ensures ∙ ap little (part-is (a .memory .now) (a .bank) (a .element) (c .before .before .before .before .place-of .ensures) (c .before .before .before .layout-of .ensures))
 
 pub pattern-at-spec : {M : Type 1} → statement M
 pattern-at-spec =

@@ -1,5 +1,4 @@
 -- `cells::place_of` meets its contract: the bank's row gives the place, which lies in the image.
-use mathlib.Core.Path.{_≡_}
 use Prim.Native.Nat.{_+_, _*_, _≤_}
 use native.Mathlib.Omega.{arith}
 use borrow.Author.Needs.{needs}

@@ -29,9 +29,10 @@ scanned-form-requires c κs = search needs
 
 returns-4 : tie.Need-returns-4
 returns-4 c =
+    let s = c .before .before .before .before .before .before .before .before .args .text .now in
     c .scanned-form .ensures
     ∙ ap scannedForm (c .before .numeral .ensures)
-    ∙ pattern (c .before .before .before .before .before .before .before .before .args .text .now) (c .before .before .before .before .before .before .if1 .left) (c .before .before .before .before .if2 .left) (c .before .before .if3 .left)
+    ∙ pattern s (c .before .before .before .before .before .before .if1 .left) (c .before .before .before .before .if2 .left) (c .before .before .if3 .left)
 
 pub hexadecimal-spec : {M : Type 1} → statement M
 hexadecimal-spec =

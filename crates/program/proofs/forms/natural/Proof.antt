@@ -44,7 +44,8 @@ is-digit-requires c κs = search needs
 returns-3 : tie.Need-returns-3 Inv-loop μ-loop
 returns-3 c =
     let l = c .before .before .before .before .loop in
-    rw (stop _ _ _ (l .inv .2) (c .before .before .before .before .before .before .before .before .before .args .bound) (c .before .before .before .loop-test .taken) (sym (c .before .is-digit .ensures) ∙ not-true _ (c .if4 .taken)))
+    let bound = c .before .before .before .before .before .before .before .before .before .args .bound in
+    rw (stop _ _ _ (l .inv .2) bound (c .before .before .before .loop-test .taken) (sym (c .before .is-digit .ensures) ∙ not-true _ (c .if4 .taken)))
 
 -- ---- a digit was read
 module _ (c : tie.Else4 Inv-loop μ-loop) where
@@ -76,7 +77,9 @@ add-n : tie.Need-add-n Inv-loop μ-loop
 add-n c = omega (arith, range c .1)
 
 returns-4 : tie.Need-returns-4 Inv-loop μ-loop
-returns-4 c = rw (above _ _ _ (read (c .before)) (c .before .before .before .before .before .before .before .before .before .before .args .bound) (c .if5 .taken))
+returns-4 c =
+    let bound = c .before .before .before .before .before .before .before .before .before .before .args .bound in
+    rw (above _ _ _ (read (c .before)) bound (c .if5 .taken))
 
 add-i : tie.Need-add-i Inv-loop μ-loop
 add-i c = search needs

@@ -30,16 +30,19 @@ negative-requires c κs = search needs
 
 returns-2 : tie.Need-returns-2
 returns-2 c =
-    let s = c .before .before .before .before .before .before .args .text .now in
+    let a = c .before .before .before .before .before .before .args in
+    let s = a .text .now in
     c .negative .ensures
-    ∙ ap (negativeForm (c .before .before .before .before .before .before .args .half)) (take-all (length s - 1) (drop 1 s) (rw length-drop (omega arith)))
-    ∙ minus (c .before .before .before .before .before .before .args .half) s (omega arith) (c .before .before .if2 .taken)
+    ∙ ap (negativeForm (a .half)) (take-all (length s - 1) (drop 1 s) (rw length-drop (omega arith)))
+    ∙ minus (a .half) s (omega arith) (c .before .before .if2 .taken)
 
 natural-requires : tie.Need-natural-requires
 natural-requires c κs = search needs
 
 returns-3 : tie.Need-returns-3
-returns-3 c = c .natural .ensures ∙ plus (c .before .before .before .before .before .args .half) (c .before .before .before .before .before .args .text .now) (omega arith) (c .before .if2 .left)
+returns-3 c =
+    let a = c .before .before .before .before .before .args in
+    c .natural .ensures ∙ plus (a .half) (a .text .now) (omega arith) (c .before .if2 .left)
 
 pub signed-spec : {M : Type 1} → statement M
 signed-spec =

@@ -55,7 +55,8 @@ add-end c = omega (arith, most c)
 
 take-line-requires : tie.Need-take-line-requires Inv-loop μ-loop
 take-line-requires c κs =
-    (record { ordered = omega arith; ends = most (c .before) }, ((c .before .before .before .before .loop .inv .target, c .before .before .before .before .loop .inv .text), c .before .before .before .before .loop .inv .size))
+    let i = c .before .before .before .before .loop .inv in
+    (record { ordered = omega arith; ends = most (c .before) }, ((i .target, i .text), i .size))
 
 add-at : tie.Need-add-at Inv-loop μ-loop
 add-at c = omega (arith, most (c .before .before .before .before))
@@ -65,7 +66,9 @@ loop-less c = omega arith
 
 loop-again : tie.Need-loop-again Inv-loop μ-loop
 loop-again c =
-    next (c .before .before .before .before .before .before .before .loop .inv) (c .before .before .before .before .before .before .loop-test .taken) (run (c .before .before .before .before)) (omega (arith, c .before .before .before .before .before .before .before .loop .inv .size)) (c .before .before .take-line .ensures .0 .0) (c .before .before .take-line .ensures .0 .1) (c .before .before .take-line .ensures .1)
+    let i = c .before .before .before .before .before .before .before .loop .inv in
+    let kept = c .before .before .take-line .ensures in
+    next i (c .before .before .before .before .before .before .loop-test .taken) (run (c .before .before .before .before)) (omega (arith, i .size)) (kept .0 .0) (kept .0 .1) (kept .1)
 
 same-length : tie.Need-same-length Inv-loop μ-loop
 same-length c = c .before .loop .inv .size ∙ sym (c .before .before .before .before .pre)

@@ -1,5 +1,5 @@
 -- `lines::set_cell` meets its contract: the name, then the value's form, then the cell.
-use mathlib.Core.Path.{_≡_, sym, _∙_}
+use mathlib.Core.Path.{sym, _∙_}
 use borrow.Author.Needs.{needs}
 use Rattle.program.proofs.Names.{has-named}
 use Rattle.program.proofs.lines.Settings.{no-name, no-form, set}
@@ -16,7 +16,9 @@ enum-told : tie.Need-enum-told
 enum-told c = search needs
 
 returns : tie.Need-returns
-returns c = no-name (c .before .before .before .before .before .before .args .memory .now) (c .before .before .before .before .before .before .args .value .now) (sym (c .before .before .cell-named .ensures) ∙ c .enum-told .given .1)
+returns c =
+    let a = c .before .before .before .before .before .before .args in
+    no-name (a .memory .now) (a .value .now) (sym (c .before .before .cell-named .ensures) ∙ c .enum-told .given .1)
 
 pattern-of-requires : tie.Need-pattern-of-requires
 pattern-of-requires c κs = search needs
@@ -28,16 +30,26 @@ enum-told-2 : tie.Need-enum-told-2
 enum-told-2 c = search needs
 
 returns-2 : tie.Need-returns-2
-returns-2 c = no-form (c .before .before .before .before .before .before .before .before .before .before .args .memory .now) (c .before .before .before .before .before .before .before .before .before .before .args .value .now) (sym (c .before .before .before .before .before .before .cell-named .ensures) ∙ c .before .before .before .before .bank .given .1) (sym (c .enum-told2 .given .1) ∙ c .before .before .pattern-of .ensures)
+returns-2 c =
+    let a = c .before .before .before .before .before .before .before .before .before .before .args in
+    let name = sym (c .before .before .before .before .before .before .cell-named .ensures) ∙ c .before .before .before .before .bank .given .1 in
+    no-form (a .memory .now) (a .value .now) name (sym (c .enum-told2 .given .1) ∙ c .before .before .pattern-of .ensures)
 
 put-pattern-requires : tie.Need-put-pattern-requires
-put-pattern-requires c κs = has-named (c .before .before .before .before .before .before .before .before .before .before .before .before .args .memory .now) (c .before .before .before .before .before .before .before .before .before .before .before .before .args .key .now) (c .before .before .before .before .before .before .before .before .before .before .before .before .pre) (sym (c .before .before .before .before .before .before .before .before .cell-named .ensures) ∙ c .before .before .before .before .before .before .bank .given .1)
+put-pattern-requires c κs =
+    let a = c .before .before .before .before .before .before .before .before .before .before .before .before in
+    let name = sym (c .before .before .before .before .before .before .before .before .cell-named .ensures) ∙ c .before .before .before .before .before .before .bank .given .1 in
+    has-named (a .args .memory .now) (a .args .key .now) (a .pre) name
 
 same-length : tie.Need-same-length
 same-length c = search needs
 
 returns-3 : tie.Need-returns-3
-returns-3 c = set (c .before .before .before .before .before .before .before .before .before .before .before .before .before .before .before .args .memory .now) (c .before .before .before .before .before .before .before .before .before .before .before .before .before .before .before .args .value .now) (sym (c .before .before .before .before .before .before .before .before .before .before .before .cell-named .ensures) ∙ c .before .before .before .before .before .before .before .before .before .bank .given .1) (sym (c .before .before .before .before .before .n .given .1) ∙ c .before .before .before .before .before .before .before .pattern-of .ensures) (c .before .before .put-pattern .ensures)
+returns-3 c =
+    let a = c .before .before .before .before .before .before .before .before .before .before .before .before .before .before .before .args in
+    let name = sym (c .before .before .before .before .before .before .before .before .before .before .before .cell-named .ensures) ∙ c .before .before .before .before .before .before .before .before .before .bank .given .1 in
+    let form = sym (c .before .before .before .before .before .n .given .1) ∙ c .before .before .before .before .before .before .before .pattern-of .ensures in
+    set (a .memory .now) (a .value .now) name form (c .before .before .put-pattern .ensures)
 
 pub set-cell-spec : {M : Type 1} → statement M
 set-cell-spec =

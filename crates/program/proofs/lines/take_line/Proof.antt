@@ -1,12 +1,9 @@
 -- `lines::take_line` meets its contract: one law for each kind of line.
-use mathlib.Core.Path.{_≡_, sym, _∙_}
-use mathlib.Core.List.{List}
-use Prim.Native.Nat.{_-_, _<_}
-use native.Mathlib.Omega.{arith}
-use lib.ListN.{length}
+use mathlib.Core.Path.{sym, _∙_}
+use Prim.Native.Nat.{_-_}
 use borrow.Author.Needs.{needs}
-use Rattle.program.specs.Steps.{part, held, Within}
-use Rattle.program.proofs.lines.Effects.{skipped, target-line, expr-line, cell-line, value-part, value-within, part-long, key-long}
+use Rattle.program.specs.Steps.{part}
+use Rattle.program.proofs.lines.Effects.{skipped, target-line, expr-line, cell-line, key-long}
 use Rattle.program.proofs.lines.take_line.Statement.{statement}
 use Rattle.program.proofs.lines.take_line.Tie as tie
 
@@ -24,10 +21,13 @@ until-requires c κs = search needs
 
 returns : tie.Need-returns
 returns c =
-    (c .before .before .before .before .before .pre .1 .0, skipped (held (c .before .before .before .before .before .args .input .now) (c .before .before .before .before .before .args .p) (c .before .before .before .before .before .args .memory .now)) (part (c .before .before .before .before .before .args .input .now) (c .before .before .before .before .before .args .line)) (c .before .until .ensures .0) (omega (arith, part-long (c .before .before .before .before .before .args .input .now) (c .before .before .before .before .before .args .line) (c .before .before .before .before .before .pre .0), c .if1 .taken)))
+    let a = c .before .before .before .before .before in
+    skipped (a .args .input .now) (a .args .line) (a .args .p) (a .args .memory .now) (a .pre) (c .before .until .ensures) (c .if1 .taken)
 
 slice-aggregate-key : tie.Need-slice-aggregate-key
-slice-aggregate-key c = key-long (part (c .before .before .before .before .before .before .args .input .now) (c .before .before .before .before .before .before .args .line)) (c .before .before .until .result) (c .before .before .until .ensures .1)
+slice-aggregate-key c =
+    let a = c .before .before .before .before .before .before in
+    key-long (part (a .args .input .now) (a .args .line)) (c .before .before .until .result) (c .before .before .until .ensures .1)
 
 add-from : tie.Need-add-from
 add-from c = search needs
@@ -43,9 +43,9 @@ same-bytes-requires c κs = search needs
 
 returns-2 : tie.Need-returns-2
 returns-2 c =
-    let long = part-long (c .before .before .before .before .before .before .before .before .before .before .args .input .now) (c .before .before .before .before .before .before .before .before .before .before .args .line) (c .before .before .before .before .before .before .before .before .before .before .pre .0) in
-    let short : c .before .before .before .before .before .before .until .result < c .before .before .before .before .before .before .before .before .before .before .args .line .end - c .before .before .before .before .before .before .before .before .before .before .args .line .at = omega (arith, c .before .before .before .before .before .before .until .ensures .1, c .before .before .before .before .before .if1 .left) in
-    ((value-within (length (c .before .before .before .before .before .before .before .before .before .before .args .input .now)) (c .before .before .before .before .before .before .before .before .before .before .args .line) (c .before .before .before .before .before .before .until .result) (c .before .before .before .before .before .before .before .before .before .before .pre .0) short, c .before .before .before .before .before .before .before .before .before .before .pre .1 .0 .1), target-line (held (c .before .before .before .before .before .before .before .before .before .before .args .input .now) (c .before .before .before .before .before .before .before .before .before .before .args .p) (c .before .before .before .before .before .before .before .before .before .before .args .memory .now)) (part (c .before .before .before .before .before .before .before .before .before .before .args .input .now) (c .before .before .before .before .before .before .before .before .before .before .args .line)) (c .before .before .before .before .before .before .until .ensures .0) (omega arith) (value-part (c .before .before .before .before .before .before .before .before .before .before .args .input .now) (c .before .before .before .before .before .before .before .before .before .before .args .line) (c .before .before .before .before .before .before .until .result)) (sym (c .before .if2 .taken) ∙ c .before .before .same-bytes .ensures))
+    let a = c .before .before .before .before .before .before .before .before .before .before in
+    let key = c .before .before .before .before .before .before .until .ensures in
+    target-line (a .args .input .now) (a .args .line) (a .args .p) (a .args .memory .now) (a .pre) key (c .before .before .before .before .before .if1 .left) (sym (c .before .if2 .taken) ∙ c .before .before .same-bytes .ensures)
 
 slice-aggregate-same-bytes-2 : tie.Need-slice-aggregate-same-bytes-2
 slice-aggregate-same-bytes-2 c = search needs
@@ -55,9 +55,10 @@ same-bytes-requires-2 c κs = search needs
 
 returns-3 : tie.Need-returns-3
 returns-3 c =
-    let long = part-long (c .before .before .before .before .before .before .before .before .before .before .before .before .before .args .input .now) (c .before .before .before .before .before .before .before .before .before .before .before .before .before .args .line) (c .before .before .before .before .before .before .before .before .before .before .before .before .before .pre .0) in
-    let short : c .before .before .before .before .before .before .before .before .before .until .result < c .before .before .before .before .before .before .before .before .before .before .before .before .before .args .line .end - c .before .before .before .before .before .before .before .before .before .before .before .before .before .args .line .at = omega (arith, c .before .before .before .before .before .before .before .before .before .until .ensures .1, c .before .before .before .before .before .before .before .before .if1 .left) in
-    ((c .before .before .before .before .before .before .before .before .before .before .before .before .before .pre .1 .0 .0, value-within (length (c .before .before .before .before .before .before .before .before .before .before .before .before .before .args .input .now)) (c .before .before .before .before .before .before .before .before .before .before .before .before .before .args .line) (c .before .before .before .before .before .before .before .before .before .until .result) (c .before .before .before .before .before .before .before .before .before .before .before .before .before .pre .0) short), expr-line (held (c .before .before .before .before .before .before .before .before .before .before .before .before .before .args .input .now) (c .before .before .before .before .before .before .before .before .before .before .before .before .before .args .p) (c .before .before .before .before .before .before .before .before .before .before .before .before .before .args .memory .now)) (part (c .before .before .before .before .before .before .before .before .before .before .before .before .before .args .input .now) (c .before .before .before .before .before .before .before .before .before .before .before .before .before .args .line)) (c .before .before .before .before .before .before .before .before .before .until .ensures .0) (omega arith) (value-part (c .before .before .before .before .before .before .before .before .before .before .before .before .before .args .input .now) (c .before .before .before .before .before .before .before .before .before .before .before .before .before .args .line) (c .before .before .before .before .before .before .before .before .before .until .result)) (sym (c .before .before .before .before .if2 .left) ∙ c .before .before .before .before .before .same-bytes .ensures) (sym (c .before .if3 .taken) ∙ c .before .before .same-bytes2 .ensures))
+    let a = c .before .before .before .before .before .before .before .before .before .before .before .before .before in
+    let key = c .before .before .before .before .before .before .before .before .before .until .ensures in
+    let no-target = sym (c .before .before .before .before .if2 .left) ∙ c .before .before .before .before .before .same-bytes .ensures in
+    expr-line (a .args .input .now) (a .args .line) (a .args .p) (a .args .memory .now) (a .pre) key (c .before .before .before .before .before .before .before .before .if1 .left) no-target (sym (c .before .if3 .taken) ∙ c .before .before .same-bytes2 .ensures)
 
 sub-set-cell : tie.Need-sub-set-cell
 sub-set-cell c = search needs
@@ -76,9 +77,11 @@ same-length c = search needs
 
 returns-4 : tie.Need-returns-4
 returns-4 c =
-    let long = part-long (c .before .before .before .before .before .before .before .before .before .before .before .before .before .before .before .before .before .args .input .now) (c .before .before .before .before .before .before .before .before .before .before .before .before .before .before .before .before .before .args .line) (c .before .before .before .before .before .before .before .before .before .before .before .before .before .before .before .before .before .pre .0) in
-    let short : c .before .before .before .before .before .before .before .before .before .before .before .before .before .until .result < c .before .before .before .before .before .before .before .before .before .before .before .before .before .before .before .before .before .args .line .end - c .before .before .before .before .before .before .before .before .before .before .before .before .before .before .before .before .before .args .line .at = omega (arith, c .before .before .before .before .before .before .before .before .before .before .before .before .before .until .ensures .1, c .before .before .before .before .before .before .before .before .before .before .before .before .if1 .left) in
-    (c .before .before .before .before .before .before .before .before .before .before .before .before .before .before .before .before .before .pre .1 .0, cell-line (held (c .before .before .before .before .before .before .before .before .before .before .before .before .before .before .before .before .before .args .input .now) (c .before .before .before .before .before .before .before .before .before .before .before .before .before .before .before .before .before .args .p) (c .before .before .before .before .before .before .before .before .before .before .before .before .before .before .before .before .before .args .memory .now)) (part (c .before .before .before .before .before .before .before .before .before .before .before .before .before .before .before .before .before .args .input .now) (c .before .before .before .before .before .before .before .before .before .before .before .before .before .before .before .before .before .args .line)) (c .before .before .before .before .before .before .before .before .before .before .before .before .before .until .ensures .0) (omega arith) (value-part (c .before .before .before .before .before .before .before .before .before .before .before .before .before .before .before .before .before .args .input .now) (c .before .before .before .before .before .before .before .before .before .before .before .before .before .before .before .before .before .args .line) (c .before .before .before .before .before .before .before .before .before .before .before .before .before .until .result)) (sym (c .before .before .before .before .before .before .before .before .if2 .left) ∙ c .before .before .before .before .before .before .before .before .before .same-bytes .ensures) (sym (c .before .before .before .before .before .if3 .left) ∙ c .before .before .before .before .before .before .same-bytes2 .ensures) (c .before .before .set-cell .ensures))
+    let a = c .before .before .before .before .before .before .before .before .before .before .before .before .before .before .before .before .before in
+    let key = c .before .before .before .before .before .before .before .before .before .before .before .before .before .until .ensures in
+    let no-target = sym (c .before .before .before .before .before .before .before .before .if2 .left) ∙ c .before .before .before .before .before .before .before .before .before .same-bytes .ensures in
+    let no-expr = sym (c .before .before .before .before .before .if3 .left) ∙ c .before .before .before .before .before .before .same-bytes2 .ensures in
+    cell-line (a .args .input .now) (a .args .line) (a .args .p) (a .args .memory .now) (a .pre) key (c .before .before .before .before .before .before .before .before .before .before .before .before .if1 .left) no-target no-expr (c .before .before .set-cell .ensures)
 
 pub take-line-spec : {M : Type 1} → statement M
 take-line-spec =

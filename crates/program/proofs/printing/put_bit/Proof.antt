@@ -14,7 +14,7 @@ same-length : tie.Need-same-length
 same-length c = search needs
 
 returns : tie.Need-returns
-returns c = rw (eq-eqb _ 0 (c .before .before .before .before .before .if1 .taken)) (c .before .before .put-all .ensures)
+returns c = (rw (eq-eqb _ 0 (c .before .before .before .before .before .if1 .taken)) (c .before .before .put-all .ensures), search needs)
 
 slice-aggregate-put-all-2 : tie.Need-slice-aggregate-put-all-2
 slice-aggregate-put-all-2 c = search needs
@@ -26,7 +26,7 @@ same-length-2 : tie.Need-same-length-2
 same-length-2 c = search needs
 
 returns-2 : tie.Need-returns-2
-returns-2 c = rw (ne-eqb _ 0 (c .before .before .before .before .before .if1 .left)) (c .before .before .put-all2 .ensures)
+returns-2 c = (rw (ne-eqb _ 0 (c .before .before .before .before .before .if1 .left)) (c .before .before .put-all2 .ensures), search needs)
 
 pub put-bit-spec : {M : Type 1} → statement M
 put-bit-spec =

@@ -1,4 +1,5 @@
 -- `printing::put_decimal` meets its contract: as many digits as the number has.
+use Rattle.program.proofs.printing.Digits.{length-digits}
 use mathlib.Core.Path.{ap}
 use Prim.Native.Nat.{ℕ}
 use native.Mathlib.Omega.{arith}
@@ -18,7 +19,11 @@ same-length : tie.Need-same-length
 same-length c = search needs
 
 returns : tie.Need-returns
-returns c = as-text (ap (λ (k : ℕ). digitsOf 10 k (c .before .before .before .before .before .before .args .n)) (c .before .before .before .width-of .ensures)) (c .before .before .spell .ensures)
+returns c =
+    let n = c .before .before .before .before .before .before .args .n in (
+      as-text (ap (λ (k : ℕ). digitsOf 10 k n) (c .before .before .before .width-of .ensures)) (c .before .before .spell .ensures),
+      omega (arith, c .before .before .spell .ensures .end, length-digits 10 (c .before .before .before .width-of .result) n, c .before .before .before .width-of .ensures),
+    )
 
 pub put-decimal-spec : {M : Type 1} → statement M
 put-decimal-spec = tie.close (tie.spec width-of-requires spell-requires same-length returns)

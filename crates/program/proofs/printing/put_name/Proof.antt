@@ -20,14 +20,18 @@ put-all-requires : tie.Need-put-all-requires
 put-all-requires c κs = search needs
 
 put-decimal-requires : tie.Need-put-decimal-requires
-put-decimal-requires c κs = omega (arith, at-most 2 (c .before .before .before .before .before .before .before .before .args .element) (c .before .before .before .before .before .before .before .before .pre .0), c .before .before .before .put-all .ensures .end)
+put-decimal-requires c κs =
+    let a = c .before .before .before .before .before .before .before .before in
+    omega (arith, at-most 2 (a .args .element) (a .pre .0))
 
 same-length : tie.Need-same-length
 same-length c = search needs
 
 returns : tie.Need-returns
 returns c =
-    as-text (ap (λ (l : ℕ). l ∷ decimalText (c .before .before .before .before .before .before .before .before .before .before .before .args .element)) (c .before .before .before .before .before .before .before .before .before .letter .ensures)) (then (c .before .before .before .before .before .before .put-all .ensures) (c .before .before .put-decimal .ensures))
+    let a = c .before .before .before .before .before .before .before .before .before .before .before in
+    let both = then (c .before .before .before .before .before .before .put-all .ensures) (c .before .before .put-decimal .ensures .0) in
+    (as-text (ap (λ (l : ℕ). l ∷ decimalText (a .args .element)) (c .before .before .before .before .before .before .before .before .before .letter .ensures)) both, omega (arith, at-most 2 (a .args .element) (a .pre .0)))
 
 pub put-name-spec : {M : Type 1} → statement M
 put-name-spec =

@@ -1,11 +1,9 @@
 -- `printing::put_value` meets its contract, bank by bank.
-use mathlib.Core.Path.{sym, ap, _∙_}
+use Rattle.program.proofs.printing.Digits.{length-digits}
 use Prim.Native.Nat.{_<_}
 use native.Mathlib.Omega.{arith}
 use lib.Dec.{lit<}
 use borrow.Author.Needs.{needs}
-use Rattle.memory.specs.declared.Bank.{Bank}
-use Rattle.program.specs.Printing.{cellText}
 use Rattle.program.proofs.Stores.{as-text}
 use Rattle.program.proofs.printing.Widths.{at-most}
 use Rattle.program.proofs.printing.Signs.{half-text}
@@ -58,41 +56,52 @@ same-length : tie.Need-same-length
 same-length c = search needs
 
 returns : tie.Need-returns
-returns c = rw (c .before .before .before .before .enum-told .given .1) (c .before .before .put-bit .ensures)
+returns c = (rw (c .before .before .before .before .enum-told .given .1) (c .before .before .put-bit .ensures .0), search needs)
 
 same-length-2 : tie.Need-same-length-2
 same-length-2 c = search needs
 
 returns-2 : tie.Need-returns-2
-returns-2 c = rw (c .before .before .before .before .enum-told2 .given .1) (c .before .before .put-bit2 .ensures)
+returns-2 c = (rw (c .before .before .before .before .enum-told2 .given .1) (c .before .before .put-bit2 .ensures .0), search needs)
 
 same-length-3 : tie.Need-same-length-3
 same-length-3 c = search needs
 
 returns-3 : tie.Need-returns-3
-returns-3 c = rw (c .before .before .before .before .enum-told3 .given .1) (c .before .before .put-decimal .ensures)
+returns-3 c =
+    let a = c .before .before .before .before .before .before .before in
+    let told = c .before .before .before .before .enum-told3 .given .1 in
+    let h : a .args .n < 65536 = rw told at (a .pre .0) in
+    (rw told (c .before .before .put-decimal .ensures .0), omega (arith, at-most 4 (a .args .n) (omega arith)))
 
 same-length-4 : tie.Need-same-length-4
 same-length-4 c = search needs
 
 returns-4 : tie.Need-returns-4
 returns-4 c =
-    let h : c .before .before .before .before .before .before .before .args .n < 65536 = rw (c .before .before .before .before .enum-told4 .given .1) at (c .before .before .before .before .before .before .before .pre .0) in
-    rw (c .before .before .before .before .enum-told4 .given .1) (as-text (half-text 16 (c .before .before .before .before .before .before .before .args .n) (lit< tt) h) (c .before .before .put-half .ensures))
+    let a = c .before .before .before .before .before .before .before in
+    let told = c .before .before .before .before .enum-told4 .given .1 in
+    let h : a .args .n < 65536 = rw told at (a .pre .0) in
+    (rw told (as-text (half-text 16 (a .args .n) (lit< tt) h) (c .before .before .put-half .ensures .0)), c .before .before .put-half .ensures .1)
 
 same-length-5 : tie.Need-same-length-5
 same-length-5 c = search needs
 
 returns-5 : tie.Need-returns-5
 returns-5 c =
-    let h : c .before .before .before .before .before .before .before .args .n < 4294967296 = rw (c .before .before .before .before .enum-told5 .given .1) at (c .before .before .before .before .before .before .before .pre .0) in
-    rw (c .before .before .before .before .enum-told5 .given .1) (as-text (half-text 32 (c .before .before .before .before .before .before .before .args .n) (lit< tt) h) (c .before .before .put-half2 .ensures))
+    let a = c .before .before .before .before .before .before .before in
+    let told = c .before .before .before .before .enum-told5 .given .1 in
+    let h : a .args .n < 4294967296 = rw told at (a .pre .0) in
+    (rw told (as-text (half-text 32 (a .args .n) (lit< tt) h) (c .before .before .put-half2 .ensures .0)), c .before .before .put-half2 .ensures .1)
 
 same-length-6 : tie.Need-same-length-6
 same-length-6 c = search needs
 
 returns-6 : tie.Need-returns-6
-returns-6 c = rw (c .before .before .before .before .enum-told6 .given .1) (c .before .before .put-hexadecimal .ensures)
+returns-6 c = (
+  rw (c .before .before .before .before .enum-told6 .given .1) (c .before .before .put-hexadecimal .ensures),
+  omega (arith, length-digits 16 8 (c .before .before .before .before .before .before .before .args .n)),
+)
 
 pub put-value-spec : {M : Type 1} → statement M
 put-value-spec =

@@ -1,6 +1,5 @@
 -- `printing::spell` meets its contract. The loop's invariant: the first i digits are left to put. The measure is how many they are.
 use mathlib.Core.Path.{_≡_, _∙_}
-use Prim.Native.Nat.{_+_, _≤_}
 use native.Mathlib.Nat.{mod-lt}
 use native.Mathlib.Omega.{arith}
 use lib.ListN.{length}

@@ -1,6 +1,6 @@
 -- `printing::width_of` meets its contract. The loop's invariant: the digits taken away and those left are all of them. The measure is the number that is left.
 use mathlib.Core.Path.{_≡_}
-use Prim.Native.Nat.{suc, _+_}
+use Prim.Native.Nat.{_+_}
 use native.Mathlib.Omega.{arith}
 use borrow.Author.Needs.{needs}
 use Rattle.program.specs.Printing.{widthOf}

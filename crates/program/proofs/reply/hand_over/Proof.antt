@@ -14,7 +14,9 @@ same-length : tie.Need-same-length
 same-length c = search needs
 
 returns-2 : tie.Need-returns-2
-returns-2 c = room (c .before .before .before .before .before .before .before .args .output .now) (c .before .before .before .before .before .before .before .args .bytes .now) (c .before .before .before .before .if1 .left) (c .before .before .put-all .ensures)
+returns-2 c =
+    let a = c .before .before .before .before .before .before .before .args in
+    room (a .output .now) (a .bytes .now) (c .before .before .before .before .if1 .left) (c .before .before .put-all .ensures)
 
 pub hand-over-spec : {M : Type 1} → statement M
 hand-over-spec = tie.close (tie.spec returns put-all-requires same-length returns-2)

@@ -1,16 +1,13 @@
 -- `reply::put_cell` meets its contract: four texts, one behind the other.
-use mathlib.Core.Path.{_≡_, ap}
-use Prim.Native.Nat.{_^_, _≤_, _<_}
+use mathlib.Core.Path.{ap}
+use Prim.Native.Nat.{_^_, _<_}
 use native.Mathlib.Omega.{arith}
-use lib.ListN.{length}
 use borrow.Author.Needs.{needs}
-use Rattle.words.specs.Words.{little}
 use Rattle.words.specs.Laws.{Bytes}
 use Rattle.memory.specs.Layout.{layoutOf}
-use Rattle.memory.specs.Cells.{bytesAt}
 use Rattle.program.specs.Printing.{cellText}
 use Rattle.program.proofs.Stores.{then, as-text}
-use Rattle.program.proofs.reply.Lengths.{element-small, name-long, pattern-small, text-long}
+use Rattle.program.proofs.reply.Cells.{element-small, pattern-small}
 use Rattle.program.proofs.reply.put_cell.Statement.{statement}
 use Rattle.program.proofs.reply.put_cell.Tie as tie
 
@@ -24,36 +21,38 @@ small c =
     rw (c .pattern-at .ensures) (pattern-small (c .before .before .before .args .memory .now) (c .before .before .before .args .bank) (c .before .before .before .args .element) (c .before .before .before .pre .0) bytes)
 
 put-name-requires : tie.Need-put-name-requires
-put-name-requires c κs = (element-small (c .before .before .before .before .args .memory .now) (c .before .before .before .before .args .bank) (c .before .before .before .before .args .element) (c .before .before .before .before .pre .0), omega (arith, c .before .before .before .before .pre .1))
+put-name-requires c κs =
+    let a = c .before .before .before .before in
+    (element-small (a .args .memory .now) (a .args .bank) (a .args .element) (a .pre .0), omega arith)
 
 slice-aggregate-put-all : tie.Need-slice-aggregate-put-all
 slice-aggregate-put-all c = search needs
 
 put-all-requires : tie.Need-put-all-requires
-put-all-requires c κs =
-    omega (arith, c .before .before .before .before .before .before .before .before .before .pre .1, c .before .before .before .before .put-name .ensures .end, name-long (c .before .before .before .before .before .before .before .before .before .args .memory .now) (c .before .before .before .before .before .before .before .before .before .args .bank) (c .before .before .before .before .before .before .before .before .before .args .element) (c .before .before .before .before .before .before .before .before .before .pre .0))
+put-all-requires c κs = omega arith
 
 cast-put-value : tie.Need-cast-put-value
 cast-put-value c = search needs
 
 put-value-requires : tie.Need-put-value-requires
-put-value-requires c κs =
-    (small (c .before .before .before .before .before .before .before .before .before .before), omega (arith, c .before .before .before .before .before .before .before .before .before .before .before .before .before .pre .1, c .before .before .before .before .before .before .before .before .put-name .ensures .end, name-long (c .before .before .before .before .before .before .before .before .before .before .before .before .before .args .memory .now) (c .before .before .before .before .before .before .before .before .before .before .before .before .before .args .bank) (c .before .before .before .before .before .before .before .before .before .before .before .before .before .args .element) (c .before .before .before .before .before .before .before .before .before .before .before .before .before .pre .0), c .before .before .before .put-all .ensures .end))
+put-value-requires c κs = (small (c .before .before .before .before .before .before .before .before .before .before), omega arith)
 
 slice-aggregate-put-all-2 : tie.Need-slice-aggregate-put-all-2
 slice-aggregate-put-all-2 c = search needs
 
 put-all-requires-2 : tie.Need-put-all-requires-2
-put-all-requires-2 c κs =
-    omega (arith, c .before .before .before .before .before .before .before .before .before .before .before .before .before .before .before .before .before .before .pre .1, c .before .before .before .before .before .before .before .before .before .before .before .before .before .put-name .ensures .end, name-long (c .before .before .before .before .before .before .before .before .before .before .before .before .before .before .before .before .before .before .args .memory .now) (c .before .before .before .before .before .before .before .before .before .before .before .before .before .before .before .before .before .before .args .bank) (c .before .before .before .before .before .before .before .before .before .before .before .before .before .before .before .before .before .before .args .element) (c .before .before .before .before .before .before .before .before .before .before .before .before .before .before .before .before .before .before .pre .0), c .before .before .before .before .before .before .before .before .put-all .ensures .end, c .before .before .before .before .put-value .ensures .end, text-long (c .before .before .before .before .before .before .before .before .before .before .before .before .before .before .before .before .before .before .args .bank) (c .before .before .before .before .before .before .before .before .before .before .before .before .before .before .before .pattern-at .result) (small (c .before .before .before .before .before .before .before .before .before .before .before .before .before .before .before)))
+put-all-requires-2 c κs = omega arith
 
 same-length : tie.Need-same-length
 same-length c = search needs
 
 returns : tie.Need-returns
 returns c =
-    (then (then (then (c .before .before .before .before .before .before .before .before .before .before .before .before .before .before .before .before .put-name .ensures) (c .before .before .before .before .before .before .before .before .before .before .before .put-all .ensures)) (as-text (ap (cellText (c .before .before .before .before .before .before .before .before .before .before .before .before .before .before .before .before .before .before .before .before .before .args .bank)) (c .before .before .before .before .before .before .before .before .before .before .before .before .before .before .before .before .before .before .pattern-at .ensures)) (c .before .before .before .before .before .before .before .put-value .ensures))) (c .before .before .put-all2 .ensures),
-    omega (arith, c .before .before .before .before .before .before .before .before .before .before .before .before .before .before .before .before .put-name .ensures .end, name-long (c .before .before .before .before .before .before .before .before .before .before .before .before .before .before .before .before .before .before .before .before .before .args .memory .now) (c .before .before .before .before .before .before .before .before .before .before .before .before .before .before .before .before .before .before .before .before .before .args .bank) (c .before .before .before .before .before .before .before .before .before .before .before .before .before .before .before .before .before .before .before .before .before .args .element) (c .before .before .before .before .before .before .before .before .before .before .before .before .before .before .before .before .before .before .before .before .before .pre .0), c .before .before .before .before .before .before .before .before .before .before .before .put-all .ensures .end, c .before .before .before .before .before .before .before .put-value .ensures .end, text-long (c .before .before .before .before .before .before .before .before .before .before .before .before .before .before .before .before .before .before .before .before .before .args .bank) (c .before .before .before .before .before .before .before .before .before .before .before .before .before .before .before .before .before .before .pattern-at .result) (small (c .before .before .before .before .before .before .before .before .before .before .before .before .before .before .before .before .before .before)), c .before .before .put-all2 .ensures .end))
+    let name = c .before .before .before .before .before .before .before .before .before .before .before .before .before .before .before .before .put-name .ensures .0 in
+    let equals = c .before .before .before .before .before .before .before .before .before .before .before .put-all .ensures in
+    let pattern = c .before .before .before .before .before .before .before .before .before .before .before .before .before .before .before .before .before .before .pattern-at .ensures in
+    let value = as-text (ap (cellText (c .before .before .before .before .before .before .before .before .before .before .before .before .before .before .before .before .before .before .before .before .before .args .bank)) pattern) (c .before .before .before .before .before .before .before .put-value .ensures .0) in
+    (then (then (then name equals) value) (c .before .before .put-all2 .ensures), omega arith)
 
 pub put-cell-spec : {M : Type 1} → statement M
 put-cell-spec =

@@ -31,21 +31,27 @@ same-length c = search needs
 
 returns : tie.Need-returns
 returns c =
-    (then (as-text (ap reportText (c .before .before .before .before .before .before .before .before .before .reported .ensures)) (c .before .before .before .before .before .before .before .before .put-report .ensures .0)) (rw (c .before .before .before .before .enum-told .given .1) (c .before .before .put-target .ensures .0)), omega (arith, c .before .before .before .before .before .before .before .before .put-report .ensures .1, c .before .before .put-target .ensures .1))
+    let first = as-text (ap reportText (c .before .before .before .before .before .before .before .before .before .reported .ensures)) (c .before .before .before .before .before .before .before .before .put-report .ensures .0) in
+    let second = c .before .before .put-target .ensures in
+    (then first (rw (c .before .before .before .before .enum-told .given .1) (second .0)), omega (arith, c .before .before .before .before .before .before .before .before .put-report .ensures .1, second .1))
 
 same-length-2 : tie.Need-same-length-2
 same-length-2 c = search needs
 
 returns-2 : tie.Need-returns-2
 returns-2 c =
-    (rw (c .enum-told2 .given .1) (alone (rw (c .enum-told2 .given .1) at (as-text (ap reportText (c .before .before .before .before .before .reported .ensures)) (c .before .before .before .before .put-report .ensures .0)))), omega (arith, c .before .before .before .before .put-report .ensures .1))
+    let first = as-text (ap reportText (c .before .before .before .before .before .reported .ensures)) (c .before .before .before .before .put-report .ensures .0) in
+    let told = c .enum-told2 .given .1 in
+    (rw told (alone (rw told at first)), omega (arith, c .before .before .before .before .put-report .ensures .1))
 
 same-length-3 : tie.Need-same-length-3
 same-length-3 c = search needs
 
 returns-3 : tie.Need-returns-3
 returns-3 c =
-    (rw (c .enum-told3 .given .1) (alone (rw (c .enum-told3 .given .1) at (as-text (ap reportText (c .before .before .before .before .before .reported .ensures)) (c .before .before .before .before .put-report .ensures .0)))), omega (arith, c .before .before .before .before .put-report .ensures .1))
+    let first = as-text (ap reportText (c .before .before .before .before .before .reported .ensures)) (c .before .before .before .before .put-report .ensures .0) in
+    let told = c .enum-told3 .given .1 in
+    (rw told (alone (rw told at first)), omega (arith, c .before .before .before .before .put-report .ensures .1))
 
 pub put-reply-spec : {M : Type 1} → statement M
 put-reply-spec =

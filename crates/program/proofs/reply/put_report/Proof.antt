@@ -3,7 +3,6 @@ use native.Mathlib.Omega.{arith}
 use borrow.Author.Needs.{needs}
 use Rattle.program.proofs.Stores.{then}
 use Rattle.program.proofs.printing.Widths.{at-most}
-use Rattle.program.proofs.reply.Lengths.{decimal-long}
 use Rattle.program.proofs.reply.put_report.Statement.{statement}
 use Rattle.program.proofs.reply.put_report.Tie as tie
 
@@ -17,32 +16,42 @@ put-all-requires : tie.Need-put-all-requires
 put-all-requires c κs = search needs
 
 put-decimal-requires : tie.Need-put-decimal-requires
-put-decimal-requires c κs = omega (arith, c .before .before .before .put-all .ensures .end, at-most 9 (c .before .before .before .before .before .before .before .before .args .report .answer) (omega arith))
+put-decimal-requires c κs =
+    let r = c .before .before .before .before .before .before .before .before .args .report in
+    omega (arith, at-most 9 (r .answer) (omega arith))
 
 slice-aggregate-put-all-2 : tie.Need-slice-aggregate-put-all-2
 slice-aggregate-put-all-2 c = search needs
 
 put-all-requires-2 : tie.Need-put-all-requires-2
-put-all-requires-2 c κs = omega (arith, c .before .before .before .before .before .before .before .before .put-all .ensures .end, c .before .before .before .before .put-decimal .ensures .end, decimal-long 9 (c .before .before .before .before .before .before .before .before .before .before .before .before .before .args .report .answer) (omega arith))
+put-all-requires-2 c κs =
+    let r = c .before .before .before .before .before .before .before .before .before .before .before .before .before .args .report in
+    omega (arith, at-most 9 (r .answer) (omega arith))
 
 put-decimal-requires-2 : tie.Need-put-decimal-requires-2
 put-decimal-requires-2 c κs =
-    omega (arith, c .before .before .before .before .before .before .before .before .before .before .before .before .put-all .ensures .end, c .before .before .before .before .before .before .before .before .put-decimal .ensures .end, decimal-long 9 (c .before .before .before .before .before .before .before .before .before .before .before .before .before .before .before .before .before .args .report .answer) (omega arith), c .before .before .before .put-all2 .ensures .end, at-most 19 (c .before .before .before .before .before .before .before .before .before .before .before .before .before .before .before .before .before .args .report .place) (omega arith))
+    let r = c .before .before .before .before .before .before .before .before .before .before .before .before .before .before .before .before .before .args .report in
+    omega (arith, at-most 9 (r .answer) (omega arith), at-most 19 (r .place) (omega arith))
 
 slice-aggregate-put-all-3 : tie.Need-slice-aggregate-put-all-3
 slice-aggregate-put-all-3 c = search needs
 
 put-all-requires-3 : tie.Need-put-all-requires-3
 put-all-requires-3 c κs =
-    omega (arith, c .before .before .before .before .before .before .before .before .before .before .before .before .before .before .before .before .before .put-all .ensures .end, c .before .before .before .before .before .before .before .before .before .before .before .before .before .put-decimal .ensures .end, decimal-long 9 (c .before .before .before .before .before .before .before .before .before .before .before .before .before .before .before .before .before .before .before .before .before .before .args .report .answer) (omega arith), c .before .before .before .before .before .before .before .before .put-all2 .ensures .end, c .before .before .before .before .put-decimal2 .ensures .end, decimal-long 19 (c .before .before .before .before .before .before .before .before .before .before .before .before .before .before .before .before .before .before .before .before .before .before .args .report .place) (omega arith))
+    let r = c .before .before .before .before .before .before .before .before .before .before .before .before .before .before .before .before .before .before .before .before .before .before .args .report in
+    omega (arith, at-most 9 (r .answer) (omega arith), at-most 19 (r .place) (omega arith))
 
 same-length : tie.Need-same-length
 same-length c = search needs
 
 returns : tie.Need-returns
 returns c =
-    (then (then (then (then (c .before .before .before .before .before .before .before .before .before .before .before .before .before .before .before .before .before .before .before .before .put-all .ensures) (c .before .before .before .before .before .before .before .before .before .before .before .before .before .before .before .before .put-decimal .ensures)) (c .before .before .before .before .before .before .before .before .before .before .before .put-all2 .ensures)) (c .before .before .before .before .before .before .before .put-decimal2 .ensures)) (c .before .before .put-all3 .ensures),
-    omega (arith, c .before .before .before .before .before .before .before .before .before .before .before .before .before .before .before .before .before .before .before .before .put-all .ensures .end, c .before .before .before .before .before .before .before .before .before .before .before .before .before .before .before .before .put-decimal .ensures .end, decimal-long 9 (c .before .before .before .before .before .before .before .before .before .before .before .before .before .before .before .before .before .before .before .before .before .before .before .before .before .args .report .answer) (omega arith), c .before .before .before .before .before .before .before .before .before .before .before .put-all2 .ensures .end, c .before .before .before .before .before .before .before .put-decimal2 .ensures .end, decimal-long 19 (c .before .before .before .before .before .before .before .before .before .before .before .before .before .before .before .before .before .before .before .before .before .before .before .before .before .args .report .place) (omega arith), c .before .before .put-all3 .ensures .end))
+    let r = c .before .before .before .before .before .before .before .before .before .before .before .before .before .before .before .before .before .before .before .before .before .before .before .before .before .args .report in
+    let first = c .before .before .before .before .before .before .before .before .before .before .before .before .before .before .before .before .before .before .before .before .put-all .ensures in
+    let number = then first (c .before .before .before .before .before .before .before .before .before .before .before .before .before .before .before .before .put-decimal .ensures .0) in
+    let second = then number (c .before .before .before .before .before .before .before .before .before .before .before .put-all2 .ensures) in
+    let place = then second (c .before .before .before .before .before .before .before .put-decimal2 .ensures .0) in
+    (then place (c .before .before .put-all3 .ensures), omega (arith, at-most 9 (r .answer) (omega arith), at-most 19 (r .place) (omega arith)))
 
 pub put-report-spec : {M : Type 1} → statement M
 put-report-spec =

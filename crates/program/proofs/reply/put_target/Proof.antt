@@ -1,5 +1,5 @@
 -- `reply::put_target` meets its contract: the target's cell, or nothing.
-use mathlib.Core.Path.{_≡_, sym, ap, _∙_}
+use mathlib.Core.Path.{sym, ap, _∙_}
 use native.Mathlib.Omega.{arith}
 use borrow.Author.Needs.{needs}
 use Rattle.program.specs.Reply.{targetLine}
@@ -16,7 +16,9 @@ enum-known-bank : tie.Need-enum-known-bank
 enum-known-bank c = search needs
 
 put-cell-requires : tie.Need-put-cell-requires
-put-cell-requires c κs = (has-target (c .before .before .before .before .before .before .before .before .args .memory .now) (c .before .before .before .before .before .before .before .before .args .target .now) (c .before .before .before .before .before .before .before .before .pre .0) (sym (c .before .before .before .before .target-of .ensures) ∙ c .before .before .bank .given .1), c .before .before .before .before .before .before .before .before .pre .1)
+put-cell-requires c κs =
+    let a = c .before .before .before .before .before .before .before .before in
+    (has-target (a .args .memory .now) (a .args .target .now) (a .pre .0) (sym (c .before .before .before .before .target-of .ensures) ∙ c .before .before .bank .given .1), a .pre .1)
 
 enum-told : tie.Need-enum-told
 enum-told c = search needs
@@ -26,13 +28,15 @@ same-length c = search needs
 
 returns : tie.Need-returns
 returns c =
+    let m = c .before .before .before .before .before .before .before .before .before .before .before .args .memory .now in
     let e = sym (c .before .before .before .before .before .bank .given .1) ∙ c .before .before .before .before .before .before .before .target-of .ensures in
-    (as-text (ap (targetLine (c .before .before .before .before .before .before .before .before .before .before .before .args .memory .now)) e) (c .before .before .put-cell .ensures .0), c .before .before .put-cell .ensures .1)
+    (as-text (ap (targetLine m) e) (c .before .before .put-cell .ensures .0), c .before .before .put-cell .ensures .1)
 
 returns-2 : tie.Need-returns-2
 returns-2 c =
+    let a = c .before .before .before .before .before .before .args in
     let e = sym (c .enum-told .given .1) ∙ c .before .before .target-of .ensures in
-    (as-text (ap (targetLine (c .before .before .before .before .before .before .args .memory .now)) e) (nothing (c .before .before .before .before .before .before .args .out .now) (c .before .before .before .before .before .before .args .at)), omega arith)
+    (as-text (ap (targetLine (a .memory .now)) e) (nothing (a .out .now) (a .at)), omega arith)
 
 pub put-target-spec : {M : Type 1} → statement M
 put-target-spec =
