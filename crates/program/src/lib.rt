@@ -11,6 +11,7 @@ mod lines;
 mod printing;
 mod reply;
 
+// The zero bytes come from functions: their contracts name the lists, which a literal would write out in every step of the proof below.
 fn blank_image() -> [u8; 3204]
     ensures { λ r. ⌜ (3204 ≡ length r) × (r ≡ zeros 3204) ⌝ }
 {
