@@ -1,0 +1,4 @@
+-- Laws for the proofs of remainder.
+mod Shifts
+mod Patterns
+mod Remainders
