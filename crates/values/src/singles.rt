@@ -97,7 +97,8 @@ pub fn absolute(x: f32) -> f32
     x
 }
 
-// 1.0 multiplied n times by x, rounded each time.
+// 1.0 multiplied n times by x, rounded each time. Settled once, at the end: a NaN stays a NaN, and an infinite product stays
+// infinite, since the x that made it is not zero.
 fn product(x: f32, n: u32) -> Outcome
     ensures { λ r. ⌜ r ≡ realProduct x n ⌝ }
 {
@@ -105,12 +106,9 @@ fn product(x: f32, n: u32) -> Outcome
     let mut k: u32 = 0;
     while k < n {
         p = p * x;
-        if !is_finite(p) {
-            return settled(p);
-        }
         k += 1;
     }
-    Outcome::Done(Value::Real(p))
+    settled(p)
 }
 
 pub fn power(x: f32, n: i32) -> Outcome
