@@ -3,3 +3,4 @@ pub mod Equality
 pub mod Counts
 pub mod Results
 pub mod Powers
+pub mod Units

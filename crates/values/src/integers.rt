@@ -1,5 +1,6 @@
 // 32-bit integers: the exact value, or a fault. Sums and products are worked out at 64 bits, which hold them.
 ghost use mathlib.Core.Path.{_≡_};
+ghost use Prim.Native.Nat.{_≤_};
 ghost use lib.IntN.{pos, negℤ, natAbs};
 ghost use Rattle.values.specs.Integers.{exactInt, intArith, compareInt, choiceInt, powZ, intPower};
 use crate::ChoiceOp;
@@ -82,8 +83,19 @@ pub fn absolute(a: i32) -> Outcome
     Outcome::Done(Value::Int(a))
 }
 
+// -1, 0 and 1 are their own third powers, so a power of one of them is 1, the base or its square.
+fn unit_power(a: i32, n: u32) -> i32
+    requires { ⌜ natAbs a ≤ 1 ⌝ }
+    ensures { λ r. ⌜ r ≡ powZ a n ⌝ }
+{
+    if n == 0 {
+        return 1;
+    }
+    if n % 2 == 0 { a * a } else { a }
+}
+
 // a to the power n, left early where it leaves 32 bits: it does not come back.
-fn product(a: i32, n: u32) -> Outcome
+fn multiplied(a: i32, n: u32) -> Outcome
     ensures { λ r. ⌜ r ≡ exactInt (powZ a n) ⌝ }
 {
     let base = a as i64;
@@ -100,6 +112,18 @@ fn product(a: i32, n: u32) -> Outcome
         k += 1;
     }
     Outcome::Done(Value::Int(p as i32))
+}
+
+// Only -1, 0 and 1 stay within 32 bits however many factors there are, so these need no loop.
+fn product(a: i32, n: u32) -> Outcome
+    ensures { λ r. ⌜ r ≡ exactInt (powZ a n) ⌝ }
+{
+    if -2 < a {
+        if a < 2 {
+            return Outcome::Done(Value::Int(unit_power(a, n)));
+        }
+    }
+    multiplied(a, n)
 }
 
 pub fn power(a: i32, n: i32) -> Outcome
