@@ -4,7 +4,7 @@ use mathlib.Core.Bool.{Bool, true, false, false≢true}
 use Prim.Native.Nat.{ℕ, zero, suc, _*_, _/_, _^_, _≤_, _<_}
 use native.Mathlib.Nat.{le-refl, le-trans, lt-of-lt-of-le, mul-comm, min-eq-left, le-of-suc-le-suc, le-div-iff-mul-le, div-lt-iff-lt-mul, div-le-of-le-mul, div-div-eq-div-mul, mul-div-mul-right}
 use native.Mathlib.Omega.{arith}
-use lib.Dec.{lit<}
+use lib.Dec.{T, lit<}
 use lib.IntN.{ℤ, pos, negsuc, negℤ}
 use lib.Pow.{pow-pos, pow-lt}
 use lib.Ieee.{Float, nan, inf, fin, up, down, lt, le, eq, toSigned}
@@ -55,6 +55,10 @@ cast (fin t m e) s a d D h v =
     let lo = passes-low 63 m e small t in
     let hi = passes-high 63 m e small t in
     record { above = lo; below = hi; is = cast-is t m e lo hi ∙ rw (v .0, same) }
+
+-- what the cast asks
+pub cast-asks : (y : Float) (z : ℤ) → Cast y z → T (le (limit true 63) y) × T (lt y (limit false 63))
+cast-asks y z C = (rw (C .above) tt, rw (C .below) tt)
 
 -- ---- outside
 out-of-range : (s : Bool) (q : ℕ) → 2 ^ 31 < q → inRange (signed s q) ≡ false

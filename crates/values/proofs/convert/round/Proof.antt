@@ -9,6 +9,7 @@ use mir.Val.{SFits}
 use mir.ValLaws.{toZ-ofZ}
 use borrow.Author.Needs.{needs}
 use Rattle.values.specs.Convert.{cut}
+use Rattle.values.proofs.convert.Cuts.{cast-asks}
 use Rattle.values.proofs.convert.Halves.{half}
 use Rattle.values.proofs.convert.Rounding.{Doubled, doubled, rounded-outside}
 use Rattle.values.proofs.convert.round.Statement.{statement}
@@ -21,7 +22,7 @@ twice c =
     doubled _ F (c .before .if1 .taken) (c .if2 .taken)
 
 truncating-f32-to-i64-requires : tie.Need-truncating-f32-to-i64-requires
-truncating-f32-to-i64-requires c κs = (rw (twice c .found .above) tt, rw (twice c .found .below) tt)
+truncating-f32-to-i64-requires c κs = cast-asks _ _ (twice c .found)
 
 halved-requires : tie.Need-halved-requires
 halved-requires c κs = search needs

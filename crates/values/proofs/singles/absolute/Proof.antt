@@ -1,4 +1,5 @@
 -- `values::singles::absolute` meets its contract: below zero, at zero, and otherwise.
+use mathlib.Core.Path.{_∙_}
 use borrow.Author.Needs.{needs}
 use lib.Dec.{T}
 use lib.Ieee.{binary32, fits}
@@ -14,7 +15,7 @@ returns-2 : tie.Need-returns-2
 returns-2 c =
     let x = c .before .before .args .x in
     let F : T (fits binary32 x) = search needs in
-    rw zero-pattern (abs-zero x F (rw zero-pattern at (c .if2 .taken)))
+    zero-pattern ∙ abs-zero x F (rw zero-pattern at (c .if2 .taken))
 
 returns-3 : tie.Need-returns-3
 returns-3 c =

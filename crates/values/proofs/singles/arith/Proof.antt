@@ -1,6 +1,6 @@
 -- `values::singles::arith` meets its contract: a zero divisor first, then one operation, settled.
 use mathlib.Core.Path.{_≡_, sym, ap, _∙_}
-use mathlib.Core.Bool.{false, _&&_, and-false}
+use mathlib.Core.Bool.{true, false, _&&_, and-false}
 use mathlib.Core.Logic.{⊎-elim}
 use borrow.Author.Needs.{needs}
 use lib.Ieee.{Float, eq}
@@ -17,13 +17,21 @@ operated o x y z r h p q = rw h (q ∙ ap settle p)
 
 no-zero : (c : tie.Joined1) → (divides (c .before .before .args .op) && eq (c .before .before .args .y) zeroReal) ≡ false
 no-zero c =
-    ⊎-elim (λ w. rw (rw zero-pattern at (w .1 .left), and-false)) (λ w. rw (sym (c .before .has-divisor .ensures) ∙ w .left)) (c .if1 .came)
+    let y = c .before .before .args .y in
+    ⊎-elim
+    (λ w.
+    let other : eq y zeroReal ≡ false = rw zero-pattern at (w .1 .left) in
+    rw (other, and-false))
+    (λ w. rw (sym (c .before .has-divisor .ensures) ∙ w .left))
+    (c .if1 .came)
 
 has-divisor-requires : tie.Need-has-divisor-requires
 has-divisor-requires c κs = search needs
 
 returns : tie.Need-returns
-returns c = rw (sym (c .before .before .has-divisor .ensures) ∙ c .before .if1 .taken, rw zero-pattern at (c .if2 .taken))
+returns c =
+    let none : eq (c .before .before .before .args .y) zeroReal ≡ true = rw zero-pattern at (c .if2 .taken) in
+    rw (sym (c .before .before .has-divisor .ensures) ∙ c .before .if1 .taken, none)
 
 operate-requires : tie.Need-operate-requires
 operate-requires c κs = search needs
