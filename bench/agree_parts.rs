@@ -3,7 +3,7 @@
 use crate::operations::CODE_BYTES;
 use crate::values::Outcome;
 use crate::walker::Tree;
-use crate::{agree, check, data, emit, machine, parts, reader};
+use crate::{agree, check, data, emit, machine, parts};
 
 // What the code buffers hold before: compiling must leave what lies beyond the code, and everything on a refusal.
 const BEFORE: u8 = 0xA5;
@@ -20,11 +20,10 @@ impl Buffers {
 /// The answer that both give for a text; the same code, and what it gives on the memory by code and by tree.
 pub fn same_text(text: &[u8], memory: &[u8], Buffers(ours, theirs): &mut Buffers) -> u32 {
     let shown = || String::from_utf8_lossy(text).into_owned();
-    let answer = parts::judge(text);
-    assert_eq!(answer, reader::judge(text), "judge: {}", shown());
-    let n = parts::compile(text, ours) as usize;
-    assert_eq!(n, emit::compile(text, theirs).unwrap_or(0), "compile: {}", shown());
-    assert!(ours == theirs && (n == 0) == (answer != 0), "compile: {}", shown());
+    let made = parts::compile(text, ours);
+    assert_eq!(made, emit::compile(text, theirs).map_err(|refusal| refusal.answer), "compile: {}", shown());
+    assert!(ours == theirs, "compile: {}", shown());
+    let n = made.unwrap_or(0);
     if n > 0 {
         assert_ne!(same_code(ours, n, memory), 15, "check: {}", shown());
         let tree = Tree::new(text).expect("an accepted text");
@@ -34,7 +33,7 @@ pub fn same_text(text: &[u8], memory: &[u8], Buffers(ours, theirs): &mut Buffers
     assert!(ours[8 * n..].iter().all(|b| *b == BEFORE), "compile: {}", shown());
     ours[..8 * n].fill(BEFORE);
     theirs[..8 * n].fill(BEFORE);
-    answer
+    made.err().unwrap_or(0)
 }
 
 // Reals by their patterns, so that the sign of zero counts.

@@ -1,23 +1,23 @@
-//! The proved reader, compiler, verifier and machine by themselves, from the static library bench_c.
+//! The proved compiler, verifier and machine by themselves, from the static library bench_c.
 
 #[link(name = "bench_c", kind = "static")]
 extern "C" {
-    fn bench_judge(text: *const u8, length: usize) -> u32;
     fn bench_compile(text: *const u8, length: usize, code: *mut u8, size: usize) -> usize;
     fn bench_check(code: *const u8, length: usize, n: usize) -> u32;
     fn bench_run(code: *const u8, length: usize, n: usize, memory: *const u8, size: usize) -> usize;
 }
 
-// None of the four asks anything of its caller but slices that can be read, and written where they are code to be made.
+// None of the three asks anything of its caller but slices that can be read, and written where they are code to be made.
 
-/// 0 for a formula, else the answer that refuses the text.
-pub fn judge(text: &[u8]) -> u32 {
-    unsafe { bench_judge(text.as_ptr(), text.len()) }
-}
-
-/// The number of instructions written, 0 on a refusal.
-pub fn compile(text: &[u8], code: &mut [u8]) -> usize {
-    unsafe { bench_compile(text.as_ptr(), text.len(), code.as_mut_ptr(), code.len()) }
+/// The number of instructions written, or the answer that refuses the text.
+pub fn compile(text: &[u8], code: &mut [u8]) -> Result<usize, u32> {
+    const REFUSED: usize = 65536;
+    let n = unsafe { bench_compile(text.as_ptr(), text.len(), code.as_mut_ptr(), code.len()) };
+    if n < REFUSED {
+        Ok(n)
+    } else {
+        Err((n - REFUSED) as u32)
+    }
 }
 
 /// 0 or 1 for code that ends with an integer or a real, 15 for code that is refused.

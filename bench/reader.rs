@@ -1,5 +1,5 @@
 //! A reader of formulas in plain Rust, written from the requirements and not from the proved code. One pass over the text with
-//! one token ahead. What it reads goes to a sink in the order of the instructions: to nothing, to code, or to a tree. After a
+//! one token ahead. What it reads goes to a sink in the order of the instructions: to code, or to a tree. After a
 //! refusal by the grammar it goes on to read tokens, since a bad one anywhere comes first.
 
 #![forbid(unsafe_code)]
@@ -10,29 +10,24 @@ use crate::values::Kind::{self, Int, Real};
 
 /// Takes the parts of a formula, operands before their operator. A gap is where a jump goes that skips what comes next.
 pub trait Sink {
-    fn number(&mut self, _kind: Kind, _bits: u32) {}
-    fn cell(&mut self, _bank: u8, _element: u8) {}
-    fn indexed(&mut self, _bank: u8) {}
-    fn unary(&mut self, _operator: u8) {}
-    fn binary(&mut self, _operator: u8) {}
-    /// After the left side of `&&` and `||`, and after the condition of IF.
+    fn number(&mut self, kind: Kind, bits: u32);
+    fn cell(&mut self, bank: u8, element: u8);
+    fn indexed(&mut self, bank: u8);
+    fn unary(&mut self, operator: u8);
+    fn binary(&mut self, operator: u8);
+    /// After the left side of `&&` and `||`, and after the condition of IF. A tree has no jumps.
     fn gap(&mut self) -> usize {
         0
     }
     /// After the right side: `&&` (false) or `||` (true), the truth of the left side that decides.
-    fn decide(&mut self, _decides: bool, _gap: usize) {}
+    fn decide(&mut self, decides: bool, gap: usize);
     /// After the first branch of IF; gives the next gap.
     fn branch(&mut self, _gap: usize) -> usize {
         0
     }
     /// After the second branch, with the kinds of both.
-    fn choose(&mut self, _gap: usize, _first: Kind, _second: Kind) {}
+    fn choose(&mut self, gap: usize, first: Kind, second: Kind);
 }
-
-/// Takes nothing.
-pub struct Nothing;
-
-impl Sink for Nothing {}
 
 struct Reader<'a, S> {
     ahead: Scanner<'a>,
@@ -267,10 +262,4 @@ pub fn read<S: Sink>(text: &[u8], sink: &mut S) -> Result<(), Refusal> {
         Err(refusal) if refusal.answer < 7 => Err(refusal),
         Err(refusal) => reader.rest().and(Err(refusal)),
     }
-}
-
-/// 0 for a formula, else the answer that refuses the text.
-#[inline(never)]
-pub fn judge(text: &[u8]) -> u32 {
-    read(text, &mut Nothing).map_or_else(|refusal| refusal.answer, |()| 0)
 }

@@ -5,7 +5,8 @@ use std::hint::black_box;
 use crate::agree_parts::{same_code, same_text, Buffers};
 use crate::machine::{instruction, Instruction};
 use crate::timing::{header, least, row};
-use crate::{check, data, machine, parts, reader};
+use crate::operations::CODE_BYTES;
+use crate::{check, data, emit, machine, parts};
 
 pub fn all(batches: usize) {
     header("nanoseconds, one part at a time");
@@ -40,10 +41,11 @@ fn texts(batches: usize) {
     ];
     for (what, text) in &texts {
         assert_eq!((text.len(), same_text(text, &data::memory(), &mut Buffers::new())), (1024, 0));
-        let ours = &mut || _ = black_box(parts::judge(black_box(text)));
-        let theirs = &mut || _ = black_box(reader::judge(black_box(text)));
+        let (mut code, mut other) = (vec![0; CODE_BYTES], vec![0; CODE_BYTES]);
+        let ours = &mut || _ = black_box(parts::compile(black_box(text), &mut code));
+        let theirs = &mut || _ = black_box(emit::compile(black_box(text), &mut other));
         let times = least(batches, 20, &mut [ours, theirs]);
-        row(&format!("judge, {what}"), "a byte", text.len() as f64, &times);
+        row(&format!("compile, {what}"), "a byte", text.len() as f64, &times);
     }
 }
 
@@ -122,19 +124,20 @@ fn small(batches: usize) {
         (same_text(formula, &memory, &mut Buffers::new()), same_code(&five, 5, &memory)),
         (0, 1)
     );
-    let ours = (
-        || _ = black_box(parts::judge(black_box(formula))),
+    let (mut code, mut other) = (vec![0; CODE_BYTES], vec![0; CODE_BYTES]);
+    let mut ours = (
+        || _ = black_box(parts::compile(black_box(formula), &mut code)),
         || _ = black_box(parts::check(black_box(&five), 5)),
         || _ = black_box(parts::run(black_box(&five), 5, &memory)),
     );
-    let theirs = (
-        || _ = black_box(reader::judge(black_box(formula))),
+    let mut theirs = (
+        || _ = black_box(emit::compile(black_box(formula), &mut other)),
         || _ = black_box(check::check(black_box(&five), 5)),
         || _ = black_box(machine::run(black_box(&five), 5, &memory)),
     );
     let line = |what: &str, times: Vec<f64>| row(what, "a call", 1.0, &times);
     line(
-        "judge, (D1 + 2) / 4.0",
+        "compile, (D1 + 2) / 4.0",
         least(batches, CALLS, &mut [&mut || ours.0(), &mut || theirs.0()]),
     );
     line(
@@ -145,8 +148,8 @@ fn small(batches: usize) {
         "run, its five instructions",
         least(batches, CALLS, &mut [&mut || ours.2(), &mut || theirs.2()]),
     );
-    let all_ours = || (ours.0(), ours.1(), ours.2());
-    let all_theirs = || (theirs.0(), theirs.1(), theirs.2());
+    let mut all_ours = || (ours.0(), ours.1(), ours.2());
+    let mut all_theirs = || (theirs.0(), theirs.1(), theirs.2());
     line(
         "all three",
         least(batches, CALLS, &mut [&mut || _ = all_ours(), &mut || _ = all_theirs()]),

@@ -10,7 +10,7 @@ use crate::{check, emit, machine, parts};
 fn compiled(formulas: &[Formula]) -> Vec<Vec<u8>> {
     let mut code = vec![0; CODE_BYTES];
     let one = |formula: &Formula| {
-        let n = parts::compile(&formula.text, &mut code) as usize;
+        let n = parts::compile(&formula.text, &mut code).expect("a formula");
         code[..8 * n].to_vec()
     };
     formulas.iter().map(one).collect()

@@ -1,24 +1,19 @@
--- The numbers that the exported functions give for the answers of the reader, the compiler and the verifier.
+-- The numbers that the exported functions give for the answers of the compiler and the verifier.
 use mathlib.Core.Path.{_≡_}
 use mathlib.Core.List.{List}
-use Prim.Native.Nat.{ℕ}
+use Prim.Native.Nat.{ℕ, _+_}
 use Rattle.values.specs.declared.Kind.{Kind}
 use Rattle.values.specs.declared.Kind.the-variants.{Int, Real}
-use Rattle.text.specs.declared.Judged.{Judged}
-use Rattle.text.specs.declared.Judged.the-variants as Judged
 use Rattle.compiler.specs.declared.Coded.{Coded}
 use Rattle.compiler.specs.declared.Coded.the-variants as Coded
 use Rattle.verifier.specs.declared.Verdict.{Verdict}
 use Rattle.verifier.specs.declared.Verdict.the-variants as Verdict
 use Rattle.verifier.specs.Accepts.{Right}
 
-abbrev pub judgedNumber : Judged → ℕ
-judgedNumber (Judged.Accepted k) = 0
-judgedNumber (Judged.Refused a p) = a
-
+-- a refusal's number is above any count of instructions
 abbrev pub codedNumber : Coded → ℕ
 codedNumber (Coded.Done n) = n
-codedNumber (Coded.Refused a p) = 0
+codedNumber (Coded.Refused a p) = 65536 + a
 
 abbrev pub kindNumber : Kind → ℕ
 kindNumber Int = 0

@@ -1,30 +1,19 @@
-// The reader, the compiler, the verifier and the machine for a host program that measures them (bench). A slice passes as a pointer and then a length.
+// The compiler, the verifier and the machine for a host program that measures them (bench). A slice passes as a pointer and then a length.
 ghost use mathlib.Core.Path.{_≡_};
 ghost use lib.ListN.{length};
-ghost use Rattle.text.specs.Judge.{judge, answer};
 ghost use Rattle.machine.specs.Machine.{runs};
 ghost use Rattle.compiler.specs.Compile.{compiling, codedAnswer, codedBytes};
-ghost use Rattle.bench_c.specs.Numbers.{judgedNumber, codedNumber, verdictNumber, Checked};
+ghost use Rattle.bench_c.specs.Numbers.{codedNumber, verdictNumber, Checked};
 use compiler::Coded;
-use text::Judged;
 use values::Kind;
 use verifier::Verdict;
-
-fn judged_number(j: Judged) -> u32
-    ensures { λ r. ⌜ r ≡ judgedNumber j ⌝ }
-{
-    match j {
-        Judged::Accepted(_) => 0,
-        Judged::Refused(a, _) => a,
-    }
-}
 
 fn coded_number(c: Coded) -> usize
     ensures { λ r. ⌜ r ≡ codedNumber c ⌝ }
 {
     match c {
         Coded::Done(n) => n,
-        Coded::Refused(_, _) => 0,
+        Coded::Refused(a, _) => 65536 + (a as usize),
     }
 }
 
@@ -40,15 +29,7 @@ fn verdict_number(v: Verdict) -> u32
     }
 }
 
-// 0 for a formula, else the answer that refuses the text.
-#[no_mangle]
-pub extern "C" fn bench_judge(text: &[u8]) -> u32
-    ensures { λ r. ⌜ r ≡ judgedNumber (answer (judge (now (text .entry)))) ⌝ }
-{
-    judged_number(text::judge(text))
-}
-
-// How many instructions were written, 0 for a text or a buffer that is refused.
+// How many instructions were written; for a text or a buffer that is refused, 65,536 and the answer.
 #[no_mangle]
 pub extern "C" fn bench_compile(text: &[u8], code: &mut [u8]) -> usize
     ensures { λ r. ⌜ r ≡ codedNumber (codedAnswer (compiling (length (now (code .entry))) (now (text .entry)))) ⌝ }

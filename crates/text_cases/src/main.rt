@@ -1,9 +1,11 @@
-// Whether each line of the standard input is a formula: its answer and place, and of a formula the kind, i or r. A line ends at a byte 10 or at the input's end; tests/text/make.py has the oracle.
+// Whether each line of the standard input is a formula: its answer and place, and of a formula the kind, i or r, as the check finds it in the compiled code. A line ends at a byte 10 or at the input's end;
+// tests/text/make.py has the oracle.
 ghost use Prim.Native.Nat.{_≤_};
 ghost use lib.ListN.{length};
+use compiler::Coded;
 use libc::STDIN_FILENO;
-use text::Judged;
 use values::Kind;
+use verifier::Verdict;
 
 // The byte 10 that ends the line in which a place lies, or the input's end.
 fn line_end(input: &[u8], at: usize) -> usize
@@ -42,10 +44,18 @@ fn refused(answer: u32, place: usize) {
     case_lines::write(&mut line, end);
 }
 
-fn tell(judged: Judged) {
-    match judged {
-        Judged::Accepted(kind) => accepted(kind),
-        Judged::Refused(answer, place) => refused(answer, place),
+fn tell_kind(verdict: Verdict) {
+    match verdict {
+        Verdict::Accepted(kind) => accepted(kind),
+        Verdict::Refused => refused(15, 0),
+    }
+}
+
+fn tell(text: &[u8]) {
+    let mut code = [0u8; 16384];
+    match compiler::compile(text, &mut code) {
+        Coded::Done(n) => tell_kind(verifier::check(&code, n)),
+        Coded::Refused(answer, place) => refused(answer, place),
     }
 }
 
@@ -53,7 +63,7 @@ fn every_line(input: &[u8]) {
     let mut at: usize = 0;
     while at < input.len() {
         let end = line_end(input, at);
-        tell(text::judge(&input[at..end]));
+        tell(&input[at..end]);
         at = end + 1;
     }
 }

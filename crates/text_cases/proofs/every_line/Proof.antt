@@ -18,17 +18,14 @@ loop-holds c = tt
 line-end-requires : tie.Need-line-end-requires Inv-loop μ-loop
 line-end-requires c κs = omega arith
 
-sub-judge : tie.Need-sub-judge Inv-loop μ-loop
-sub-judge c = search needs
+sub-tell : tie.Need-sub-tell Inv-loop μ-loop
+sub-tell c = search needs
 
-part-judge-start : tie.Need-part-judge-start Inv-loop μ-loop
-part-judge-start c = search needs
+part-tell-start : tie.Need-part-tell-start Inv-loop μ-loop
+part-tell-start c = search needs
 
-part-judge-end : tie.Need-part-judge-end Inv-loop μ-loop
-part-judge-end c = search needs
-
-judge-requires : tie.Need-judge-requires Inv-loop μ-loop
-judge-requires c κs = tt
+part-tell-end : tie.Need-part-tell-end Inv-loop μ-loop
+part-tell-end c = search needs
 
 tell-requires : tie.Need-tell-requires Inv-loop μ-loop
 tell-requires c κs = tt
@@ -53,10 +50,9 @@ every-line-spec =
     μ-loop
     loop-holds
     line-end-requires
-    sub-judge
-    part-judge-start
-    part-judge-end
-    judge-requires
+    sub-tell
+    part-tell-start
+    part-tell-end
     tell-requires
     add-at
     loop-less
