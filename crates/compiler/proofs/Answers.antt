@@ -1,57 +1,64 @@
--- What the code answers and writes, for each way that a text can be judged.
-use mathlib.Core.Path.{_≡_, refl, _∙_}
+-- The order of the answers: 10 for the buffer, 3 for the length, then 4 to 6 for the tokens, then what the table says.
+use mathlib.Core.Path.{_≡_, refl, ap, _∙_}
 use mathlib.Core.Bool.{and-false}
 use mathlib.Core.List.{List, []}
-use Prim.Native.Nat.{ℕ, _≤_, _<_}
+use Prim.Native.Nat.{ℕ, zero, suc, _*_, _≤_, _<_}
 use native.Mathlib.Omega.{arith}
-use lib.ListN.{length}
-use borrow.Author.Tests.{lt-ltb, le-ltb, lt-leb}
-use Rattle.values.specs.declared.Kind.{Kind}
-use Rattle.token_table.specs.Table.{listed}
-use Rattle.grammar.specs.Tree.{Tree}
+use lib.ListN.{length, getD, replicate}
+use borrow.Author.Tests.{lt-ltb, le-ltb, le-leb, lt-leb}
+use Rattle.tokens.specs.Scan.{scan}
+use Rattle.token_table.specs.declared.Filled.the-variants.{Good, Wrong}
+use Rattle.token_table.specs.Table.{listed, Fills, blank, Tokens}
+use Rattle.token_table.proofs.Laws.{filled-good, filled-wrong}
+use Rattle.grammar.specs.Tree.{Tree, nowhere, wrongKind}
 use Rattle.grammar.specs.Parse.{ok, parse}
-use Rattle.text.specs.declared.Judged.the-variants as Judged
-use Rattle.text.specs.Judge.{Judgement, accepted, refused, judge, answer}
+use Rattle.text.specs.Judge.{Judgement, accepted, ofParse, ofScan, judge}
+use Rattle.text.specs.Theorems.{Sized}
 use Rattle.compiler.specs.declared.Coded.{Coded}
-use Rattle.compiler.specs.declared.Coded.the-variants.{Done, Refused}
-use Rattle.compiler.specs.Code.{codeOf}
+use Rattle.compiler.specs.declared.Coded.the-variants.{Refused}
 use Rattle.compiler.specs.Compile.{compiling, codedAnswer, codedBytes}
-use Rattle.compiler.specs.Writing.{put}
-use Rattle.compiler.proofs.Theorems.{written}
+use Rattle.compiler.specs.Reading.{Holds}
+use Rattle.compiler.proofs.Theorems.{compiled}
 
--- the answer r, and the buffer made code′, are those of the judgement j
+-- the answer a, and the buffer made code′, are those of the judgement j
 abbrev pub Told : List ℕ → Judgement → Coded → List ℕ → Type 0
-Told code j r code′ = (r ≡ codedAnswer j) × (code′ ≡ codedBytes code j)
+Told code j a code′ = (a ≡ codedAnswer j) × (code′ ≡ codedBytes code j)
 
+-- ---- the tokens
+module _ {s : List ℕ} (h : Sized s) where
+  goes-on : judge s ≡ ofScan s (scan s)
+  unfolding judge
+  goes-on = rw (le-leb 1 (length s) (h .some), le-leb (length s) 1024 (h .short)) refl
+
+  module _ {table : List ℕ} (i : Fills (scan s) table Good) where
+    judged : judge s ≡ ofParse s (parse (listed table))
+    unfolding ofScan
+    judged = goes-on ∙ ap (ofScan s) (filled-good i)
+
+    pub all-read : (code : List ℕ) {a : Coded} {code′ : List ℕ} → ((x : List ℕ) → length x ≡ length s → Told code (ofParse x (parse (listed table))) a code′) → Told code (judge s) a code′
+    all-read code f = rw judged (f s refl)
+
+    -- a formula has at most two instructions a byte
+    pub all-held : (n m : ℕ) → 2 * length s ≤ n → 16384 ≤ m → (t : Tree) → parse (listed table) ≡ ok t [] → wrongKind t ≡ nowhere → Holds n m t
+    unfolding ofParse
+    all-held n m d b t q k =
+        let e : judge s ≡ accepted t = judged ∙ rw (q, k) refl in
+        let c = compiled s t e .short in
+        record { draft = omega arith; buffer = omega (arith, h .short) }
+
+  pub wrong-token : {table : List ℕ} {a p : ℕ} (code : List ℕ) → Fills (scan s) table (Wrong a p) → Told code (judge s) (Refused a p) code
+  unfolding ofScan
+  wrong-token code i = rw (goes-on ∙ ap (ofScan s) (filled-wrong i)) (refl, refl)
+
+-- ---- the buffer and the length
 module _ (s code : List ℕ) where
-  pub done : (tbl code′ : List ℕ) (k : Kind) (n : ℕ) → answer (judge s) ≡ Judged.Accepted k → 16384 ≤ length code
-      → ((t : Tree) → judge s ≡ accepted t → parse (listed tbl) ≡ ok t [])
-      → ((t : Tree) → parse (listed tbl) ≡ ok t [] → (n ≡ length (codeOf t)) × (code′ ≡ put code 0 (codeOf t)))
-      → Told code (judge s) (Done n) code′
-  unfolding answer
-  done tbl code′ k n a room read wrote = go (judge s) refl a
-    where
-      go : (j : Judgement) → judge s ≡ j → answer j ≡ Judged.Accepted k → Told code j (Done n) code′
-      go (accepted t) e q =
-          let w = wrote t (read t e) in
-          (rw (w .0), w .1 ∙ written s t e code room)
-      go (refused b p) e q = let z : _≡_ {A = ℕ} 0 1 = cc in absurd (omega arith)
-
-  pub stopped : (a p : ℕ) → answer (judge s) ≡ Judged.Refused a p → Told code (judge s) (Refused a p) code
-  unfolding answer
-  stopped a p e = go (judge s) e
-    where
-      go : (j : Judgement) → answer j ≡ Judged.Refused a p → Told code j (Refused a p) code
-      go (accepted t) q = let z : _≡_ {A = ℕ} 0 1 = cc in absurd (omega arith)
-      go (refused b r) q = (cc, refl)
-
   pub small : length code < 16384 → Told code (compiling (length code) s) (Refused 10 0) code
   small h = rw (lt-ltb (length code) 16384 h) (refl, refl)
 
   -- a buffer that is large enough
   module _ (h : 16384 ≤ length code) where
-    pub enough : (r : Coded) (code′ : List ℕ) → Told code (judge s) r code′ → Told code (compiling (length code) s) r code′
-    enough r code′ t = rw (le-ltb (length code) 16384 h) t
+    pub enough : (a : Coded) (code′ : List ℕ) → Told code (judge s) a code′ → Told code (compiling (length code) s) a code′
+    enough a code′ t = rw (le-ltb (length code) 16384 h) t
 
     pub no-text : length s ≡ 0 → Told code (compiling (length code) s) (Refused 3 0) code
     unfolding judge
@@ -60,3 +67,12 @@ module _ (s code : List ℕ) where
     pub too-long : 1024 < length s → Told code (compiling (length code) s) (Refused 3 0) code
     unfolding judge
     too-long l = enough (Refused 3 0) code (rw (lt-leb (length s) 1024 l, and-false) (refl, refl))
+
+-- ---- a table without tokens
+pub no-tokens : (n : ℕ) → Tokens (replicate n 0)
+no-tokens n i = rw (zeros n i) blank
+  where
+    zeros : (n i : ℕ) → _≡_ {A = ℕ} (getD (replicate n 0) i 0) 0
+    zeros zero i = refl
+    zeros (suc n) zero = refl
+    zeros (suc n) (suc i) = zeros n i

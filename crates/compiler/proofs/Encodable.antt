@@ -25,10 +25,10 @@ use Rattle.grammar.specs.Tree as Tree
 use Rattle.grammar.specs.Tree.{Tree, literal, cell, indexed, logic, choice, treeKind}
 use Rattle.grammar.specs.Symbols.{Arguments, argument}
 use Rattle.grammar.specs.Grammar.{E, number, name, index, parenthesis, call, prefixed, up, infixed, last, next, Formula}
-use Rattle.compiler.specs.Code.{pushBool, settled, tail, over, codeOf}
+use Rattle.tree_code.specs.Code.{pushBool, settled, tail, over, codeOf}
 use Rattle.compiler.proofs.Each.{Each, none, some, each-append, each-first, each-rest, each-front, each-back}
 use Rattle.compiler.proofs.Scanned.{AllKnown}
-use Rattle.compiler.proofs.Nodes.{Call, of-one, of-two, of-three, call-node, Infix, of-values, of-truths, infix-node}
+use Rattle.tree_code.proofs.Nodes.{Call, of-one, of-two, of-three, call-node, Infix, of-values, of-truths, infix-node}
 
 -- ---- pieces of code, of which none is longer than the whole
 abbrev Short : List Instr → Type 0

@@ -17,15 +17,13 @@ use Rattle.tokens.specs.declared.Token.{Token}
 use Rattle.tokens.specs.declared.Token.the-variants.{Number}
 use Rattle.tokens.specs.declared.Scanned.{Scanned}
 use Rattle.tokens.specs.declared.Scanned.the-variants.{Good, Bad}
-use Rattle.tokens.specs.declared.Lexeme.{Lexeme}
-use Rattle.tokens.specs.declared.Lexeme.the-variants.{Found, Wrong, End}
 use Rattle.tokens.specs.Bytes.{all, isLetter, isWord, isRun, runLen}
 use Rattle.tokens.specs.Symbols.{same, symbolCount, longest}
 use Rattle.tokens.specs.Numerals.{some, digits, isHex, hexOf, isHexRun, notDot, realOf, numeralOf}
 use Rattle.tokens.specs.Words.{nameOf, named, functions, letterWord, cellWord, otherWord, wordOf}
-use Rattle.tokens.specs.Scan.{lexeme, running, lexemeOf, blanks, lexemeAt}
+use Rattle.tokens.specs.Scan.{Lexeme, Found, Wrong, End, lexeme, running, lexemeOf, blanks, lexemeAt}
 use Rattle.tokens.proofs.Laws.{found}
-use Rattle.compiler.specs.Demand.{bytesOfToken}
+use Rattle.tree_code.specs.Demand.{bytesOfToken}
 
 -- n bytes, if they are any, have room for what they are judged to be
 data Room (n : ℕ) : Scanned → Type 0 where

@@ -5,13 +5,11 @@ use Prim.Native.Nat.{ℕ, _+_, _≤_}
 use native.Mathlib.Omega.{arith}
 use lib.ListN.{length}
 use Rattle.tokens.specs.declared.Token.{Token}
-use Rattle.tokens.specs.declared.Lexeme.{Lexeme}
-use Rattle.tokens.specs.declared.Lexeme.the-variants.{Found, Wrong, End}
-use Rattle.tokens.specs.Scan.{lexemeAt, Tok, Scan, tokens, wrong, before, scan}
+use Rattle.tokens.specs.Scan.{Lexeme, Found, Wrong, End, lexemeAt, Tok, Scan, tokens, wrong, before, scan}
 use Rattle.tokens.proofs.Laws.{found, rest, at-found, at-wrong, at-end}
 use Rattle.tokens.proofs.Known.{Known, known}
 use Rattle.grammar.specs.Grammar.{tok}
-use Rattle.compiler.specs.Demand.{leastBytes}
+use Rattle.tree_code.specs.Demand.{leastBytes}
 use Rattle.compiler.proofs.Each.{Each, none, some}
 use Rattle.compiler.proofs.Least.{long}
 

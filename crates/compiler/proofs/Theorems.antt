@@ -9,33 +9,29 @@ use Rattle.grammar.specs.Tree.{Tree}
 use Rattle.text.specs.Judge.{accepted, judge}
 use Rattle.text.specs.Theorems.{Accepts}
 use Rattle.text.proofs.Theorems.{text-theorems}
-use Rattle.compiler.specs.Code.{codeOf}
-use Rattle.compiler.specs.Demand.{Compiled}
+use Rattle.tree_code.specs.Code.{codeOf}
+use Rattle.tree_code.specs.Demand.{Compiled}
 use Rattle.compiler.specs.Compile.{codedBytes, CompileTheorems}
-use Rattle.compiler.specs.Writing.{put}
-use Rattle.compiler.proofs.Demand.{demand}
+use Rattle.tree_code.proofs.Demand.{demand}
 use Rattle.compiler.proofs.Scanned.{known-tokens, least}
 use Rattle.compiler.proofs.Encodable.{encodable}
-use Rattle.compiler.proofs.Bytes.{put-run, read-back}
+use Rattle.compiler.proofs.Bytes.{read-back}
 
 module _ (s : List ℕ) (t : Tree) (q : judge s ≡ accepted t) where
   formula : Accepts s t
   formula = text-theorems .accepts s t .0 q
 
-  compiled : Compiled t (length s)
+  pub compiled : Compiled t (length s)
   compiled =
       let a = formula in
       let tokens = a .reads .scanned in
       demand .compiled (a .words) t (length s) (a .formula) (a .shallow) (a .kinds) (least s (a .words) tokens) (a .reads .sized .short)
 
   -- two instructions a byte, of 1,024 bytes at the most: eight bytes each are the 16,384 that a buffer must have
-  short : length (codeOf t) ≤ 2048
+  pub short : length (codeOf t) ≤ 2048
   short = omega (arith, compiled .short, formula .reads .sized .short)
 
   module _ (code : List ℕ) (room : 16384 ≤ length code) where
-    pub written : put code 0 (codeOf t) ≡ codedBytes code (accepted t)
-    written = put-run code 0 (codeOf t) (omega (arith, short))
-
     there : instructions (codedBytes code (accepted t)) (length (codeOf t)) ≡ codeOf t
     there =
         let known = known-tokens s (formula .words) (formula .reads .scanned) in

@@ -14,8 +14,8 @@ use Rattle.code.specs.Encode.{encode}
 use Rattle.code.specs.Instructions.{instructions}
 use Rattle.compiler.specs.declared.Coded.{Coded}
 use Rattle.compiler.specs.declared.Coded.the-variants.{Done, Refused}
-use Rattle.compiler.specs.Code.{codeOf}
-use Rattle.compiler.specs.Demand.{Compiled}
+use Rattle.tree_code.specs.Code.{codeOf}
+use Rattle.tree_code.specs.Demand.{Compiled}
 
 -- the bytes of some instructions
 unfoldable pub encoded : List Instr → List ℕ

@@ -1,13 +1,18 @@
 // The compiler: the code of a formula, written into a lent buffer.
 ghost use mathlib.Core.Path.{_≡_};
-ghost use Prim.Native.Nat.{_<_, _≤_};
+ghost use Prim.Native.Nat.{_*_, _<_, _≤_};
 ghost use lib.ListN.{length};
+ghost use Rattle.token_table.specs.Table.{Tokens};
 ghost use Rattle.text.specs.Judge.{judge};
 ghost use Rattle.text.specs.Theorems.{Sized};
 ghost use Rattle.compiler.specs.Compile.{compiling, codedAnswer, codedBytes};
-use text::Judged;
+use token_table::Filled;
 
-pub mod writer;
+pub mod ahead;
+pub mod draft;
+pub mod kinds;
+pub mod reader;
+pub mod results;
 
 // How many instructions were written, or the answer and place that refuse the text.
 pub enum Coded {
@@ -18,19 +23,21 @@ pub enum Coded {
 // "10: compiling, with a code buffer under 16,384 bytes"
 pub const LEAST_CODE: usize = 16384;
 
-// A text of one to 1,024 bytes, with a table lent for its tokens.
-fn compile_in(text: &[u8], table: &mut [u64], code: &mut [u8]) -> Coded
-    requires { ⌜ Sized (now text) × (length (now text) < length (now table)) × (length (now table) ≤ 1025) × (16384 ≤ length (now code)) ⌝ }
+// A text of one to 1,024 bytes, with a table lent for its tokens and a draft for two instructions a byte.
+fn compile_in(text: &[u8], table: &mut [u64], draft: &mut [u64], code: &mut [u8]) -> Coded
+    requires { ⌜ Sized (now text) × (length (now text) < length (now table)) × (length (now table) ≤ 1025) ⌝ }
+    requires { ⌜ Tokens (now table) ⌝ }
+    requires { ⌜ (2 * length (now text) ≤ length (now draft)) × (16384 ≤ length (now code)) ⌝ }
     ensures { λ r. ⌜ r ≡ codedAnswer (judge (now (text .entry))) ⌝ }
     ensures { λ r. ⌜ now (code .exit) ≡ codedBytes (now (code .entry)) (judge (now (text .entry))) ⌝ }
 {
-    match text::judge_in(text, table) {
-        Judged::Accepted(_) => Coded::Done(writer::formula(table, code)),
-        Judged::Refused(a, p) => Coded::Refused(a, p),
+    match token_table::fill(text, table) {
+        Filled::Good => reader::formula(table, draft, text.len(), code),
+        Filled::Wrong(a, p) => Coded::Refused(a, p),
     }
 }
 
-// The text is judged before anything is written. Most formulas are short: the small table is quicker to clear.
+// Most formulas are short: small arrays are quicker to clear.
 pub fn compile(text: &[u8], code: &mut [u8]) -> Coded
     ensures { λ r. ⌜ r ≡ codedAnswer (compiling (length (now (code .entry))) (now (text .entry))) ⌝ }
     ensures { λ r. ⌜ now (code .exit) ≡ codedBytes (now (code .entry)) (compiling (length (now (code .entry))) (now (text .entry))) ⌝ }
@@ -44,10 +51,17 @@ pub fn compile(text: &[u8], code: &mut [u8]) -> Coded
     if 1024 < text.len() {
         return Coded::Refused(3, 0);
     }
-    if text.len() < 128 {
-        let mut table = [0u64; 128];
-        return compile_in(text, &mut table, code);
+    if text.len() < 64 {
+        let mut table = [0u64; 64];
+        let mut draft = [0u64; 128];
+        return compile_in(text, &mut table, &mut draft, code);
+    }
+    if text.len() < 256 {
+        let mut table = [0u64; 256];
+        let mut draft = [0u64; 512];
+        return compile_in(text, &mut table, &mut draft, code);
     }
     let mut table = [0u64; 1025];
-    compile_in(text, &mut table, code)
+    let mut draft = [0u64; 2048];
+    compile_in(text, &mut table, &mut draft, code)
 }

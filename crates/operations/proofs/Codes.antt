@@ -21,7 +21,7 @@ use Rattle.code.proofs.Parts.{decode-length}
 use Rattle.machine.specs.Machine.{runs}
 use Rattle.verifier.specs.Accepts as Verifier
 use Rattle.verifier.proofs.Safe.{safe, memory-kinded}
-use Rattle.compiler.specs.Code.{codeOf}
+use Rattle.tree_code.specs.Code.{codeOf}
 use Rattle.compiler.specs.Compile.{compiling, codedBytes, encoded}
 use Rattle.compiler.proofs.Bytes.{encoded-length}
 use Rattle.compiler.proofs.Theorems.{compile-theorems}

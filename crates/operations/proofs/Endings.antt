@@ -26,7 +26,7 @@ use Rattle.memory.specs.Store.{encode, flagged, written, answerOf}
 use Rattle.machine.specs.declared.Ended.{Ended}
 use Rattle.machine.specs.declared.Ended.the-variants as Ended
 use Rattle.verifier.specs.Safety.{EndsWell, value, fault}
-use Rattle.compiler.specs.Demand.{endOf}
+use Rattle.tree_code.specs.Demand.{endOf}
 use Rattle.operations.specs.Operations.{afterStore, finished, memoryAfter, to, goalOf, goal}
 use Rattle.operations.specs.Terms as Term
 use Rattle.operations.specs.Terms.{Gives}

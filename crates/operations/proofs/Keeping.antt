@@ -26,7 +26,7 @@ use Rattle.machine.specs.declared.Ended.{Ended}
 use Rattle.verifier.proofs.Safe.{safe, memory-kinded}
 use Rattle.compiler.specs.Compile.{codedBytes, encoded}
 use Rattle.compiler.proofs.Theorems.{compile-theorems}
-use Rattle.compiler.specs.Code.{codeOf}
+use Rattle.tree_code.specs.Code.{codeOf}
 use Rattle.operations.specs.declared.Answer.{Answer}
 use Rattle.operations.specs.declared.Answer.the-variants.{Done, Fault, Refused}
 use Rattle.operations.specs.Operations.{compileAnswer, Checks, accepts, refuses, Runs, unready, unaccepted, ran, none, goalOf, goal, Request, ofTarget, ofText, request, performed, performedMemory, performedCode}

@@ -19,13 +19,11 @@ use Rattle.tokens.specs.declared.Function.{Function}
 use Rattle.tokens.specs.declared.Token.{Token}
 use Rattle.tokens.specs.declared.Scanned.{Scanned}
 use Rattle.tokens.specs.declared.Scanned.the-variants.{Good, Bad}
-use Rattle.tokens.specs.declared.Lexeme.{Lexeme}
-use Rattle.tokens.specs.declared.Lexeme.the-variants.{Found, Wrong, End}
 use Rattle.tokens.specs.Bytes.{all, isLetter, isWord, isRun, runLen}
 use Rattle.tokens.specs.Symbols.{same, symbolCount, longest}
 use Rattle.tokens.specs.Numerals.{some, digits, isHex, isHexRun, hexOf, notDot, realOf, numeralOf}
 use Rattle.tokens.specs.Words.{nameOf, named, functions, letterWord, cellWord, otherWord, wordOf}
-use Rattle.tokens.specs.Scan.{lexeme, lexemeOf, blanks, lexemeAt, Tok, Scan, tokens, wrong, before, scanFrom, scan}
+use Rattle.tokens.specs.Scan.{Lexeme, Found, Wrong, End, lexeme, lexemeOf, blanks, lexemeAt, Tok, Scan, tokens, wrong, before, scanFrom, scan}
 use Rattle.grammar.specs.Tree.{Tree}
 use Rattle.text.specs.Judge.{Judgement, accepted, refused}
 use Rattle.text.specs.Theorems as Text

@@ -20,8 +20,8 @@ use Rattle.machine.specs.Machine.{exec, runs}
 use Rattle.verifier.proofs.Safe.{memory-kinded}
 use Rattle.compiler.specs.declared.Coded.{Coded}
 use Rattle.compiler.specs.declared.Coded.the-variants as Coded
-use Rattle.compiler.specs.Code.{codeOf}
-use Rattle.compiler.specs.Demand.{endOf}
+use Rattle.tree_code.specs.Code.{codeOf}
+use Rattle.tree_code.specs.Demand.{endOf}
 use Rattle.compiler.specs.Compile.{compiling, codedAnswer, codedBytes}
 use Rattle.compiler.proofs.Theorems.{compile-theorems}
 use Rattle.operations.specs.declared.Answer.{Answer}

@@ -10,7 +10,7 @@ use Rattle.grammar.specs.Parse.{expression, parse}
 use Rattle.grammar.specs.Worth.{worth}
 use Rattle.text.specs.Judge.{ofParse, ofScan, judge}
 use Rattle.machine.specs.Machine.{exec, act}
-use Rattle.compiler.specs.Code.{codeOf}
+use Rattle.tree_code.specs.Code.{codeOf}
 use Rattle.operations.specs.Sheet.{Sums, none, more, reads, answers, sheet, ascii, zeros}
 
 pub sums : Sums sheet

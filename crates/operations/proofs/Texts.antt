@@ -15,8 +15,8 @@ use Rattle.text.proofs.Theorems.{text-theorems}
 use Rattle.machine.specs.declared.Ended.{Ended}
 use Rattle.machine.specs.Machine.{exec}
 use Rattle.verifier.proofs.Safe.{memory-kinded}
-use Rattle.compiler.specs.Code.{codeOf}
-use Rattle.compiler.specs.Demand.{endOf}
+use Rattle.tree_code.specs.Code.{codeOf}
+use Rattle.tree_code.specs.Demand.{endOf}
 use Rattle.compiler.proofs.Theorems.{compile-theorems}
 use Rattle.operations.specs.declared.Answer.{Answer}
 use Rattle.operations.specs.Operations.{compileAnswer, stores, ofText, request, performed, performedMemory, performedCode}

@@ -27,8 +27,8 @@ use Rattle.machine.specs.declared.Ended.{Ended}
 use Rattle.machine.specs.declared.Ended.the-variants as Ended
 use Rattle.machine.specs.Machine.{exec, runs}
 use Rattle.verifier.specs.Accepts.{Accepts}
-use Rattle.compiler.specs.Code.{codeOf}
-use Rattle.compiler.specs.Demand.{endOf}
+use Rattle.tree_code.specs.Code.{codeOf}
+use Rattle.tree_code.specs.Demand.{endOf}
 use Rattle.compiler.specs.Compile.{codedBytes}
 use Rattle.operations.specs.declared.Answer.{Answer}
 use Rattle.operations.specs.declared.Answer.the-variants.{Done, Fault, Refused}

@@ -21,8 +21,8 @@ use Rattle.grammar.specs.Worth.{worth}
 use Rattle.text.specs.Judge.{judge}
 use Rattle.text.specs.Theorems.{Accepts, Outcome}
 use Rattle.machine.specs.Machine.{exec, runs}
-use Rattle.compiler.specs.Code.{codeOf}
-use Rattle.compiler.specs.Demand.{endOf}
+use Rattle.tree_code.specs.Code.{codeOf}
+use Rattle.tree_code.specs.Demand.{endOf}
 use Rattle.operations.specs.declared.Answer.{Answer}
 use Rattle.operations.specs.declared.Answer.the-variants.{Done}
 use Rattle.operations.specs.Operations.{Checks, Runs, Request, request, performed, performedMemory, performedCode}

@@ -6,10 +6,8 @@ use Prim.Native.Nat.{ℕ}
 use lib.Dec.{leb}
 use lib.ListN.{length}
 use Rattle.tokens.specs.Scan.{Tok, Scan, tokens, wrong, scan}
-use Rattle.grammar.specs.Tree.{Tree, treeKind, Place, nowhere, at, wrongKind}
+use Rattle.grammar.specs.Tree.{Tree, Place, nowhere, at, wrongKind}
 use Rattle.grammar.specs.Parse.{Result, ok, bad, deep, starved, parse}
-use Rattle.text.specs.declared.Judged.{Judged}
-use Rattle.text.specs.declared.Judged.the-variants.{Accepted, Refused}
 
 pub data Judgement : Type 0 where
   accepted : Tree → Judgement
@@ -41,9 +39,3 @@ ofScan s (wrong a p) = refused a p
 unfoldable pub judge : List ℕ → Judgement
 unfolding ofScan
 judge s = cond (leb 1 (length s) && leb (length s) 1024) (ofScan s (scan s)) (refused 3 0)
-
--- what the code answers: the kind stands for the tree
-unfoldable pub answer : Judgement → Judged
-unfolding treeKind
-answer (accepted t) = Accepted (treeKind t)
-answer (refused a p) = Refused a p

@@ -1,4 +1,2 @@
 pub mod Judge
-pub mod Carried
-pub mod Reading
 pub mod Theorems

@@ -1,27 +1,36 @@
 -- Filling a table: what is found so far stands in the first words, whatever follows them.
-use mathlib.Core.Path.{_≡_, refl, sym, ap, _∙_}
+use mathlib.Core.Path.{_≡_, refl, sym, ap, subst, _∙_}
 use mathlib.Core.List.{List, [], _∷_, _++_}
-use Prim.Native.Nat.{ℕ, suc, _+_, _-_, _≤_, _<_}
+use Prim.Native.Nat.{ℕ, zero, suc, _+_, _-_, _*_, _^_, _≤_, _<_}
 use native.Mathlib.Numerals.{add-one}
 use native.Mathlib.Omega.{arith}
-use lib.ListN.{length, take, drop, set, length-set, take-append-drop}
+use lib.Dec.{lit<}
+use lib.ListN.{length, take, drop, set, length-set, take-append-drop, drop-of-length-le}
 use lib.Seq.{take-suc-set, set-split, append-snoc}
+use Rattle.values.specs.declared.Value.the-variants.{Int, Real}
 use Rattle.tokens.specs.declared.Token.{Token}
-use Rattle.tokens.specs.declared.Lexeme.{Lexeme}
-use Rattle.tokens.specs.declared.Lexeme.the-variants.{Found, Wrong, End}
-use Rattle.tokens.specs.Scan.{Tok, Scan, before, lexemeAt, scan}
-use Rattle.tokens.proofs.Laws.{found, rest, at-found, at-wrong, at-end}
+use Rattle.tokens.specs.declared.Token.the-variants.{Number, Cell, Letter, Name, Symbol}
+use Rattle.tokens.specs.Scan.{Lexeme, Found, Wrong, End, Tok, Scan, before, lexemeOf, blanks, lexemeAt, scan}
+use Rattle.tokens.proofs.Laws.{Lies, found as found-at, wrong-at, rest, at-found, at-wrong, at-end}
 use Rattle.tokens.proofs.Known.{known}
-use Rattle.token_table.specs.declared.Entry.the-variants as Entry
 use Rattle.token_table.specs.declared.Filled.{Filled}
 use Rattle.token_table.specs.declared.Filled.the-variants as Filled
-use Rattle.token_table.specs.Table.{packed, Packable, entryOf, tokenOf, Fills, filled, stopped}
-use Rattle.token_table.proofs.Packing.{known-packable}
-use Rattle.token_table.proofs.Laws.{tok, unpacked, list-is, list-end}
+use Rattle.token_table.specs.Table.{Entry, fields, packed, classOf, numberOf, wordPlace, entryOf, Fills, filled, stopped, Sound, Word, blank, Tokens}
+use Rattle.token_table.specs.Lexing.{Lexes, found, wrong}
+use Rattle.token_table.proofs.Fields.{known-sound}
+use Rattle.token_table.proofs.Laws.{tok, some-class, place-packed, unpacked, blank-end, list-is, list-end}
 
 fills-more : {w : ℕ} {t : Token} {p : ℕ} → entryOf w ≡ Entry.Is t p → {z : Scan} {ws : List ℕ} {r : Filled} → Fills z ws r → Fills (before (tok t p) z) (w ∷ ws) r
 fills-more {w} {t} {p} q (filled {s = ws} e) = filled (list-is w ws q ∙ ap (λ (us : List Tok). tok t p ∷ us) e)
 fills-more q stopped = stopped
+
+-- a word of a token, or of none, among such words
+one-more : (s : List ℕ) (n : ℕ) {w : ℕ} → Word w → Tokens s → Tokens (set s n w)
+one-more [] n k all i = all i
+one-more (x ∷ xs) zero k all zero = k
+one-more (x ∷ xs) zero k all (suc i) = all (suc i)
+one-more (x ∷ xs) (suc n) k all zero = all 0
+one-more (x ∷ xs) (suc n) k all (suc i) = one-more xs n k (λ j. all (suc j)) i
 
 -- the first n words of the table, which was o, hold what was found before a position: what fills the rest behind them fills the whole
 pub record Filling (s o table : List ℕ) (at n : ℕ) : Type 0 where
@@ -29,38 +38,98 @@ pub record Filling (s o table : List ℕ) (at n : ℕ) : Type 0 where
   pub room : n ≤ at
   pub size : length table ≡ length o
   pub goes : (u : List ℕ) (r : Filled) → Fills (rest s at) u r → Fills (scan s) (take n table ++ u) r
+  pub all : Tokens o → Tokens table
 
 pub begin : (s o : List ℕ) → Filling s o o 0 0
-begin s o = record { within = omega arith; room = omega arith; size = refl; goes = λ u r h. h }
+begin s o = record { within = omega arith; room = omega arith; size = refl; goes = λ u r h. h; all = λ h. h }
 
-module _ {s o table : List ℕ} {at n : ℕ} (h : Filling s o table at n) (fits : length s < length o) {x : Lexeme} (q : x ≡ lexemeAt s at) where
-  module _ {t : Token} {p e : ℕ} (q′ : x ≡ Found t p e) where
-    pub can-pack : length s ≤ 1024 → (p < 65536) × Packable t
-    can-pack k = let l = found s at (sym q ∙ q′) in (omega arith, known-packable (known s at (sym q ∙ q′)))
+-- what is promised of a table that was o
+abbrev Promised : List ℕ → List ℕ → List ℕ → Filled → Type 0
+Promised s o table r = (length table ≡ length o) × (Fills (scan s) table r × (Tokens o → Tokens table))
 
-    pub moves-on : length s - e < length s - at
-    moves-on = let l = found s at (sym q ∙ q′) in omega arith
+-- ---- the word that was found, and where it goes
+-- a token at the place p
+record Token-at (s : List ℕ) (at p w e : ℕ) : Type 0 where
+  t : Token
+  is : lexemeAt s at ≡ Found t p e
+  word : w ≡ packed t 0
 
-    pub goes-on : {w : ℕ} → w ≡ packed t p → Filling s o (set table n w) e (n + 1)
-    goes-on {w} k =
-        let m = sym q ∙ q′ in
-        let l = found s at m in
-        let free : n < length table = omega arith in
-        let next : take (n + 1) (set table n w) ≡ take n table ++ (w ∷ []) = rw (add-one n) (take-suc-set table n w free) in
-        record {
-          within = l .inside;
-          room = omega arith;
-          size = length-set table n w ∙ h .size;
-          goes = λ u r g. rw (next, append-snoc (take n table) w u) (h .goes (w ∷ u) r (rw (at-found s at m) (fills-more (ap entryOf k ∙ unpacked (known s at m) p) g)));
-        }
+no-class : (a : ℕ) → classOf (fields 0 0 a 0) ≡ 0
+no-class a = omega arith
 
-  pub stops : {a p : ℕ} → x ≡ Wrong a p → (length table ≡ length o) × Fills (scan s) table (Filled.Wrong a p)
-  stops {a} {p} q′ =
-      (h .size, rw (← take-append-drop n table) (h .goes (drop n table) (Filled.Wrong a p) (rw (at-wrong s at (sym q ∙ q′)) stopped)))
+is-answer : (a : ℕ) → numberOf (fields 0 0 a 0) ≡ a
+is-answer a = omega arith
 
-  pub ends : x ≡ End → (length (set table n 0) ≡ length o) × Fills (scan s) (set table n 0) Filled.Good
-  unfolding tokenOf
-  ends q′ =
-      let free : n < length table = omega arith in
-      let last = filled (list-end 0 (drop (suc n) table) refl) in
-      (length-set table n 0 ∙ h .size, rw (set-split table n 0 free) (h .goes (0 ∷ drop (suc n) table) Filled.Good (rw (at-end s at (sym q ∙ q′)) last)))
+module _ (s : List ℕ) (at : ℕ) where
+  token-there : {x : Lexeme} {w e : ℕ} → Lexes x w e → lexemeAt s at ≡ x → (classOf w ≡ 0 → ⊥) → Token-at s at (at + blanks s at) w e
+  token-there (found t p e) m z =
+      record { t = t; is = m ∙ ap (λ (k : ℕ). Found t k e) (found-at s at m .place); word = refl }
+  token-there (wrong a p e) m z = absurd (z (no-class a))
+
+  none-there : {x : Lexeme} {w e : ℕ} → Lexes x w e → lexemeAt s at ≡ x → classOf w ≡ 0 → lexemeAt s at ≡ Wrong (numberOf w) (at + blanks s at)
+  none-there (found t p e) m z = absurd (some-class (known-sound (known s at m)) 0 (lit< tt) z)
+  none-there (wrong a p e) m z =
+      m ∙ ap (λ (k : ℕ). Wrong k p) (sym (is-answer a)) ∙ ap (Wrong (numberOf (fields 0 0 a 0))) (wrong-at s at m .0)
+
+-- the place of a word without one
+placed : (t : Token) (p : ℕ) → packed t 0 + 65536 * p ≡ packed t p
+placed (Number (Int z)) p = omega arith
+placed (Number (Real x)) p = omega arith
+placed (Cell b i) p = omega arith
+placed (Letter b) p = omega arith
+placed (Name f) p = omega arith
+placed (Symbol n) p = omega arith
+
+module _ {s o table : List ℕ} {at n p : ℕ} (h : Filling s o table at n) (short : length s ≤ 1024) (fits : length s < length o) (q : p ≡ at + blanks s at) where
+  pub ends : length s ≤ p → Promised s o (set table n 0) Filled.Good
+  unfolding lexemeOf
+  ends l =
+      let free : n < length table = omega (arith, h .room, h .size, h .within) in
+      let m : lexemeAt s at ≡ End = rw (← q, drop-of-length-le s l) in
+      let last = filled (list-end 0 (drop (suc n) table) blank-end) in
+      (length-set table n 0 ∙ h .size, (rw (set-split table n 0 free) (h .goes (0 ∷ drop (suc n) table) Filled.Good (rw (at-end s at m) last)), λ b. one-more table n blank (h .all b)))
+
+  module _ {w e : ℕ} (l : Lexes (lexemeOf (drop p s) p) w e) where
+    here : Lexes (lexemeAt s at) w e
+    here = subst (λ (k : ℕ). Lexes (lexemeOf (drop k s) k) w e) q l
+
+    pub stops : classOf w ≡ 0 → Promised s o table (Filled.Wrong (numberOf w) p)
+    stops z =
+        let m = none-there s at here refl z ∙ ap (Wrong (numberOf w)) (sym q) in
+        (h .size, (rw (← take-append-drop n table) (h .goes (drop n table) (Filled.Wrong (numberOf w) p) (rw (at-wrong s at m) stopped)), h .all))
+
+    module _ (z : classOf w ≡ 0 → ⊥) where
+      token : Token-at s at p w e
+      token = subst (λ (k : ℕ). Token-at s at k w e) (sym q) (token-there s at here refl z)
+
+      lies : Lies s at p e
+      lies = found-at s at (token .is)
+
+      sound : Sound (token .t)
+      sound = known-sound (known s at (token .is))
+
+      near : p < 65536
+      near = omega (arith, lies .some, lies .inside)
+
+      pub has-room : w < 2 ^ 64 → w + 65536 * p < 2 ^ 64
+      has-room k =
+          let f : wordPlace w ≡ 0 = ap wordPlace (token .word) ∙ place-packed sound 0 (lit< tt) in
+          omega (arith, near)
+
+      pub moves-on : length s - e < length s - at
+      moves-on = omega (arith, lies .behind, lies .some, lies .inside)
+
+      pub goes-on : Filling s o (set table n (w + 65536 * p)) e (n + 1)
+      goes-on =
+          let t = token .t in
+          let v = w + 65536 * p in
+          let k : v ≡ packed t p = ap (λ (i : ℕ). i + 65536 * p) (token .word) ∙ placed t p in
+          let free : n < length table = omega (arith, h .room, h .size, h .within) in
+          let next : take (n + 1) (set table n v) ≡ take n table ++ (v ∷ []) = rw (add-one n) (take-suc-set table n v free) in
+          record {
+            within = lies .inside;
+            room = omega (arith, h .room, lies .behind, lies .some);
+            size = length-set table n v ∙ h .size;
+            goes = λ u r g. rw (next, append-snoc (take n table) v u) (h .goes (v ∷ u) r (rw (at-found s at (token .is)) (fills-more (ap entryOf k ∙ unpacked sound p near) g)));
+            all = λ b. rw k (one-more table n (Word.token t p sound near) (h .all b));
+          }

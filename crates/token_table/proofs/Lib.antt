@@ -1,4 +1,5 @@
 -- The laws that other crates may cite; below them, what several proofs of this crate share.
 pub mod Laws
-mod Packing
+mod Fields
+mod Lexemes
 mod Filling

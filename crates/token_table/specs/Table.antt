@@ -3,33 +3,42 @@
 use mathlib.Core.Path.{_≡_}
 use mathlib.Core.Bool.{cond}
 use mathlib.Core.List.{List, [], _∷_}
-use Prim.Native.Nat.{ℕ, _+_, _*_, _/_, _%_, _^_}
-use lib.Dec.{eqb, ltb}
+use Prim.Native.Nat.{ℕ, _+_, _*_, _/_, _%_, _^_, _<_}
+use lib.Dec.{T, eqb, ltb}
+use lib.IntN.{ℤ}
 use lib.ListN.{getD, drop}
 use lib.Ieee as Ieee
-use lib.Ieee.{binary32}
-use Rattle.values.specs.declared.Value.{Value}
+use lib.Ieee.{Float, binary32}
+use Rattle.reals.specs.Singles.{Single}
 use Rattle.values.specs.declared.Value.the-variants as Value
 use Rattle.values.specs.declared.Outcome.{Outcome}
 use Rattle.values.specs.declared.Outcome.the-variants.{Done, Stopped, WrongKind}
+use Rattle.values.specs.Integers.{inRange}
 use Rattle.values.specs.Patterns.{lowBits, signedOf}
-use Rattle.operators.specs.Laws.{Proper}
+use Rattle.memory.specs.declared.Bank.{Bank}
 use Rattle.memory.specs.Cells.{realCell}
 use Rattle.memory.specs.declared.numbers.BankOf.{BankOf}
 use Rattle.memory.specs.declared.numbers.BankOf.the-variants as BankOf
+use Rattle.memory.specs.Layout.{layoutOf}
 use Rattle.memory.specs.Numbers.{bankNumbered, bankNumber}
 use Rattle.tokens.specs.declared.Function.{Function}
 use Rattle.tokens.specs.declared.Function.the-variants.{Abs, ToReal, ToInt, Trunc, Round, Frac, Max, Min, If}
 use Rattle.tokens.specs.declared.Token.{Token}
 use Rattle.tokens.specs.declared.Token.the-variants.{Number, Cell, Letter, Name, Symbol}
+use Rattle.tokens.specs.Symbols.{symbolCount}
 use Rattle.tokens.specs.Words.{functions}
 use Rattle.tokens.specs.Scan.{Tok, Scan, tokens, wrong}
-use Rattle.token_table.specs.declared.Entry.{Entry}
-use Rattle.token_table.specs.declared.Entry.the-variants.{Is, End}
 use Rattle.token_table.specs.declared.Filled.{Filled}
 use Rattle.token_table.specs.declared.Filled.the-variants.{Good, Wrong}
-use Rattle.token_table.specs.declared.FunctionOf.{FunctionOf}
-use Rattle.token_table.specs.declared.FunctionOf.the-variants as FunctionOf
+
+-- a token and its place in the text, or the end of the tokens
+pub data Entry : Type 0 where
+  Is : Token → ℕ → Entry
+  End : Entry
+
+pub data FunctionOf : Type 0 where
+  Is : Function → FunctionOf
+  Nothing : FunctionOf
 
 -- the functions by number, in the order of `functions`
 abbrev pub functionNumber : Function → ℕ
@@ -46,9 +55,22 @@ functionNumber If = 8
 abbrev pub functionNumbered : ℕ → FunctionOf
 functionNumbered n = cond (ltb n 9) (FunctionOf.Is (getD functions n Abs)) FunctionOf.Nothing
 
--- 32 bits of a number, 8 of an operand, 8 of a class, 16 of a place
+-- ---- a word
+-- 8 bits of a class, 8 of an operand, 16 of a place, 32 of a number
 abbrev pub fields : ℕ → ℕ → ℕ → ℕ → ℕ
-fields class operand number place = number + 2 ^ 32 * (operand + 256 * (class + 256 * place))
+fields class operand number place = class + 256 * operand + 65536 * place + 2 ^ 32 * number
+
+abbrev pub classOf : ℕ → ℕ
+classOf w = w % 256
+
+abbrev pub operandOf : ℕ → ℕ
+operandOf w = w / 256 % 256
+
+abbrev pub wordPlace : ℕ → ℕ
+wordPlace w = w / 65536 % 65536
+
+abbrev pub numberOf : ℕ → ℕ
+numberOf w = w / 2 ^ 32
 
 abbrev pub packed : Token → ℕ → ℕ
 packed (Number (Value.Int z)) p = fields 1 0 (lowBits 32 z) p
@@ -57,10 +79,6 @@ packed (Cell b i) p = fields 3 (bankNumber b) i p
 packed (Letter b) p = fields 4 (bankNumber b) 0 p
 packed (Name f) p = fields 5 (functionNumber f) 0 p
 packed (Symbol n) p = fields 6 n 0 p
-
--- a token that can be packed: a NaN has no pattern that is its own
-abbrev pub Packable : Token → Type 0
-Packable t = (v : Value) → t ≡ Number v → Proper v
 
 -- a real as a cell holds it: the patterns of infinities and NaNs are none
 abbrev pub realAt : Outcome → ℕ → Entry
@@ -91,10 +109,14 @@ tokenOf class operand number p =
     End)))))
 
 abbrev pub entryOf : ℕ → Entry
-entryOf w = tokenOf (w / 2 ^ 32 / 256 % 256) (w / 2 ^ 32 % 256) (w % 2 ^ 32) (w / 2 ^ 32 / 65536)
+entryOf w = tokenOf (classOf w) (operandOf w) (numberOf w) (wordPlace w)
+
+-- ---- a list of words
+abbrev pub wordAt : List ℕ → ℕ → ℕ
+wordAt s i = getD s i 0
 
 abbrev pub entryAt : List ℕ → ℕ → Entry
-entryAt s i = entryOf (getD s i 0)
+entryAt s i = entryOf (wordAt s i)
 
 -- the tokens up to the first word that is none
 unfoldable pub listed : List ℕ → List Tok
@@ -109,3 +131,19 @@ from s i = listed (drop i s)
 pub data Fills : Scan → List ℕ → Filled → Type 0 where
   filled : {ts : List Tok} {s : List ℕ} → listed s ≡ ts → Fills (tokens ts) s Good
   stopped : {a p : ℕ} {s : List ℕ} → Fills (wrong a p) s (Wrong a p)
+
+-- ---- words that are no others than those of a text's tokens
+pub data Sound : Token → Type 0 where
+  int : (z : ℤ) → T (inRange z) → Sound (Number (Value.Int z))
+  real : (x : Float) → Single x → Sound (Number (Value.Real x))
+  cell : (b : Bank) (i : ℕ) → i < layoutOf b .elements → Sound (Cell b i)
+  letter : (b : Bank) → Sound (Letter b)
+  name : (f : Function) → Sound (Name f)
+  symbol : (n : ℕ) → n < symbolCount → Sound (Symbol n)
+
+pub data Word : ℕ → Type 0 where
+  blank : Word 0
+  token : (t : Token) (p : ℕ) → Sound t → p < 65536 → Word (packed t p)
+
+abbrev pub Tokens : List ℕ → Type 0
+Tokens s = (i : ℕ) → Word (wordAt s i)

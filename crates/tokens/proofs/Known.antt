@@ -26,13 +26,11 @@ use Rattle.tokens.specs.declared.Token.{Token}
 use Rattle.tokens.specs.declared.Token.the-variants.{Number, Cell, Letter, Name, Symbol}
 use Rattle.tokens.specs.declared.Scanned.{Scanned}
 use Rattle.tokens.specs.declared.Scanned.the-variants.{Good, Bad}
-use Rattle.tokens.specs.declared.Lexeme.{Lexeme}
-use Rattle.tokens.specs.declared.Lexeme.the-variants.{Found, Wrong, End}
 use Rattle.tokens.specs.Bytes.{all, isLetter, isWord, isRun, runLen}
 use Rattle.tokens.specs.Symbols.{same, symbolCount, longest}
 use Rattle.tokens.specs.Numerals.{some, digits, isHex, isHexRun, hexFrom, hexOf, notDot, realOf, decimalOf, numeralOf}
 use Rattle.tokens.specs.Words.{nameOf, named, functions, letterWord, cellWord, otherWord, wordOf}
-use Rattle.tokens.specs.Scan.{lexeme, symbolLexeme, lexemeOf, blanks, lexemeAt}
+use Rattle.tokens.specs.Scan.{Lexeme, Found, Wrong, End, lexeme, symbolLexeme, lexemeOf, blanks, lexemeAt}
 use Rattle.tokens.proofs.Tests.{by-test, choose, both, hex-small}
 use Rattle.tokens.proofs.Readings.{decimals, hexes, append, below}
 use Rattle.tokens.proofs.numerals.Seven.{both-small, some-digit}
@@ -112,6 +110,16 @@ a-name (f ∷ fs) cs o j =
 a-word : (cs : List ℕ) → Judged (wordOf cs)
 unfolding wordOf
 a-word cs = a-name functions cs (otherWord cs) (another cs)
+
+of-good : {t : Token} (r : Scanned) → Judged r → r ≡ Good t → Known t
+of-good {t} r (good u k) m = let x : u ≡ t = cc in subst Known x k
+of-good r (bad a) m = let z : _≡_ {A = ℕ} 0 1 = cc in absurd (omega arith)
+
+pub known-numeral : (cs : List ℕ) {t : Token} → numeralOf cs ≡ Good t → Known t
+known-numeral cs m = of-good (numeralOf cs) (a-numeral cs) m
+
+pub known-word : (cs : List ℕ) {t : Token} → wordOf cs ≡ Good t → Known t
+known-word cs m = of-good (wordOf cs) (a-word cs) m
 
 -- ---- lexemes
 data Told : Lexeme → Type 0 where

@@ -12,13 +12,11 @@ use Rattle.tokens.specs.declared.Token.{Token}
 use Rattle.tokens.specs.declared.Token.the-variants.{Symbol}
 use Rattle.tokens.specs.declared.Scanned.{Scanned}
 use Rattle.tokens.specs.declared.Scanned.the-variants.{Good, Bad}
-use Rattle.tokens.specs.declared.Lexeme.{Lexeme}
-use Rattle.tokens.specs.declared.Lexeme.the-variants.{Found, Wrong, End}
 use Rattle.tokens.specs.Bytes.{isLetter, isWord, isRun, runLen}
 use Rattle.tokens.specs.Symbols.{symbolCount, symbolBytes, longest}
 use Rattle.tokens.specs.Numerals.{numeralOf}
 use Rattle.tokens.specs.Words.{wordOf}
-use Rattle.tokens.specs.Scan.{lexeme, running, symbolLexeme, lexemeOf, blanks, lexemeAt, Scan, tokens, wrong, before, scanFrom}
+use Rattle.tokens.specs.Scan.{Lexeme, Found, Wrong, End, lexeme, running, symbolLexeme, lexemeOf, blanks, lexemeAt, Scan, tokens, wrong, before, scanFrom}
 use Rattle.tokens.proofs.Tests.{by-test, choose}
 use Rattle.tokens.proofs.Runs.{run-most}
 use Rattle.tokens.proofs.symbols.Longest.{Front, front, within, taken}

@@ -10,10 +10,9 @@ use Rattle.memory.specs.Names.{bankOf, namedRule}
 use Rattle.tokens.specs.declared.Function.the-variants.{Max}
 use Rattle.tokens.specs.declared.Token.the-variants.{Number, Cell, Letter, Name, Symbol}
 use Rattle.tokens.specs.declared.Scanned.the-variants.{Good, Bad}
-use Rattle.tokens.specs.declared.Lexeme.the-variants.{Found, Wrong}
 use Rattle.tokens.specs.Numerals.{literal, numeralOf}
 use Rattle.tokens.specs.Words.{otherWord, wordOf}
-use Rattle.tokens.specs.Scan.{lexemeOf, lexemeAt, tokens, wrong, scanFrom, scan}
+use Rattle.tokens.specs.Scan.{Found, Wrong, lexemeOf, lexemeAt, tokens, wrong, scanFrom, scan}
 
 -- ---- numerals
 -- `2147483647` is the largest decimal, `2147483648` is 5; `007` is 7

@@ -1,3 +1,2 @@
--- What the proofs of the module share, and the laws of the crate cite.
+-- What the laws of the crate and the scan cite.
 pub mod Longest
-mod Cases

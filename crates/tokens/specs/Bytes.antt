@@ -1,8 +1,8 @@
 -- Classes of bytes and longest runs (paper 01): "Spaces and tabs separate." "A word is the longest run of letters and digits that starts with a letter"; "A numeral is the
 -- longest run of letters, digits and dots that starts with a digit".
-use mathlib.Core.Bool.{Bool, true, false, _&&_, _||_, cond}
+use mathlib.Core.Bool.{Bool, true, _&&_, _||_, cond}
 use mathlib.Core.List.{List, [], _∷_}
-use Prim.Native.Nat.{ℕ, zero, suc}
+use Prim.Native.Nat.{ℕ, suc}
 use lib.Dec.{eqb, leb}
 use Rattle.memory.specs.Names.{isDigit}
 

@@ -1,21 +1,25 @@
 -- The tokens of a text with their places, and the first bytes that are none: "4, 5, 6 over the whole text, the smallest place first"; "Place is the byte offset of the token, or for 4
 -- of the bad byte or run."
-use mathlib.Core.Bool.{Bool, true, false, cond}
+use mathlib.Core.Bool.{Bool, cond}
 use mathlib.Core.List.{List, [], _∷_}
-use Prim.Native.Nat.{ℕ, zero, suc, _+_, _-_}
+use Prim.Native.Nat.{ℕ, zero, suc, _+_}
 use lib.Dec.{eqb}
-use lib.ListN.{length, getD, take, drop}
+use lib.ListN.{length, take, drop}
 use Rattle.memory.specs.Names.{isDigit}
 use Rattle.tokens.specs.declared.Token.{Token}
 use Rattle.tokens.specs.declared.Token.the-variants.{Symbol}
 use Rattle.tokens.specs.declared.Scanned.{Scanned}
 use Rattle.tokens.specs.declared.Scanned.the-variants.{Good, Bad}
-use Rattle.tokens.specs.declared.Lexeme.{Lexeme}
-use Rattle.tokens.specs.declared.Lexeme.the-variants.{Found, Wrong, End}
 use Rattle.tokens.specs.Bytes.{isLetter, isSpace, isWord, isRun, runLen}
 use Rattle.tokens.specs.Symbols.{symbolCount, symbolBytes, longest}
 use Rattle.tokens.specs.Numerals.{numeralOf}
 use Rattle.tokens.specs.Words.{wordOf}
+
+-- the next token from a position, with its place and where it ends; bytes that are none, with their answer and place; or the text's end
+pub data Lexeme : Type 0 where
+  Found : Token → ℕ → ℕ → Lexeme
+  Wrong : ℕ → ℕ → Lexeme
+  End : Lexeme
 
 -- n bytes at a place, judged
 abbrev pub lexeme : ℕ → ℕ → Scanned → Lexeme

@@ -1,5 +1,5 @@
 -- Words (paper 01): "a function name, a bank letter, or a bank letter and a decimal number without a leading zero (`0` itself is good). Any other word is 6. Case counts."
-use mathlib.Core.Bool.{Bool, true, false, cond}
+use mathlib.Core.Bool.{cond}
 use mathlib.Core.List.{List, [], _∷_}
 use Prim.Native.Nat.{ℕ}
 use Rattle.memory.specs.declared.names.Letter.{Letter}

@@ -1,7 +1,7 @@
 // Classes of bytes, and the longest runs of them.
 ghost use mathlib.Core.Path.{_≡_};
 ghost use Prim.Native.Nat.{_+_, _≤_};
-ghost use lib.ListN.{length, drop};
+ghost use lib.ListN.{length, getD, drop};
 ghost use Rattle.tokens.specs.Bytes.{inside, isLetter, isSpace, isWord, isRun, runLen};
 
 pub fn between(lo: u8, b: u8, hi: u8) -> bool
@@ -75,4 +75,11 @@ pub fn numeral_end(text: &[u8], at: usize) -> usize
         i += 1;
     }
     i
+}
+
+// The byte at a position, 0 past the end.
+pub fn byte_at(text: &[u8], at: usize) -> u8
+    ensures { λ r. ⌜ r ≡ getD (now (text .entry)) at 0 ⌝ }
+{
+    if at < text.len() { text[at] } else { 0 }
 }

@@ -1,8 +1,4 @@
-// Tokens of a formula's text, with their places (paper 01, "Tokens").
-ghost use mathlib.Core.Path.{_≡_};
-ghost use Prim.Native.Nat.{_≤_};
-ghost use lib.ListN.{length};
-ghost use Rattle.tokens.specs.Scan.{lexemeAt};
+// Tokens of a formula's text (paper 01, "Tokens"), and what the bytes of a whole numeral or word are.
 use memory::Bank;
 use values::Value;
 
@@ -36,41 +32,4 @@ pub enum Token {
 pub enum Scanned {
     Good(Token),
     Bad(u32),
-}
-
-// The next token from a position, with its place and where it ends; bytes that are none, with their answer and place; or the text's end.
-pub enum Lexeme {
-    Found(Token, usize, usize),
-    Wrong(u32, usize),
-    End,
-}
-
-pub fn next(text: &[u8], at: usize) -> Lexeme
-    requires { ⌜ at ≤ length (now text) ⌝ }
-    ensures { λ r. ⌜ r ≡ lexemeAt (now (text .entry)) at ⌝ }
-{
-    let start = bytes::space_end(text, at);
-    if text.len() <= start {
-        return Lexeme::End;
-    }
-    let b = text[start];
-    if memory::names::is_digit(b) {
-        let end = bytes::numeral_end(text, start);
-        return match numerals::numeral(&text[start..end]) {
-            Scanned::Good(t) => Lexeme::Found(t, start, end),
-            Scanned::Bad(a) => Lexeme::Wrong(a, start),
-        };
-    }
-    if bytes::is_letter(b) {
-        let end = bytes::word_end(text, start);
-        return match identifiers::word(&text[start..end]) {
-            Scanned::Good(t) => Lexeme::Found(t, start, end),
-            Scanned::Bad(a) => Lexeme::Wrong(a, start),
-        };
-    }
-    let n = symbols::symbol_at(text, start);
-    if n == symbols::NONE {
-        return Lexeme::Wrong(4, start);
-    }
-    Lexeme::Found(Token::Symbol(n), start, start + symbols::length_of(n))
 }

@@ -131,7 +131,7 @@ fn value_from(n: u32, run: &[u8]) -> u32
 }
 
 // One division of two exact singles.
-fn quotient(n: u32, k: usize) -> f32
+pub fn quotient(n: u32, k: usize) -> f32
     requires { ⌜ (n < 10000000) × (k ≤ 6) ⌝ }
     ensures { λ r. ⌜ r ≡ literal n k ⌝ }
 {

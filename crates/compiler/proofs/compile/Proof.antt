@@ -1,7 +1,7 @@
 -- `compiler::compile` meets its contract: the size of the buffer is tested first, then the length of the text.
 use native.Mathlib.Omega.{arith}
+use Rattle.compiler.proofs.Answers.{small, enough, no-text, too-long, no-tokens}
 use borrow.Author.Needs.{needs}
-use Rattle.compiler.proofs.Answers.{small, enough, no-text, too-long}
 use Rattle.compiler.proofs.compile.Statement.{statement}
 use Rattle.compiler.proofs.compile.Tie as tie
 
@@ -17,30 +17,53 @@ returns-3 c = let a = c .before .before .before .before .before .args in too-lon
 slice-aggregate-compile-in : tie.Need-slice-aggregate-compile-in
 slice-aggregate-compile-in c = search needs
 
+slice-aggregate-compile-in-2 : tie.Need-slice-aggregate-compile-in-2
+slice-aggregate-compile-in-2 c = search needs
+
 compile-in-requires : tie.Need-compile-in-requires
-compile-in-requires c κs = search needs
+compile-in-requires c κs = ((record { some = omega (arith, c .before .before .before .before .before .if2 .left); short = omega (arith, c .before .before .before .before .if3 .left) }, omega arith, omega arith), (no-tokens 64, (omega arith, omega arith)))
 
 same-length : tie.Need-same-length
 same-length c = search needs
 
 returns-4 : tie.Need-returns-4
 returns-4 c =
-    let a = c .before .before .before .before .before .before .before .before .before .before .before .before .args in
-    enough (a .text .now) (a .code .now) (omega arith) _ _ (c .before .before .before .compile-in .ensures)
+    let a = c .before .before .before .before .before .before .before .before .before .before .before .before .before .before .args in
+    enough (a .text .now) (a .code .now) (omega arith) _ _ (c .before .before .before .before .compile-in .ensures)
 
-slice-aggregate-compile-in-2 : tie.Need-slice-aggregate-compile-in-2
-slice-aggregate-compile-in-2 c = search needs
+slice-aggregate-compile-in-3 : tie.Need-slice-aggregate-compile-in-3
+slice-aggregate-compile-in-3 c = search needs
+
+slice-aggregate-compile-in-4 : tie.Need-slice-aggregate-compile-in-4
+slice-aggregate-compile-in-4 c = search needs
 
 compile-in-requires-2 : tie.Need-compile-in-requires-2
-compile-in-requires-2 c κs = search needs
+compile-in-requires-2 c κs = ((record { some = omega (arith, c .before .before .before .before .before .before .if2 .left); short = omega (arith, c .before .before .before .before .before .if3 .left) }, omega arith, omega arith), (no-tokens 256, (omega arith, omega arith)))
 
 same-length-2 : tie.Need-same-length-2
 same-length-2 c = search needs
 
 returns-5 : tie.Need-returns-5
 returns-5 c =
-    let a = c .before .before .before .before .before .before .before .before .before .before .before .before .args in
-    enough (a .text .now) (a .code .now) (omega arith) _ _ (c .before .before .before .compile-in2 .ensures)
+    let a = c .before .before .before .before .before .before .before .before .before .before .before .before .before .before .before .args in
+    enough (a .text .now) (a .code .now) (omega arith) _ _ (c .before .before .before .before .compile-in2 .ensures)
+
+slice-aggregate-compile-in-5 : tie.Need-slice-aggregate-compile-in-5
+slice-aggregate-compile-in-5 c = search needs
+
+slice-aggregate-compile-in-6 : tie.Need-slice-aggregate-compile-in-6
+slice-aggregate-compile-in-6 c = search needs
+
+compile-in-requires-3 : tie.Need-compile-in-requires-3
+compile-in-requires-3 c κs = ((record { some = omega (arith, c .before .before .before .before .before .before .if2 .left); short = omega (arith, c .before .before .before .before .before .if3 .left) }, omega arith, omega arith), (no-tokens 1025, (omega arith, omega arith)))
+
+same-length-3 : tie.Need-same-length-3
+same-length-3 c = search needs
+
+returns-6 : tie.Need-returns-6
+returns-6 c =
+    let a = c .before .before .before .before .before .before .before .before .before .before .before .before .before .before .before .args in
+    enough (a .text .now) (a .code .now) (omega arith) _ _ (c .before .before .before .before .compile-in3 .ensures)
 
 pub compile-spec : {M : Type 1} → statement M
 compile-spec =
@@ -50,10 +73,17 @@ compile-spec =
     returns-2
     returns-3
     slice-aggregate-compile-in
+    slice-aggregate-compile-in-2
     compile-in-requires
     same-length
     returns-4
-    slice-aggregate-compile-in-2
+    slice-aggregate-compile-in-3
+    slice-aggregate-compile-in-4
     compile-in-requires-2
     same-length-2
-    returns-5)
+    returns-5
+    slice-aggregate-compile-in-5
+    slice-aggregate-compile-in-6
+    compile-in-requires-3
+    same-length-3
+    returns-6)

@@ -1,8 +1,10 @@
 -- `token_table::fill` meets its contract. The invariant: what fills the rest, behind the words that are written, fills the whole.
+use mathlib.Core.Path.{sym, _∙_}
 use Prim.Native.Nat.{_-_}
+use native.Mathlib.Omega.{arith}
 use lib.ListN.{length}
 use borrow.Author.Needs.{needs}
-use Rattle.token_table.proofs.Filling.{Filling, begin, can-pack, moves-on, goes-on, stops, ends}
+use Rattle.token_table.proofs.Filling.{Filling, begin, ends, stops, has-room, moves-on, goes-on}
 use Rattle.token_table.proofs.fill.Statement.{statement}
 use Rattle.token_table.proofs.fill.Tie as tie
 
@@ -15,14 +17,8 @@ abbrev μ-loop : tie.MeasureT-loop
 loop-holds : tie.Need-loop-holds Inv-loop μ-loop
 loop-holds c = begin _ _
 
-next-requires : tie.Need-next-requires Inv-loop μ-loop
-next-requires c κs = c .loop .inv .within
-
-enum-known-t : tie.Need-enum-known-t Inv-loop μ-loop
-enum-known-t c = search needs
-
-pack-requires : tie.Need-pack-requires Inv-loop μ-loop
-pack-requires c κs = can-pack (c .before .before .before .before .loop .inv) (c .before .before .before .before .before .before .before .pre .1) (c .before .before .before .next .ensures) (c .before .t .given .1) (c .before .before .before .before .before .before .before .pre .0)
+space-end-requires : tie.Need-space-end-requires Inv-loop μ-loop
+space-end-requires c κs = c .loop .inv .within
 
 mul-table : tie.Need-mul-table Inv-loop μ-loop
 mul-table c = search needs
@@ -30,38 +26,47 @@ mul-table c = search needs
 slice-write-table : tie.Need-slice-write-table Inv-loop μ-loop
 slice-write-table c = search needs
 
-add-n : tie.Need-add-n Inv-loop μ-loop
-add-n c = search needs
-
-loop-less : tie.Need-loop-less Inv-loop μ-loop
-loop-less c = moves-on (c .before .before .before .before .before .loop .inv) (c .before .before .before .before .before .before .before .before .pre .1) (c .before .before .before .before .next .ensures) (c .before .before .t .given .1)
-
-loop-again : tie.Need-loop-again Inv-loop μ-loop
-loop-again c = goes-on (c .before .before .before .before .before .loop .inv) (c .before .before .before .before .before .before .before .before .pre .1) (c .before .before .before .before .next .ensures) (c .before .before .t .given .1) (c .pack .ensures)
-
-enum-known-a : tie.Need-enum-known-a Inv-loop μ-loop
-enum-known-a c = search needs
-
 same-length : tie.Need-same-length Inv-loop μ-loop
 same-length c = search needs
 
 returns : tie.Need-returns Inv-loop μ-loop
-returns c = stops (c .before .before .before .before .loop .inv) (c .before .before .before .before .before .before .before .pre .1) (c .before .before .before .next .ensures) (c .before .a .given .1)
+returns c = ends (c .before .before .loop .inv) (c .before .before .before .before .before .pre .0) (c .before .before .before .before .before .pre .1) (c .before .space-end .ensures .0) (c .if1 .taken)
 
-enum-told : tie.Need-enum-told Inv-loop μ-loop
-enum-told c = search needs
+token-at-requires : tie.Need-token-at-requires Inv-loop μ-loop
+token-at-requires c κs = search needs
 
-mul-table-2 : tie.Need-mul-table-2 Inv-loop μ-loop
-mul-table-2 c = search needs
+class-of-requires : tie.Need-class-of-requires Inv-loop μ-loop
+class-of-requires c κs = search needs
 
-slice-write-table-2 : tie.Need-slice-write-table-2 Inv-loop μ-loop
-slice-write-table-2 c = search needs
+number-of-requires : tie.Need-number-of-requires Inv-loop μ-loop
+number-of-requires c κs = search needs
 
 same-length-2 : tie.Need-same-length-2 Inv-loop μ-loop
 same-length-2 c = search needs
 
 returns-2 : tie.Need-returns-2 Inv-loop μ-loop
-returns-2 c = ends (c .before .before .before .loop .inv) (c .before .before .before .before .before .before .pre .1) (c .before .before .next .ensures) (c .enum-told .given .1)
+returns-2 c = rw (c .number-of .ensures) (stops (c .before .before .before .before .before .before .loop .inv) (c .before .before .before .before .before .before .before .before .before .pre .0) (c .before .before .before .before .before .before .before .before .before .pre .1) (c .before .before .before .before .before .space-end .ensures .0) (c .before .before .before .token-at .ensures) (sym (c .before .before .class-of .ensures) ∙ c .before .if2 .taken))
+
+mul-table-2 : tie.Need-mul-table-2 Inv-loop μ-loop
+mul-table-2 c = search needs
+
+add-table : tie.Need-add-table Inv-loop μ-loop
+add-table c = omega (arith, has-room (c .before .before .before .before .before .loop .inv) (c .before .before .before .before .before .before .before .before .pre .0) (c .before .before .before .before .before .before .before .before .pre .1) (c .before .before .before .before .space-end .ensures .0) (c .before .before .token-at .ensures) (λ z. c .if2 .left (c .before .class-of .ensures ∙ z)) (search needs))
+
+mul-table-3 : tie.Need-mul-table-3 Inv-loop μ-loop
+mul-table-3 c = search needs
+
+slice-write-table-2 : tie.Need-slice-write-table-2 Inv-loop μ-loop
+slice-write-table-2 c = search needs
+
+add-n : tie.Need-add-n Inv-loop μ-loop
+add-n c = search needs
+
+loop-less : tie.Need-loop-less Inv-loop μ-loop
+loop-less c = moves-on (c .before .before .before .before .before .loop .inv) (c .before .before .before .before .before .before .before .before .pre .0) (c .before .before .before .before .before .before .before .before .pre .1) (c .before .before .before .before .space-end .ensures .0) (c .before .before .token-at .ensures) (λ z. c .if2 .left (c .before .class-of .ensures ∙ z))
+
+loop-again : tie.Need-loop-again Inv-loop μ-loop
+loop-again c = goes-on (c .before .before .before .before .before .loop .inv) (c .before .before .before .before .before .before .before .before .pre .0) (c .before .before .before .before .before .before .before .before .pre .1) (c .before .before .before .before .space-end .ensures .0) (c .before .before .token-at .ensures) (λ z. c .if2 .left (c .before .class-of .ensures ∙ z))
 
 pub fill-spec : {M : Type 1} → statement M
 fill-spec =
@@ -70,19 +75,20 @@ fill-spec =
     Inv-loop
     μ-loop
     loop-holds
-    next-requires
-    enum-known-t
-    pack-requires
+    space-end-requires
     mul-table
     slice-write-table
-    add-n
-    loop-less
-    loop-again
-    enum-known-a
     same-length
     returns
-    enum-told
-    mul-table-2
-    slice-write-table-2
+    token-at-requires
+    class-of-requires
+    number-of-requires
     same-length-2
-    returns-2)
+    returns-2
+    mul-table-2
+    add-table
+    mul-table-3
+    slice-write-table-2
+    add-n
+    loop-less
+    loop-again)

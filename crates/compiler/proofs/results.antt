@@ -1,0 +1,2 @@
+-- Laws for the proofs of results, and of what takes a result apart.
+pub mod Fields

@@ -1,0 +1,56 @@
+-- For the contracts of private functions: what reading returns, packed into one word of 64 bits. Only the functions of the module `results` see the bits.
+use mathlib.Core.Bool.{Bool, true, false, cond}
+use Prim.Native.Nat.{ℕ, _+_, _/_, _%_, _^_}
+use lib.Dec.{eqb, ltb}
+use Rattle.values.specs.declared.Kind.{Kind}
+use Rattle.values.specs.declared.Kind.the-variants.{Int, Real}
+use Rattle.grammar.specs.Tree.{Place, nowhere, at}
+
+-- where in the table and in the draft reading got to, the kind of what was read and its first wrong kind; where the first token is that no formula has there; or an opener met with eight still open
+pub data Read : Type 0 where
+  Done : ℕ → ℕ → Kind → Place → Read
+  Bad : ℕ → Read
+  Deep : ℕ → Read
+
+abbrev pub isDone : Read → Bool
+isDone (Done j e k w) = true
+isDone (Bad i) = false
+isDone (Deep i) = false
+
+-- one token further
+abbrev pub further : Read → Read
+further (Done j e k w) = Done (j + 1) e k w
+further (Bad i) = Bad (i + 1)
+further (Deep i) = Deep (i + 1)
+
+-- the answer of a refusal
+abbrev pub refusal : Read → ℕ
+refusal (Done j e k w) = 7
+refusal (Bad i) = 7
+refusal (Deep i) = 8
+
+-- a kind and a place as numbers: every number of 16 bits is a place, and any other is none, so the earlier place is the lesser number
+abbrev pub kindIs : ℕ → Kind
+kindIs n = cond (eqb n 0) Int Real
+
+abbrev pub placed : ℕ → Place
+placed n = cond (ltb n 65536) (at n) nowhere
+
+-- 16 bits of a position, 16 of an end, 1 of a kind, 2 of a status, 29 of a place
+unfoldable pub readNext : ℕ → ℕ
+readNext r = r % 65536
+
+unfoldable pub readEnd : ℕ → ℕ
+readEnd r = r / 65536 % 65536
+
+unfoldable pub readKind : ℕ → Kind
+readKind r = kindIs (r / 2 ^ 32 % 2)
+
+unfoldable pub readWrong : ℕ → Place
+readWrong r = placed (r / 2 ^ 35)
+
+unfoldable pub readOf : ℕ → Read
+unfolding readNext readEnd readKind readWrong
+readOf r =
+    cond (eqb (r / 2 ^ 33 % 4) 0) (Done (readNext r) (readEnd r) (readKind r) (readWrong r))
+    (cond (eqb (r / 2 ^ 33 % 4) 1) (Bad (readNext r)) (Deep (readNext r)))

@@ -1,0 +1,70 @@
+-- For the contracts of private functions: what is asked of a token's word.
+use mathlib.Core.Path.{_≡_}
+use mathlib.Core.Bool.{Bool, false, cond}
+use mathlib.Core.List.{List, [], _∷_}
+use Prim.Native.Nat.{ℕ, _+_, _*_, _%_, _≤_, _<_}
+use lib.Dec.{eqb, ltb}
+use lib.ListN.{length, getD}
+use Rattle.values.specs.declared.Kind.{Kind}
+use Rattle.values.specs.declared.Kind.the-variants.{Int, Real}
+use Rattle.operators.specs.declared.UnaryOp.{UnaryOp}
+use Rattle.operators.specs.declared.UnaryOp.the-variants as U
+use Rattle.operators.specs.declared.BinaryOp.{BinaryOp}
+use Rattle.operators.specs.declared.BinaryOp.the-variants as B
+use Rattle.operators.specs.Tables.{unaryOps, binaryOps}
+use Rattle.memory.specs.declared.Bank.{Bank}
+use Rattle.memory.specs.declared.Bank.the-variants.{X}
+use Rattle.memory.specs.Cells.{bankKind}
+use Rattle.memory.specs.Numbers.{banks}
+use Rattle.tokens.specs.declared.Function.{Function}
+use Rattle.tokens.specs.declared.Function.the-variants.{Abs}
+use Rattle.tokens.specs.Words.{functions}
+use Rattle.token_table.specs.Table.{classOf, operandOf, wordPlace, wordAt}
+use Rattle.grammar.specs.Symbols.{groupNumber}
+
+-- operators, banks and functions by number
+abbrev pub unaryAt : ℕ → UnaryOp
+unaryAt n = getD unaryOps n U.Neg
+
+abbrev pub binaryAt : ℕ → BinaryOp
+binaryAt n = getD binaryOps n B.Power
+
+abbrev pub bankAt : ℕ → Bank
+bankAt n = getD banks n X
+
+abbrev pub functionAt : ℕ → Function
+functionAt n = getD functions n Abs
+
+-- the operator of a function of one argument
+abbrev pub functionOp : ℕ → UnaryOp
+functionOp n = getD (U.Abs ∷ U.ToReal ∷ U.Trunc ∷ U.Trunc ∷ U.Round ∷ U.Frac ∷ []) n U.Neg
+
+-- a number or a cell
+abbrev pub isLeaf : ℕ → Bool
+isLeaf w = cond (eqb (classOf w) 0) false (ltb (classOf w) 4)
+
+abbrev pub leafKind : ℕ → Kind
+leafKind w = cond (eqb (classOf w) 1) Int (cond (eqb (classOf w) 2) Real (bankKind (bankAt (operandOf w))))
+
+-- the symbol n
+abbrev pub isMark : ℕ → ℕ → Bool
+isMark n w = eqb (w % 65536) (6 + 256 * n)
+
+-- the number of a unary operator, or 3
+abbrev pub signOf : ℕ → ℕ
+signOf w = cond (eqb (w % 65536) 1286) 0 (cond (eqb (w % 65536) 5126) 1 (cond (eqb (w % 65536) 5382) 2 3))
+
+-- the group of a binary operator, or 0
+abbrev pub groupIn : ℕ → ℕ
+groupIn w = cond (eqb (classOf w) 6) (groupNumber (operandOf w)) 0
+
+-- the place of a token; the text's size behind the last
+abbrev pub placeAt : ℕ → ℕ → ℕ
+placeAt size w = cond (eqb (classOf w) 0) size (wordPlace w)
+
+-- unary operators stand from `at` up to `end`, and no further
+pub record Signs (s : List ℕ) (at end : ℕ) : Type 0 where
+  pub ahead : at ≤ end
+  pub within : end ≤ length s
+  pub each : (i : ℕ) → at ≤ i → i < end → signOf (wordAt s i) < 3
+  pub stops : signOf (wordAt s end) ≡ 3

@@ -1,0 +1,231 @@
+// One pass over a table of tokens: the grammar, the nesting, the kinds and the code. No tree is built. Recursion goes as deep as brackets nest, times the groups of operators; a chain of operators, unary
+// or binary, is a loop. The code goes into a draft, since a text may be refused at its last token. Each function takes the position in the table, `at`, and the place in the draft, `pc`, and `room`
+// for so many brackets more.
+ghost use mathlib.Core.Path.{_≡_};
+ghost use mathlib.Core.Bool.{true};
+ghost use mathlib.Core.List.{List, []};
+ghost use Prim.Native.Nat.{ℕ, _+_, _<_};
+ghost use lib.ListN.{length};
+ghost use Rattle.token_table.specs.Table.{listed};
+ghost use Rattle.grammar.specs.Tree.{Tree, nowhere, wrongKind};
+ghost use Rattle.grammar.specs.Symbols.{loosest};
+ghost use Rattle.grammar.specs.Parse.{ok, enter, expression, operand, bracket, parse};
+ghost use Rattle.text.specs.Judge.{ofParse};
+ghost use Rattle.compiler.specs.Compile.{codedAnswer, codedBytes};
+ghost use Rattle.compiler.specs.Results.{isDone, readNext, readEnd, readOf};
+ghost use Rattle.compiler.specs.Words.{functionAt, Signs};
+ghost use Rattle.compiler.specs.Draft.{Unaries};
+ghost use Rattle.compiler.specs.Reading.{Fits, Reads, primaryOf, and, callOf, Branches, Holds};
+use crate::Coded;
+use crate::ahead;
+use crate::draft;
+use crate::results;
+use crate::results::NOWHERE;
+use tokens::symbols;
+
+// "more than eight open" is refused
+const MOST_OPEN: u8 = 8;
+
+const LOOSEST: u8 = 11;
+
+// The unary operators from `at` up to `first`, the last of them first, behind their operand.
+fn signed(table: &[u64], draft: &mut [u64], at: usize, first: usize, inner: u64) -> u64
+    requires { ⌜ Signs (now table) at first ⌝ }
+    requires { ⌜ isDone (readOf inner) ≡ true ⌝ }
+    requires { ⌜ readEnd inner + first < 65000 + at ⌝ }
+    ensures { λ r. ⌜ Unaries (now (table .entry)) first (now (draft .entry)) (readOf inner) at (now (draft .exit)) (readOf r) ⌝ }
+{
+    let mut read = inner;
+    let mut i = first;
+    while at < i {
+        i -= 1;
+        read = draft::prefixed(draft, token_table::word_at(table, i), read);
+    }
+    read
+}
+
+// expression: operand { infix expression of a tighter group }
+fn expression(table: &[u64], draft: &mut [u64], at: usize, pc: usize, room: u8, level: u8) -> u64
+    requires { ⌜ Fits (now table) at pc ⌝ }
+    ensures { λ r. ⌜ Reads (λ f ts. expression f room level ts) 3 (now (table .entry)) at pc (now (draft .entry)) (now (draft .exit)) (readOf r) ⌝ }
+{
+    let mut left = operand(table, draft, at, pc, room);
+    if !results::is_done(left) {
+        return left;
+    }
+    loop {
+        let j = results::next_of(left);
+        let w = token_table::word_at(table, j);
+        let g = ahead::group_in(w);
+        if g == 0 {
+            return left;
+        }
+        if level < g {
+            return left;
+        }
+        let place = results::end_of(left) + draft::reserve(token_table::operand_of(w));
+        let right = expression(table, draft, j + 1, place, room, g - 1);
+        if !results::is_done(right) {
+            return right;
+        }
+        left = draft::joined(draft, w, left, right);
+    }
+}
+
+// operand: { - | ~ | ! } primary. Most operands are numbers and cells: they need no further call.
+fn operand(table: &[u64], draft: &mut [u64], at: usize, pc: usize, room: u8) -> u64
+    requires { ⌜ Fits (now table) at pc ⌝ }
+    ensures { λ r. ⌜ Reads (λ f ts. operand f room ts) 2 (now (table .entry)) at pc (now (draft .entry)) (now (draft .exit)) (readOf r) ⌝ }
+{
+    let w = token_table::word_at(table, at);
+    if ahead::is_leaf(w) {
+        return draft::leaf(draft, w, at, pc);
+    }
+    let first = ahead::signs_end(table, at);
+    let inner = primary(table, draft, first, pc, room);
+    if !results::is_done(inner) {
+        return inner;
+    }
+    signed(table, draft, at, first, inner)
+}
+
+// primary: number | cell | letter [ expression ] | name ( arguments ) | ( expression )
+fn primary(table: &[u64], draft: &mut [u64], at: usize, pc: usize, room: u8) -> u64
+    requires { ⌜ Fits (now table) at pc ⌝ }
+    ensures { λ r. ⌜ Reads (λ f ts. primaryOf f room ts) 1 (now (table .entry)) at pc (now (draft .entry)) (now (draft .exit)) (readOf r) ⌝ }
+{
+    let w = token_table::word_at(table, at);
+    let n = token_table::operand_of(w);
+    match token_table::class_of(w) {
+        0 => results::bad(at),
+        4 => {
+            let open = symbols::OPEN_INDEX;
+            let index = bracket(table, draft, at + 1, pc, room, open, symbols::CLOSE_INDEX);
+            if !results::is_done(index) {
+                return index;
+            }
+            draft::loaded(draft, n, index)
+        }
+        5 => arguments(table, draft, at + 1, pc, room, n),
+        6 => bracket(table, draft, at, pc, room, symbols::OPEN, symbols::CLOSE),
+        _ => draft::leaf(draft, w, at, pc),
+    }
+}
+
+// An expression, and the symbol that ends it.
+fn enclosed(table: &[u64], draft: &mut [u64], at: usize, pc: usize, room: u8, closer: u8) -> u64
+    requires { ⌜ Fits (now table) at pc ⌝ }
+    ensures { λ r. ⌜ Reads (λ f ts. and closer (expression f room loosest ts)) 3 (now (table .entry)) at pc (now (draft .entry)) (now (draft .exit)) (readOf r) ⌝ }
+{
+    let inner = expression(table, draft, at, pc, room, LOOSEST);
+    if !results::is_done(inner) {
+        return inner;
+    }
+    let j = results::next_of(inner);
+    if ahead::expected(table, j, closer) {
+        return results::past(inner);
+    }
+    results::bad(j)
+}
+
+// bracket: open expression close
+fn bracket(
+    table: &[u64],
+    draft: &mut [u64],
+    at: usize,
+    pc: usize,
+    room: u8,
+    opener: u8,
+    closer: u8,
+) -> u64
+    requires { ⌜ Fits (now table) at pc ⌝ }
+    ensures { λ r. ⌜ Reads (λ f ts. enter room opener ts (λ e q. bracket f e closer q)) 0 (now (table .entry)) at pc (now (draft .entry)) (now (draft .exit)) (readOf r) ⌝ }
+{
+    if !ahead::expected(table, at, opener) {
+        return results::bad(at);
+    }
+    if room == 0 {
+        return results::deep(at);
+    }
+    enclosed(table, draft, at + 1, pc, room - 1, closer)
+}
+
+// arguments: ( expression { , expression } ), and what the function f makes of them. The first six functions have one argument, the next two have two, and IF has three.
+fn arguments(table: &[u64], draft: &mut [u64], at: usize, pc: usize, room: u8, f: u8) -> u64
+    requires { ⌜ Fits (now table) at pc ⌝ }
+    requires { ⌜ f < 9 ⌝ }
+    ensures { λ r. ⌜ ((p : ℕ) → Reads (λ n ts. callOf (functionAt f) p room n ts) 0 (now (table .entry)) at pc (now (draft .entry)) (now (draft .exit)) (readOf r)) ⌝ }
+{
+    if !ahead::expected(table, at, symbols::OPEN) {
+        return results::bad(at);
+    }
+    if room == 0 {
+        return results::deep(at);
+    }
+    if f < 6 {
+        let only = enclosed(table, draft, at + 1, pc, room - 1, symbols::CLOSE);
+        if !results::is_done(only) {
+            return only;
+        }
+        return draft::applied(draft, f, only);
+    }
+    let first = enclosed(table, draft, at + 1, pc, room - 1, symbols::COMMA);
+    if !results::is_done(first) {
+        return first;
+    }
+    if f < 8 {
+        let next = results::next_of(first);
+        let end = results::end_of(first);
+        let last = enclosed(table, draft, next, end, room - 1, symbols::CLOSE);
+        if !results::is_done(last) {
+            return last;
+        }
+        return draft::paired(draft, f, first, last);
+    }
+    branches(table, draft, first, room - 1)
+}
+
+// The branches of IF behind its condition: only one of them runs.
+fn branches(table: &[u64], draft: &mut [u64], condition: u64, room: u8) -> u64
+    requires { ⌜ Fits (now table) (readNext condition) (readEnd condition + 4) ⌝ }
+    ensures { λ r. ⌜ Branches room (now (table .entry)) condition (now (draft .entry)) (now (draft .exit)) (readOf r) ⌝ }
+{
+    let next = results::next_of(condition);
+    let end = results::end_of(condition);
+    let first = enclosed(table, draft, next, end + 1, room, symbols::COMMA);
+    if !results::is_done(first) {
+        return first;
+    }
+    draft::decided(draft, condition, first);
+    let j = results::next_of(first);
+    let k = results::end_of(first);
+    let second = enclosed(table, draft, j, k + 1, room, symbols::CLOSE);
+    if !results::is_done(second) {
+        return second;
+    }
+    draft::chosen(draft, condition, first, second)
+}
+
+// The whole table, of a text of `size` bytes: an expression, and nothing after it. Only then is the draft copied.
+pub fn formula(table: &[u64], draft: &mut [u64], size: usize, code: &mut [u8]) -> Coded
+    requires { ⌜ Fits (now table) 0 0 ⌝ }
+    requires { ⌜ ((t : Tree) → parse (listed (now table)) ≡ ok t [] → wrongKind t ≡ nowhere → Holds (length (now draft)) (length (now code)) t) ⌝ }
+    ensures { λ r. ⌜ ((s : List ℕ) → length s ≡ size → (r ≡ codedAnswer (ofParse s (parse (listed (now (table .entry)))))) × (now (code .exit) ≡ codedBytes (now (code .entry)) (ofParse s (parse (listed (now (table .entry))))))) ⌝ }
+{
+    let whole = expression(table, draft, 0, 0, MOST_OPEN, LOOSEST);
+    let at = results::next_of(whole);
+    if !results::is_done(whole) {
+        return Coded::Refused(results::refusal_of(whole), ahead::place_at(table, at, size));
+    }
+    let w = token_table::word_at(table, at);
+    if token_table::class_of(w) != 0 {
+        return Coded::Refused(7, token_table::place_of(w));
+    }
+    let wrong = results::wrong_of(whole);
+    if wrong < NOWHERE {
+        return Coded::Refused(9, wrong as usize);
+    }
+    let n = results::end_of(whole);
+    draft::copy(draft, n, code);
+    Coded::Done(n)
+}

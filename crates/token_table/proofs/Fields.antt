@@ -1,0 +1,70 @@
+-- What the fields of a word hold, for `pack` and for the law that it is undone.
+use mathlib.Core.Path.{_≡_, refl}
+use mathlib.Core.Bool.{not}
+use Prim.Native.Nat.{ℕ, _<_}
+use native.Mathlib.Omega.{arith}
+use lib.Dec.{T, lit<}
+use lib.Ieee.{Float, nan, inf, fin, isNan}
+use lib.Ieee.Scale.{finite}
+use Rattle.values.specs.declared.Value.the-variants.{Real}
+use Rattle.operators.specs.Laws.{Proper}
+use Rattle.memory.specs.declared.Bank.{Bank}
+use Rattle.memory.specs.declared.Bank.the-variants.{X, C, «V», N, D, R}
+use Rattle.memory.specs.declared.numbers.BankOf.the-variants as BankOf
+use Rattle.memory.specs.Cells.{finiteOr13}
+use Rattle.memory.specs.Numbers.{bankNumbered, bankNumber}
+use Rattle.memory.proofs.cells.Exponents.{finite-number}
+use Rattle.tokens.specs.declared.Function.{Function}
+use Rattle.tokens.specs.declared.Function.the-variants.{Abs, ToReal, ToInt, Trunc, Round, Frac, Max, Min, If}
+use Rattle.tokens.specs.declared.Token.{Token}
+use Rattle.tokens.specs.declared.Token.the-variants.{Number}
+use Rattle.tokens.proofs.Known.{Known}
+use Rattle.token_table.specs.Table.{Entry, FunctionOf, functionNumber, functionNumbered, fields, classOf, operandOf, numberOf, wordPlace, realAt, Sound}
+
+-- ---- sound tokens
+pub has-pattern : {x : Float} → Sound (Number (Real x)) → T (not (isNan x))
+has-pattern (Sound.real x S) = finite-number x (S .real)
+
+-- a token of a text is sound
+pub known-sound : {t : Token} → Known t → Sound t
+known-sound (Known.number _ (Proper.int z h)) = Sound.int z h
+known-sound (Known.number _ (Proper.real x h)) = Sound.real x h
+known-sound (Known.cell b i h) = Sound.cell b i h
+known-sound (Known.letter b) = Sound.letter b
+known-sound (Known.name f) = Sound.name f
+known-sound (Known.sign n h) = Sound.symbol n h
+
+-- ---- the fields of a word
+pub record Parts (w c o n p : ℕ) : Type 0 where
+  pub class : classOf w ≡ c
+  pub operand : operandOf w ≡ o
+  pub number : numberOf w ≡ n
+  pub place : wordPlace w ≡ p
+
+pub parts : (class operand number place : ℕ) → class < 256 → operand < 256 → place < 65536 → Parts (fields class operand number place) class operand number place
+parts class operand number place h k l = record { class = omega arith; operand = omega arith; number = omega arith; place = omega arith }
+
+-- ---- operands and their numbers
+pub bank : (b : Bank) → (bankNumber b < 256) × (bankNumbered (bankNumber b) ≡ BankOf.Is b)
+bank X = (lit< tt, refl)
+bank C = (lit< tt, refl)
+bank «V» = (lit< tt, refl)
+bank N = (lit< tt, refl)
+bank D = (lit< tt, refl)
+bank R = (lit< tt, refl)
+
+pub function : (f : Function) → (functionNumber f < 256) × (functionNumbered (functionNumber f) ≡ FunctionOf.Is f)
+function Abs = (lit< tt, refl)
+function ToReal = (lit< tt, refl)
+function ToInt = (lit< tt, refl)
+function Trunc = (lit< tt, refl)
+function Round = (lit< tt, refl)
+function Frac = (lit< tt, refl)
+function Max = (lit< tt, refl)
+function Min = (lit< tt, refl)
+function If = (lit< tt, refl)
+
+pub finite-real : (x : Float) (p : ℕ) → T (finite x) → realAt (finiteOr13 x) p ≡ Entry.Is (Number (Real x)) p
+finite-real nan p h = absurd h
+finite-real (inf s) p h = absurd h
+finite-real (fin s m e) p h = refl

@@ -1,0 +1,3 @@
+-- What the proofs of the module share, and those of cells.
+pub mod Runs
+mod Forms

@@ -1,0 +1,56 @@
+-- Demand 3, on trees: "its compiled code gives what the written rules give for the formula's tree on that memory: a value of the same kind, the same bit for bit, or a fault exactly when the rules give one, and then the
+-- same fault. The code check accepts that code, which executes at most two instructions for each character and never holds more than 128 values." proofs/Demand.antt proves `Demand`.
+use mathlib.Core.Path.{_≡_}
+use mathlib.Core.List.{List, [], _∷_}
+use Prim.Native.Nat.{ℕ, _+_, _*_, _≤_, _<_}
+use lib.ListN.{length}
+use Rattle.values.specs.declared.Outcome.{Outcome}
+use Rattle.values.specs.declared.Outcome.the-variants as Outcome
+use Rattle.operators.specs.Laws.{OfKind}
+use Rattle.memory.specs.Environment.{Environment}
+use Rattle.tokens.specs.declared.Token.{Token}
+use Rattle.tokens.specs.declared.Token.the-variants.{Number, Cell, Letter, Name, Symbol}
+use Rattle.tokens.specs.Symbols.{symbolBytes}
+use Rattle.tokens.specs.Words.{nameOf}
+use Rattle.tokens.specs.Scan.{Tok}
+use Rattle.grammar.specs.Tree.{Tree, Place, nowhere, treeKind, wrongKind}
+use Rattle.grammar.specs.Worth.{worth}
+use Rattle.grammar.specs.Grammar.{Formula}
+use Rattle.grammar.specs.Theorems.{Shallow}
+use Rattle.machine.specs.declared.Ended.{Ended}
+use Rattle.machine.specs.declared.Ended.the-variants.{Done, Stopped, Stuck}
+use Rattle.machine.specs.Machine.{exec}
+use Rattle.verifier.specs.Accepts.{Accepts}
+use Rattle.verifier.specs.Safety.{Kinded}
+use Rattle.tree_code.specs.Code.{codeOf}
+
+-- how a run ends that is worth an outcome
+abbrev pub endOf : Outcome → Ended
+endOf (Outcome.Done v) = Done v
+endOf (Outcome.Stopped f) = Stopped f
+endOf Outcome.WrongKind = Stuck
+
+-- the bytes that a token takes at the least; blanks only add to them
+abbrev pub bytesOfToken : Token → ℕ
+bytesOfToken (Number v) = 1
+bytesOfToken (Cell b i) = 2
+bytesOfToken (Letter b) = 1
+bytesOfToken (Name f) = length (nameOf f)
+bytesOfToken (Symbol n) = length (symbolBytes n)
+
+unfoldable pub leastBytes : List Tok → ℕ
+leastBytes [] = 0
+leastBytes (x ∷ xs) = bytesOfToken (x .token) + leastBytes xs
+
+pub record Compiled (t : Tree) (n : ℕ) : Type 0 where
+  -- the rules give a value of the formula's kind, or a fault
+  pub kind : (E : Environment) → Kinded E → OfKind (treeKind t) (worth E t)
+  -- the code gives the same value, kind and bits, or the same fault; so it is never stuck: never short of a value, and never more than 128 held
+  pub same : (E : Environment) → Kinded E → exec E (codeOf t) 0 [] .end ≡ endOf (worth E t)
+  pub accepted : Accepts (codeOf t) (treeKind t)
+  -- it has, and begins, at most two instructions a byte
+  pub short : length (codeOf t) ≤ 2 * n
+  pub quick : (E : Environment) → exec E (codeOf t) 0 [] .count ≤ 2 * n
+
+pub record Demand : Type 0 where
+  pub compiled : (w : List Tok) (t : Tree) (n : ℕ) → Formula w t → Shallow 0 w → wrongKind t ≡ nowhere → leastBytes w ≤ n → n ≤ 1024 → Compiled t n
