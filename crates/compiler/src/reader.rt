@@ -112,7 +112,7 @@ fn primary(table: &[u64], draft: &mut [u64], at: usize, pc: usize, room: u8) -> 
     }
 }
 
-// An expression, and the symbol that ends it.
+// enclosed: expression closer. An argument, or what a bracket encloses, with the symbol behind it.
 fn enclosed(table: &[u64], draft: &mut [u64], at: usize, pc: usize, room: u8, closer: u8) -> u64
     requires { ⌜ Fits (now table) at pc ⌝ }
     ensures { λ r. ⌜ Reads (λ f ts. and closer (expression f room loosest ts)) 3 (now (table .entry)) at pc (now (draft .entry)) (now (draft .exit)) (readOf r) ⌝ }

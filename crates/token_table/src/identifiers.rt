@@ -16,6 +16,7 @@ use memory::Bank;
 use memory::names::Letter;
 use tokens::bytes;
 
+// Any run that starts with a letter.
 fn judged(text: &[u8], at: usize) -> Lex
     requires { ⌜ at ≤ length (now text) ⌝ }
     ensures { λ r. ⌜ Lexes (running isWord wordOf (drop at (now (text .entry))) at) (r .word) (r .end) ⌝ }
@@ -45,8 +46,11 @@ fn cell_at(text: &[u8], at: usize, bank: Bank) -> Lex
     if (memory::layout_of(bank).elements as u64) <= e {
         return judged(text, at);
     }
-    if first == 48 && end != at + 2 {
-        return judged(text, at);
+    // a leading zero
+    if first == 48 {
+        if end != at + 2 {
+            return judged(text, at);
+        }
     }
     Lex {
         word: packing::word(3, memory::numbers::bank_number(bank), e as u32),

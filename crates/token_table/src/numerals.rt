@@ -19,7 +19,7 @@ pub struct Reading {
     pub next: u8,
 }
 
-// The digits at a position, after those that make n; left early above the limit.
+// The digits at a position, after those that make n; left early above the limit, and then a digit comes next.
 pub fn digits(text: &[u8], at: usize, n: u64, limit: u64) -> Reading
     requires { ⌜ (at ≤ length (now text)) × (limit < 2 ^ 32) ⌝ }
     ensures { λ r. ⌜ Reads (now (text .entry)) at n (r .value) (r .end) (r .next) ⌝ }
@@ -28,14 +28,7 @@ pub fn digits(text: &[u8], at: usize, n: u64, limit: u64) -> Reading
     let mut i = at;
     while i < text.len() {
         let b = text[i];
-        if !memory::names::is_digit(b) {
-            return Reading {
-                value,
-                end: i,
-                next: b,
-            };
-        }
-        if limit < value {
+        if !memory::names::is_digit(b) || limit < value {
             return Reading {
                 value,
                 end: i,
@@ -52,6 +45,7 @@ pub fn digits(text: &[u8], at: usize, n: u64, limit: u64) -> Reading
     }
 }
 
+// Any run that starts with a digit.
 fn judged(text: &[u8], at: usize) -> Lex
     requires { ⌜ at ≤ length (now text) ⌝ }
     ensures { λ r. ⌜ Lexes (running isRun numeralOf (drop at (now (text .entry))) at) (r .word) (r .end) ⌝ }
@@ -76,6 +70,7 @@ fn real_at(text: &[u8], at: usize, dot: usize, whole: u64) -> Lex
     if end == dot + 1 {
         return judged(text, at);
     }
+    // seven digits and the dot
     if at + 8 < end {
         return judged(text, at);
     }

@@ -4,7 +4,7 @@ use Prim.Native.Nat.{_-_}
 use native.Mathlib.Omega.{arith}
 use lib.ListN.{length, getD}
 use borrow.Author.Needs.{needs}
-use borrow.Author.Tests.{not-false}
+use borrow.Author.Tests.{not-false, ltb-false}
 use Rattle.memory.proofs.names.Decimals.{digit-range}
 use Rattle.token_table.specs.Lexing.{Reads}
 use Rattle.token_table.proofs.numerals.Runs.{begin, more, at-end}
@@ -29,11 +29,8 @@ is-digit-requires c κs = search needs
 returns : tie.Need-returns Inv-loop μ-loop
 returns c = c .before .before .before .before .loop .inv
 
-returns-2 : tie.Need-returns-2 Inv-loop μ-loop
-returns-2 c = c .before .before .before .before .before .loop .inv
-
 mul-value : tie.Need-mul-value Inv-loop μ-loop
-mul-value c = search needs
+mul-value c = omega (arith, ltb-false)
 
 sub-value : tie.Need-sub-value Inv-loop μ-loop
 sub-value c = digit-range _ (sym (c .before .before .is-digit .ensures) ∙ not-false _ (c .before .if1 .left)) .0
@@ -42,7 +39,7 @@ cast-value : tie.Need-cast-value Inv-loop μ-loop
 cast-value c = omega (arith, digit-range (getD (c .before .before .before .before .before .before .before .args .text .now) (c .before .before .before .before .before .loop .i) 0) (sym (c .before .before .is-digit .ensures) ∙ not-false _ (c .before .if1 .left)))
 
 add-value : tie.Need-add-value Inv-loop μ-loop
-add-value c = omega (arith, digit-range (getD (c .before .before .before .before .before .before .before .args .text .now) (c .before .before .before .before .before .loop .i) 0) (sym (c .before .before .is-digit .ensures) ∙ not-false _ (c .before .if1 .left)))
+add-value c = omega (arith, ltb-false, digit-range (getD (c .before .before .before .before .before .before .before .args .text .now) (c .before .before .before .before .before .loop .i) 0) (sym (c .before .before .is-digit .ensures) ∙ not-false _ (c .before .if1 .left)))
 
 add-i : tie.Need-add-i Inv-loop μ-loop
 add-i c = search needs
@@ -53,8 +50,8 @@ loop-less c = search needs
 loop-again : tie.Need-loop-again Inv-loop μ-loop
 loop-again c = more (c .before .before .before .before .before .loop .inv) (c .before .before .before .before .loop-test .taken) (sym (c .before .before .is-digit .ensures) ∙ not-false _ (c .before .if1 .left))
 
-returns-3 : tie.Need-returns-3 Inv-loop μ-loop
-returns-3 c = at-end (c .before .loop .inv) (c .loop-test .left)
+returns-2 : tie.Need-returns-2 Inv-loop μ-loop
+returns-2 c = at-end (c .before .loop .inv) (c .loop-test .left)
 
 pub digits-spec : {M : Type 1} → statement M
 digits-spec =
@@ -66,7 +63,6 @@ digits-spec =
     shared-slice-read-b
     is-digit-requires
     returns
-    returns-2
     mul-value
     sub-value
     cast-value
@@ -74,4 +70,4 @@ digits-spec =
     add-i
     loop-less
     loop-again
-    returns-3)
+    returns-2)

@@ -1,5 +1,6 @@
 -- `numerals::numeral_at` meets its contract.
 use mathlib.Core.Path.{refl, sym, _∙_}
+use native.Mathlib.Omega.{arith}
 use borrow.Author.Needs.{needs}
 use Rattle.token_table.proofs.Lexemes.{lexes-as}
 use Rattle.token_table.proofs.numerals.Forms.{at-dot, decimal-run}
@@ -39,7 +40,7 @@ word-requires c κs = search needs
 returns-4 : tie.Need-returns-4
 returns-4 c =
     lexes-as (c .word .ensures) refl
-    (decimal-run (c .before .before .before .before .before .before .digits .ensures) (c .before .before .before .before .before .before .before .before .pre .1) (sym (c .before .before .is-word .ensures) ∙ c .before .if3 .left) (c .before .before .before .before .if1 .left) (c .before .before .before .if2 .left))
+    (decimal-run (c .before .before .before .before .before .before .digits .ensures) (c .before .before .before .before .before .before .before .before .pre .1) (sym (c .before .before .is-word .ensures) ∙ c .before .if3 .left) (c .before .before .before .before .if1 .left) (omega (arith, c .before .before .before .if2 .left)))
 
 pub numeral-at-spec : {M : Type 1} → statement M
 numeral-at-spec =

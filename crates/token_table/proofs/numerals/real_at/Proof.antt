@@ -43,7 +43,7 @@ returns-3 : tie.Need-returns-3
 returns-3 c = search needs
 
 cast-quotient : tie.Need-cast-quotient
-cast-quotient c = omega (arith, literal-small (c .before .before .before .before .before .before .before .pre .1) (c .before .before .before .before .before .before .before .pre .0) (c .before .before .before .before .before .digits .ensures) (c .before .before .if2 .left) (c .before .if3 .left) .0)
+cast-quotient c = omega (arith, literal-small (c .before .before .before .before .before .before .before .pre .1) (c .before .before .before .before .before .before .before .pre .0) (c .before .before .before .before .before .digits .ensures) (c .before .before .if2 .left) (omega (arith, c .before .if3 .left)) .0)
 
 sub-quotient : tie.Need-sub-quotient
 sub-quotient c = search needs
@@ -52,10 +52,10 @@ sub-quotient-2 : tie.Need-sub-quotient-2
 sub-quotient-2 c = search needs
 
 quotient-requires : tie.Need-quotient-requires
-quotient-requires c κs = literal-small (c .before .before .before .before .before .before .before .pre .1) (c .before .before .before .before .before .before .before .pre .0) (c .before .before .before .before .before .digits .ensures) (c .before .before .if2 .left) (c .before .if3 .left)
+quotient-requires c κs = literal-small (c .before .before .before .before .before .before .before .pre .1) (c .before .before .before .before .before .before .before .pre .0) (c .before .before .before .before .before .digits .ensures) (c .before .before .if2 .left) (omega (arith, c .before .if3 .left))
 
 float-to-bits-word : tie.Need-float-to-bits-word
-float-to-bits-word c = rw (c .quotient .ensures) (literal-finite (c .before .before .before .before .before .before .before .before .pre .1) (c .before .before .before .before .before .before .before .before .pre .0) (c .before .before .before .before .before .before .digits .ensures) (c .before .before .before .if2 .left) (c .before .before .if3 .left))
+float-to-bits-word c = rw (c .quotient .ensures) (literal-finite (c .before .before .before .before .before .before .before .before .pre .1) (c .before .before .before .before .before .before .before .before .pre .0) (c .before .before .before .before .before .before .digits .ensures) (c .before .before .before .if2 .left) (omega (arith, c .before .before .if3 .left)))
 
 word-requires : tie.Need-word-requires
 word-requires c κs = search needs
@@ -63,7 +63,7 @@ word-requires c κs = search needs
 returns-4 : tie.Need-returns-4
 returns-4 c =
     lexes-as (c .word .ensures ∙ ap (λ (x : Float). fields 2 0 (toBits binary32 x) 0) (c .before .quotient .ensures)) refl
-    (real-run (c .before .before .before .before .before .before .before .before .before .pre .1) (c .before .before .before .before .before .before .before .before .before .pre .0) (c .before .before .before .before .before .before .before .digits .ensures) (c .before .before .before .before .if2 .left) (c .before .before .before .if3 .left) (sym (c .before .before .before .before .before .before .is-run .ensures) ∙ c .before .before .before .before .before .if1 .left))
+    (real-run (c .before .before .before .before .before .before .before .before .before .pre .1) (c .before .before .before .before .before .before .before .before .before .pre .0) (c .before .before .before .before .before .before .before .digits .ensures) (c .before .before .before .before .if2 .left) (omega (arith, c .before .before .before .if3 .left)) (sym (c .before .before .before .before .before .before .is-run .ensures) ∙ c .before .before .before .before .before .if1 .left))
 
 pub real-at-spec : {M : Type 1} → statement M
 real-at-spec =
