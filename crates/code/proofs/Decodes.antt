@@ -2,9 +2,9 @@
 use mathlib.Core.Path.{_≡_, refl, ap, _∙_, subst}
 use mathlib.Core.Bool.{Bool, true, false, not, cond}
 use mathlib.Core.List.{List, [], _∷_}
-use Prim.Native.Nat.{ℕ, zero, suc, _+_, _*_, _/_, _^_, _<_}
+use Prim.Native.Nat.{ℕ, _*_, _/_, _^_, _<_}
 use native.Mathlib.Omega.{arith}
-use lib.Dec.{T, eqb, ltb, lit<}
+use lib.Dec.{T, eqb, ltb}
 use lib.ListN.{length, getD, take, drop}
 use lib.Ieee.{Float, nan, inf, fin, binary32, fits, isNan, ofBits, toBits}
 use lib.Ieee.Bits.{ofBits-fits, toBits-ofBits}
@@ -37,7 +37,7 @@ use Rattle.memory.specs.Numbers.{banks, bankNumbered}
 use Rattle.code.specs.Instructions.{alone, finiteOnly, pushReal, loadOf, indexedOf, unaryInstr, binaryInstr, instruction, decodeAt}
 use Rattle.code.specs.Encode.{eight, encode, Encodable, push-int, push-real, load, load-indexed, unary, binary, jump, jump-if}
 use Rattle.code.proofs.Numbers.{bank-forth, unary-forth, binary-forth}
-use Rattle.code.proofs.Parts.{bytesAt, eight-bytes, decode-bytes}
+use Rattle.code.proofs.Parts.{are-bytes, eight-bytes, decode-bytes}
 
 pub data Decodes (bs : List ℕ) : Instr → Type 0 where
   none : Decodes bs Unknown
@@ -131,11 +131,6 @@ eight-decodes o a y z p q r s B =
     let second : z ≡ 0 = omega arith in
     subst (λ (l : List ℕ). Decodes l i) (ap (λ (l : List ℕ). o ∷ a ∷ 0 ∷ 0 ∷ l) (word-laws .forth ws B) ∙ rw (first, second)) (instruction-decodes o a (little ws) (word-laws .below ws B)))
     none
-
-are-bytes : (b i k : ℕ) (s : List ℕ) → Bytes s → Bytes (bytesAt b i k s)
-are-bytes b i zero s B n = lit< tt
-are-bytes b i (suc k) s B zero = B (b + i)
-are-bytes b i (suc k) s B (suc n) = are-bytes b (suc i) k s B n
 
 pub decode-decodes : (s : List ℕ) (p : ℕ) → Bytes s → p < length s / 8 → Decodes (take 8 (drop (8 * p) s)) (decodeAt s p)
 decode-decodes s p B h = rw (eight-bytes s p h, decode-bytes s p h) (eight-decodes _ _ _ _ _ _ _ _ (are-bytes (8 * p) 4 4 s B))

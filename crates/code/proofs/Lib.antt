@@ -2,5 +2,6 @@
 pub mod Laws
 pub mod Parts
 pub mod Decodes
+pub mod Fetches
 mod Numbers
-mod Finite
+pub mod Finite

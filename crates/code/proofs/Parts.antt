@@ -4,10 +4,12 @@ use mathlib.Core.List.{List, [], _∷_}
 use Prim.Native.Nat.{ℕ, zero, suc, _+_, _*_, _/_, _≤_, _<_}
 use native.Mathlib.Nat.{add-zero, add-suc, not-suc-le-zero, le-of-suc-le-suc}
 use native.Mathlib.Omega.{arith}
+use lib.Dec.{lit<}
 use lib.ListN.{length, getD, take, drop}
 use lib.Seq.{drop-cons}
 use borrow.Author.Tests.{lt-ltb, le-ltb}
 use Rattle.words.specs.Words.{little}
+use Rattle.words.specs.Laws.{Bytes}
 use Rattle.code.specs.declared.Instr.the-variants.{Unknown}
 use Rattle.code.specs.Instructions.{alone, instruction, decodeAt, decodeFrom}
 
@@ -15,6 +17,11 @@ use Rattle.code.specs.Instructions.{alone, instruction, decodeAt, decode
 abbrev pub bytesAt : ℕ → ℕ → ℕ → List ℕ → List ℕ
 bytesAt b i zero s = []
 bytesAt b i (suc k) s = getD s (b + i) 0 ∷ bytesAt b (suc i) k s
+
+pub are-bytes : (b i k : ℕ) (s : List ℕ) → Bytes s → Bytes (bytesAt b i k s)
+are-bytes b i zero s B n = lit< tt
+are-bytes b i (suc k) s B zero = B (b + i)
+are-bytes b i (suc k) s B (suc n) = are-bytes b (suc i) k s B n
 
 one-by-one : (b i k : ℕ) (s : List ℕ) → b + i + k ≤ length s → take k (drop (b + i) s) ≡ bytesAt b i k s
 one-by-one b i zero s h = refl

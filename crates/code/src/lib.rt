@@ -1,9 +1,11 @@
 // Instructions and their eight bytes. docs/INSTRUCTIONS.md is the page of them.
 ghost use mathlib.Core.Path.{_≡_};
+ghost use Prim.Native.Nat.{_<_};
 ghost use Rattle.values.specs.Patterns.{signedOf};
 ghost use Rattle.operators.specs.Tables.{unaryOf, binaryOf};
 ghost use Rattle.memory.specs.Numbers.{bankNumbered};
 ghost use Rattle.code.specs.Instructions.{alone, pushReal, loadOf, indexedOf, unaryInstr, binaryInstr, instruction, decodeAt};
+ghost use Rattle.code.specs.Fetch.{fetched};
 use memory::Bank;
 use memory::numbers;
 use memory::numbers::BankOf;
@@ -137,17 +139,37 @@ pub fn instruction_of(opcode: u8, operand: u8, word: u32) -> Instr
     }
 }
 
+fn wide(b: u8) -> u64
+    ensures { λ r. ⌜ (r ≡ b) × (r < 256) ⌝ }
+{
+    b as u64
+}
+
+// The eight bytes at a place of the code as one number; 0 where the code does not reach. Joined by `|`, from the lowest on, they are one load.
+pub fn fetch(code: &[u8], place: usize) -> u64
+    ensures { λ r. ⌜ r ≡ fetched (now (code .entry)) place ⌝ }
+{
+    if code.len() / 8 <= place {
+        return 0;
+    }
+    let at = 8 * place;
+    let two = wide(code[at]) | 256 * wide(code[at + 1]);
+    let four = two | 65536 * wide(code[at + 2]) | 16777216 * wide(code[at + 3]);
+    let six = four | 4294967296 * wide(code[at + 4]) | 1099511627776 * wide(code[at + 5]);
+    six | 281474976710656 * wide(code[at + 6]) | 72057594037927936 * wide(code[at + 7])
+}
+
 // The instruction at a place of the code; none where the code does not reach.
 pub fn decode(code: &[u8], place: usize) -> Instr
     ensures { λ r. ⌜ r ≡ decodeAt (now (code .entry)) place ⌝ }
 {
-    if code.len() / 8 <= place {
+    let w = fetch(code, place);
+    if w / 65536 % 65536 != 0 {
         return Instr::Unknown;
     }
-    let at = 8 * place;
-    if words::word16(code[at + 2], code[at + 3]) != 0 {
-        return Instr::Unknown;
-    }
-    let word = words::word32(code[at + 4], code[at + 5], code[at + 6], code[at + 7]);
-    instruction_of(code[at], code[at + 1], word)
+    instruction_of(
+        (w % 256) as u8,
+        (w / 256 % 256) as u8,
+        (w / 4294967296) as u32,
+    )
 }

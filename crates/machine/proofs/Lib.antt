@@ -3,4 +3,6 @@ pub mod Laws
 mod Held
 mod Acts
 mod Rest
+mod Performs
+mod Numbered
 mod Turn

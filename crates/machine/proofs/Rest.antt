@@ -1,17 +1,24 @@
 -- What is left to run from a place gives what the whole run gives: where the loop begins, after one instruction, and at the end of the code.
 use mathlib.Core.Path.{_≡_, refl, ap}
+use mathlib.Core.Bool.{Bool, true, false, cond}
 use mathlib.Core.List.{List, [], _∷_}
-use Prim.Native.Nat.{ℕ, zero, suc, _+_, _-_, _≤_, _<_}
+use Prim.Native.Nat.{ℕ, zero, suc, _+_, _-_, _/_, _≤_, _<_}
 use native.Mathlib.Nat.{add-zero, zero-add, sub-zero, suc-sub-suc}
 use native.Mathlib.Numerals.{add-one}
 use native.Mathlib.Omega.{arith}
+use lib.Dec.{ltb}
+use lib.ListN.{length}
+use borrow.Author.Tests.{ltb-true, ltb-false}
 use Rattle.values.specs.declared.Value.{Value}
 use Rattle.memory.specs.Environment.{Environment}
+use Rattle.code.specs.declared.Instr.the-variants.{Unknown}
 use Rattle.code.specs.Instructions.{decodeAt, decodeFrom}
+use Rattle.code.proofs.Parts.{decode-beyond}
 use Rattle.machine.specs.declared.Ended.{Ended}
+use Rattle.machine.specs.declared.Ended.the-variants.{Stuck}
 use Rattle.machine.specs.declared.Ran.{Ran}
 use Rattle.machine.specs.Machine.{Next, goes, halts, act, finish, counted, exec}
-use Rattle.machine.specs.Steps.{endedAt, stuckAt}
+use Rattle.machine.specs.Steps.{lesserOf, endedAt, stuckAt, finishOf, finishedAt}
 use Rattle.machine.proofs.Laws.{onward, exec-next}
 
 -- k instructions begun before
@@ -84,3 +91,61 @@ module _ {E : Environment} {code : List ℕ} {n p : ℕ} {st : List Value} {k : 
   ends h L f =
       let u : n - p ≡ 0 = omega arith in
       rw (u, add-zero, f) at (L .same)
+
+unknown-stuck : (E : Environment) (st : List Value) → act E Unknown st ≡ halts Stuck
+unfolding act
+unknown-stuck E st = refl
+
+pub lesser-left : (a b : ℕ) → lesserOf a b ≤ a
+lesser-left a b = by (ltb a b) refl
+  where
+    by : (t : Bool) → ltb a b ≡ t → cond t a b ≤ a
+    by true e = omega arith
+    by false e = ltb-false a b e
+
+pub lesser-right : (a b : ℕ) → lesserOf a b ≤ b
+lesser-right a b = by (ltb a b) refl
+  where
+    by : (t : Bool) → ltb a b ≡ t → cond t a b ≤ b
+    by true e = omega (arith, ltb-true a b e)
+    by false e = omega arith
+
+-- below n, it is the code that ends
+no-more : (n m p : ℕ) → p < n → lesserOf n m ≤ p → m ≤ p
+no-more n m p h q = by (ltb n m) q
+  where
+    by : (t : Bool) → cond t n m ≤ p → m ≤ p
+    by true r = absurd (omega arith)
+    by false r = r
+
+-- at the place p, which a jump may have left beyond the end
+pub record Stands (E : Environment) (code : List ℕ) (n p : ℕ) (st : List Value) (k : ℕ) : Type 0 where
+  pub within : p ≤ n → Left E code n p st k
+  pub beyond : n < p → stuckAt k ≡ wholeRun E code n
+
+pub starts : (E : Environment) (code : List ℕ) (n : ℕ) → Stands E code n 0 [] 0
+starts E code n = record { within = λ q. begin E code n; beyond = λ q. absurd (omega arith) }
+
+module _ {E : Environment} {code : List ℕ} {n p : ℕ} {st : List Value} {k : ℕ} where
+  pub advances : p < n → Left E code n p st k → {d : ℕ} {st′ : List Value} → act E (decodeAt code p) st ≡ goes d st′ → Stands E code n (p + (1 + d)) st′ (k + 1)
+  advances h L {d} a =
+      let next : p + (1 + d) ≡ p + 1 + d = omega arith in
+      record {
+        within = λ q. rw next (goes-on h L a (omega arith));
+        beyond = λ q. strays h L a (omega arith);
+      }
+
+  -- where the code has no instruction
+  pub finishes : (h : ℕ) (v : Value) → Stands E code n p st k → lesserOf n (length code / 8) ≤ p → finish st ≡ finishOf h v → finishedAt n p h v k ≡ wholeRun E code n
+  finishes h v S q f = over (ltb n p) refl
+    where
+      beneath : (t : Bool) → ltb p n ≡ t → p ≤ n → cond t (stuckAt (k + 1)) (endedAt k (finishOf h v)) ≡ wholeRun E code n
+      beneath true e r =
+          let more : p < n = ltb-true p n e in
+          let none : decodeAt code p ≡ Unknown = decode-beyond code p (no-more n (length code / 8) p more q) in
+          stops more (S .within r) (rw none (unknown-stuck E st))
+      beneath false e r = ends (ltb-false p n e) (S .within r) f
+
+      over : (t : Bool) → ltb n p ≡ t → cond t (stuckAt k) (cond (ltb p n) (stuckAt (k + 1)) (endedAt k (finishOf h v))) ≡ wholeRun E code n
+      over true e = S .beyond (ltb-true n p e)
+      over false e = beneath (ltb p n) refl (ltb-false n p e)

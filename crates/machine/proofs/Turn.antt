@@ -1,61 +1,97 @@
--- One turn of the loop on the array of values: what an instruction makes of the values at the top, and where each kind of step leads.
-use mathlib.Core.Path.{_≡_}
-use mathlib.Core.List.{List}
-use Prim.Native.Nat.{ℕ, _+_, _-_, _≤_, _<_}
-use native.Mathlib.Nat.{add-zero}
+-- One turn of the loop on the array of values: where each kind of step leads.
+use mathlib.Core.Path.{_≡_, refl, subst}
+use mathlib.Core.Logic.{⊎-elim}
+use mathlib.Core.List.{List, [], _∷_}
+use Prim.Native.Nat.{ℕ, _+_, _-_, _^_, _≤_, _<_}
 use native.Mathlib.Omega.{arith}
+use lib.Dec.{lit<}
+use types.Run.{OneOf}
+use denote.Enum.Declared.{tagOf}
 use lib.ListN.{length, getD, set}
-use borrow.Author.Tests.{lt-ltb, le-ltb}
 use Rattle.values.specs.declared.Value.{Value}
+use Rattle.words.specs.Laws.{Bytes}
 use Rattle.memory.specs.Environment.{Environment}
 use Rattle.code.specs.declared.Instr.{Instr}
 use Rattle.code.specs.Instructions.{decodeAt}
-use Rattle.machine.specs.declared.Ended.{Ended}
+use Rattle.code.specs.Fetch.{fetched, instructionOf}
+use Rattle.code.proofs.Fetches.{decode-fetched}
+use Rattle.machine.specs.declared.How.{How}
+use Rattle.machine.specs.declared.How.the-variants as How
 use Rattle.machine.specs.declared.Step.{Step}
-use Rattle.machine.specs.declared.Step.the-variants.{Push, Skip, End}
-use Rattle.machine.specs.Machine.{most, act}
-use Rattle.machine.specs.Steps.{stepOf, endedAt, stuckAt}
-use Rattle.machine.proofs.Held.{none, held, length-held, held-push}
-use Rattle.machine.proofs.Acts.{after, acts, keeps, step-keeps}
-use Rattle.machine.proofs.Rest.{wholeRun, Left, goes-on, stops, strays}
+use Rattle.machine.specs.Machine.{most, Next, act}
+use Rattle.machine.specs.Steps.{wordOf, stepOf, failedAt}
+use Rattle.machine.proofs.How.{the-type}
+use Rattle.machine.proofs.Held.{none, held, held-push}
+use Rattle.machine.proofs.Acts.{Leads, push, skip, stop, stick, decoded-near, leads}
+use Rattle.machine.proofs.Rest.{wholeRun, Left, stops, Stands, advances}
 
--- at the place p, with h values of the array s held and k instructions begun, the step x
+-- at the place p, with h values of the array s held and k instructions begun: the instruction leads to y, and makes the step x
 pub record Turn (E : Environment) (code : List ℕ) (n p h : ℕ) (s : List Value) (k : ℕ) (x : Step) : Type 0 where
   pub in-code : p < n
   pub rest : Left E code n p (held h s) k
-  pub made : act E (decodeAt code p) (held h s) ≡ after s x
-  pub kept : keeps x ≤ h
+  pub made : Leads s h (act E (decodeAt code p) (held h s)) x
 
--- l and r are the places of the two values at the top
+-- i is the instruction of the number w, and l and r are the places of the two values at the top
+pub performed : (E : Environment) (h : ℕ) (s : List Value) (w : ℕ) {l r : ℕ} {i : Instr} {x : Step} → instructionOf w ≡ i → l ≡ h - 2 → r ≡ h - 1
+    → x ≡ stepOf E i h (getD s l none) (getD s r none) → x ≡ stepOf E (instructionOf w) h (getD s (h - 2) none) (getD s (h - 1) none)
+performed E h s w d u v e = rw (d, ← u, ← v) e
+
+-- w is the number of the instruction
 pub turn :
-    {E : Environment} {code : List ℕ} {n p k l r : ℕ} {i : Instr} {x : Step} (h : ℕ) (s : List Value) → p < n → Left E code n p (held h s) k
-    → i ≡ decodeAt code p → l ≡ h - 2 → r ≡ h - 1 → x ≡ stepOf E i h (getD s l none) (getD s r none) → Turn E code n p h s k x
-turn {E} {i = i} h s c L d u v w = record {
-  in-code = c;
-  rest = L;
-  made = rw (← d, w, u, v) (acts E s i h);
-  kept = rw w (step-keeps E h _ _ i);
-}
+    {E : Environment} {code : List ℕ} {n p k w : ℕ} {x : Step} (h : ℕ) (s : List Value) → p < n → Stands E code n p (held h s) k → Bytes code → w ≡ fetched code p
+    → x ≡ stepOf E (instructionOf w) h (getD s (h - 2) none) (getD s (h - 1) none) → Turn E code n p h s k x
+turn {E} {code} {p = p} {w = w} h s c S B d e =
+    let is : decodeAt code p ≡ instructionOf w = rw d (decode-fetched code p B) in
+    record {
+      in-code = c;
+      rest = S .within (omega arith);
+      made = rw (e, ← is) (leads E s (decodeAt code p) h (decoded-near code p B));
+    }
 
-module _ {E : Environment} {code : List ℕ} {n p h : ℕ} {s : List Value} {k : ℕ} {x : Step} (t : Turn E code n p h s k x) where
-  module _ {m : ℕ} {v : Value} (e : x ≡ Push m v) where
-    pub pushes : m < most → length s ≡ most → Left E code n (p + 1) (held (m + 1) (set s m v)) (k + 1)
-    pushes q l =
-        rw (held-push m s v (omega arith), ← (add-zero (p + 1)))
-        (goes-on (t .in-code) (t .rest) (rw (e, length-held, lt-ltb m most q) at (t .made)) (omega arith))
+module _ {s : List Value} {h : ℕ} where
+  low : {y : Next} {x : Step} → Leads s h y x → x .height ≤ h
+  low (push k v p q) = p
+  low (skip k d p q) = p
+  low (stop f) = omega arith
+  low stick = omega arith
 
-    pub overfull : most ≤ m → stuckAt (k + 1) ≡ wholeRun E code n
-    overfull q = stops (t .in-code) (t .rest) (rw (e, length-held, le-ltb m most q) at (t .made))
+  near : {y : Next} {x : Step} → Leads s h y x → x .skip < 2 ^ 32
+  near (push k v p q) = lit< tt
+  near (skip k d p q) = q
+  near (stop f) = lit< tt
+  near stick = lit< tt
 
-  module _ {m d : ℕ} (e : x ≡ Skip m d) where
-    pub jumps : d ≤ n - (p + 1) → Left E code n (p + 1 + d) (held m s) (k + 1)
-    jumps q = goes-on (t .in-code) (t .rest) (rw e at (t .made)) q
+module _ (E : Environment) (code : List ℕ) (n p : ℕ) (s : List Value) (k : ℕ) (x : Step) where
+  -- what follows from how a step goes on
+  abbrev pub Onward : How → Type 0
+  Onward How.Push = (x .height < most) × (length s ≡ most → Stands E code n (p + (1 + x .skip)) (held (x .height + 1) (set s (x .height) (x .value))) (k + 1))
+  Onward How.Skip = Stands E code n (p + (1 + x .skip)) (held (x .height) s) (k + 1)
+  Onward How.Stop = failedAt How.Stop (x .fault) (k + 1) ≡ wholeRun E code n
+  Onward How.Stuck = failedAt How.Stuck (x .fault) (k + 1) ≡ wholeRun E code n
 
-    pub overruns : n - (p + 1) < d → stuckAt (k + 1) ≡ wholeRun E code n
-    overruns q = strays (t .in-code) (t .rest) (rw e at (t .made)) q
+  -- a step that ends the run, by the places of Stop and Stuck in the enum
+  over : (w : How) → OneOf (2 ∷ 3 ∷ []) (tagOf the-type w) → Onward w → failedAt w (x .fault) (k + 1) ≡ wholeRun E code n
+  over How.Push o q = absurd (⊎-elim (λ e. omega arith) (λ e. omega arith) o)
+  over How.Skip o q = absurd (⊎-elim (λ e. omega arith) (λ e. omega arith) o)
+  over How.Stop o q = q
+  over How.Stuck o q = q
 
-    pub below : m ≤ h
-    below = rw e at (t .kept)
+module _ {E : Environment} {code : List ℕ} {n p h : ℕ} {s : List Value} {k : ℕ} where
+  leads-on : {y : Next} {x : Step} → p < n → Left E code n p (held h s) k → act E (decodeAt code p) (held h s) ≡ y → Leads s h y x → Onward E code n p s k x (x .how)
+  leads-on c L a (push m v q r) = (r, λ l. rw (held-push m s v (omega arith)) (advances c L a))
+  leads-on c L a (skip m d q r) = advances c L a
+  leads-on c L a (stop f) = stops c L a
+  leads-on c L a stick = stops c L a
 
-  pub ended : {w : Ended} → x ≡ End w → endedAt (k + 1) w ≡ wholeRun E code n
-  ended e = stops (t .in-code) (t .rest) (rw e at (t .made))
+  module _ {x : Step} (t : Turn E code n p h s k x) where
+    pub onward : {w : How} → x .how ≡ w → Onward E code n p s k x w
+    onward e = subst (Onward E code n p s k x) e (leads-on (t .in-code) (t .rest) refl (t .made))
+
+    pub fails : OneOf (2 ∷ 3 ∷ []) (tagOf the-type (x .how)) → failedAt (x .how) (x .fault) (k + 1) ≡ wholeRun E code n
+    fails o = over E code n p s k x (x .how) o (onward refl)
+
+    pub lower : x .height ≤ h
+    lower = low (t .made)
+
+    pub nearer : x .skip < 2 ^ 32
+    nearer = near (t .made)

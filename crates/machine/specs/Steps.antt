@@ -1,29 +1,94 @@
 -- How the code works out `act` on an array of which the first h values are held. For the contracts of the private functions; a reader believes Machine alone.
+use mathlib.Core.Path.{_≡_}
 use mathlib.Core.Bool.{Bool, cond, Bool·beq}
-use Prim.Native.Nat.{ℕ, _-_}
+use Prim.Native.Nat.{ℕ, _+_, _-_, _/_, _%_}
 use lib.Dec.{eqb, ltb}
+use lib.IntN.{pos}
 use Rattle.values.specs.declared.Value.{Value}
 use Rattle.values.specs.declared.Value.the-variants.{Int, Real}
+use Rattle.values.specs.declared.Fault.{Fault}
+use Rattle.values.specs.declared.Fault.the-variants.{Overflow}
 use Rattle.values.specs.declared.Outcome.{Outcome}
 use Rattle.values.specs.declared.Outcome.the-variants as Outcome
+use Rattle.values.specs.Patterns.{signedOf}
+use Rattle.operators.specs.Tables.{unaryOf, binaryOf}
 use Rattle.operators.specs.Operators.{unaryRule, binaryRule, truthRule}
+use Rattle.memory.specs.declared.Bank.{Bank}
+use Rattle.memory.specs.Layout.{layoutOf}
+use Rattle.memory.specs.Numbers.{bankNumbered}
 use Rattle.memory.specs.Environment.{Environment}
 use Rattle.code.specs.declared.Instr.{Instr}
 use Rattle.code.specs.declared.Instr.the-variants.{PushInt, PushReal, Load, LoadIndexed, Unary, Binary, Jump, JumpIf, Unknown}
+use Rattle.code.specs.Instructions.{alone, pushReal, loadOf, indexedOf, unaryInstr, binaryInstr}
 use Rattle.machine.specs.declared.Ended.{Ended}
 use Rattle.machine.specs.declared.Ended.the-variants.{Done, Stopped, Stuck}
 use Rattle.machine.specs.declared.Ran.{Ran}
+use Rattle.machine.specs.declared.How.{How}
+use Rattle.machine.specs.declared.How.the-variants as How
 use Rattle.machine.specs.declared.Step.{Step}
-use Rattle.machine.specs.declared.Step.the-variants.{Push, Skip, End}
+use Rattle.machine.specs.Machine.{most}
 
+-- the operand and the word of an instruction's number; the bytes that must be 0 count as the operand's
+abbrev pub operandOf : ℕ → ℕ
+operandOf w = w / 256 % 16777216
+
+abbrev pub wordOf : ℕ → ℕ
+wordOf w = w / 4294967296
+
+-- the instruction of a number, by its class
+abbrev pub intBy : ℕ → Instr
+intBy w = alone (operandOf w) (PushInt (signedOf 32 (wordOf w)))
+
+abbrev pub realBy : ℕ → Instr
+realBy w = alone (operandOf w) (pushReal (wordOf w))
+
+abbrev pub loadBy : ℕ → Instr
+loadBy w = loadOf (bankNumbered (operandOf w)) (wordOf w)
+
+abbrev pub indexedBy : ℕ → Instr
+indexedBy w = alone (wordOf w) (indexedOf (bankNumbered (operandOf w)))
+
+abbrev pub unaryBy : ℕ → Instr
+unaryBy w = alone (wordOf w) (unaryInstr (unaryOf (operandOf w)))
+
+abbrev pub binaryBy : ℕ → Instr
+binaryBy w = alone (wordOf w) (binaryInstr (binaryOf (operandOf w)))
+
+abbrev pub jumpBy : ℕ → Instr
+jumpBy w = alone (operandOf w) (Jump (wordOf w))
+
+abbrev pub jumpIfBy : Bool → ℕ → Instr
+jumpIfBy t w = alone (operandOf w) (JumpIf t (wordOf w))
+
+abbrev pub lesserOf : ℕ → ℕ → ℕ
+lesserOf a b = cond (ltb a b) a b
+
+-- ---- the four kinds of step
+abbrev pub stuckStep : Step
+stuckStep = record { how = How.Stuck; height = 0; skip = 0; value = Int (pos 0); fault = Overflow }
+
+abbrev pub stopStep : Fault → Step
+stopStep f = record { how = How.Stop; height = 0; skip = 0; value = Int (pos 0); fault = f }
+
+abbrev pub skipStep : ℕ → ℕ → Step
+skipStep k d = record { how = How.Skip; height = k; skip = d; value = Int (pos 0); fault = Overflow }
+
+abbrev pub pushStep : ℕ → Value → Step
+pushStep k v = record { how = How.Push; height = k; skip = 0; value = v; fault = Overflow }
+
+-- a value on k others, where there is room
+abbrev pub pushing : ℕ → Value → Step
+pushing k v = cond (ltb k most) (pushStep k v) stuckStep
+
+-- ---- the step of an instruction
 -- t of h values are taken: stuck where there are fewer
 abbrev pub taking : ℕ → ℕ → Step → Step
-taking h t x = cond (ltb h t) (End Stuck) x
+taking h t x = cond (ltb h t) stuckStep x
 
 abbrev pub outcomeStep : ℕ → Outcome → Step
-outcomeStep k (Outcome.Done v) = Push k v
-outcomeStep k (Outcome.Stopped f) = End (Stopped f)
-outcomeStep k Outcome.WrongKind = End Stuck
+outcomeStep k (Outcome.Done v) = pushing k v
+outcomeStep k (Outcome.Stopped f) = stopStep f
+outcomeStep k Outcome.WrongKind = stuckStep
 
 -- an outcome worked out from the t last of h values
 abbrev pub givenStep : ℕ → ℕ → Outcome → Step
@@ -31,20 +96,42 @@ givenStep h t o = taking h t (outcomeStep (h - t) o)
 
 -- a jump over d instructions if the truth of v, the last of h values, is t
 abbrev pub jumpStep : ℕ → Value → Bool → ℕ → Step
-jumpStep h v t d = taking h 1 (cond (Bool·beq (truthRule v) t) (Skip (h - 1) d) (Skip (h - 1) 0))
+jumpStep h v t d = taking h 1 (cond (Bool·beq (truthRule v) t) (skipStep (h - 1) d) (skipStep (h - 1) 0))
 
 -- l and r are the two last of h values
 abbrev pub stepOf : Environment → Instr → ℕ → Value → Value → Step
-stepOf E (PushInt z) h l r = Push h (Int z)
-stepOf E (PushReal x) h l r = Push h (Real x)
-stepOf E (Load b i) h l r = givenStep h 0 (E .cell b i)
+stepOf E (PushInt z) h l r = pushing h (Int z)
+stepOf E (PushReal x) h l r = pushing h (Real x)
+stepOf E (Load b i) h l r = outcomeStep h (E .cell b i)
 stepOf E (LoadIndexed b) h l r = givenStep h 1 (E .indexed b r)
 stepOf E (Unary o) h l r = givenStep h 1 (unaryRule o r)
 stepOf E (Binary o) h l r = givenStep h 2 (binaryRule o l r)
-stepOf E (Jump d) h l r = Skip h d
+stepOf E (Jump d) h l r = skipStep h d
 stepOf E (JumpIf t d) h l r = jumpStep h r t d
-stepOf E Unknown h l r = End Stuck
+stepOf E Unknown h l r = stuckStep
 
+-- x is the step of an instruction that takes no value, wherever it is run; that takes the last value, r; that takes the two last
+abbrev pub Does : Instr → ℕ → Step → Type 0
+Does i h x = (E : Environment) (l r : Value) → x ≡ stepOf E i h l r
+
+abbrev pub DoesOn : Instr → ℕ → Value → Step → Type 0
+DoesOn i h r x = (E : Environment) (l : Value) → x ≡ stepOf E i h l r
+
+abbrev pub DoesOnBoth : Instr → ℕ → Value → Value → Step → Type 0
+DoesOnBoth i h l r x = (E : Environment) → x ≡ stepOf E i h l r
+
+-- the same in a memory, for the two that read it
+abbrev pub Loads : Environment → Instr → ℕ → Step → Type 0
+Loads E i h x = (l r : Value) → x ≡ stepOf E i h l r
+
+abbrev pub LoadsOn : Environment → Instr → ℕ → Value → Step → Type 0
+LoadsOn E i h r x = (l : Value) → x ≡ stepOf E i h l r
+
+-- a load from the bank, of an element that may be beyond it
+abbrev pub bankStep : Environment → Bank → ℕ → ℕ → Step
+bankStep E b i h = cond (ltb i (layoutOf b .elements)) (outcomeStep h (E .cell b i)) stuckStep
+
+-- ---- ends
 -- k instructions begun
 abbrev pub endedAt : ℕ → Ended → Ran
 endedAt k e = record { end = e; count = k }
@@ -52,6 +139,16 @@ endedAt k e = record { end = e; count = k }
 abbrev pub stuckAt : ℕ → Ran
 stuckAt k = endedAt k Stuck
 
+abbrev pub failedAt : How → Fault → ℕ → Ran
+failedAt How.Push f k = stuckAt k
+failedAt How.Skip f k = stuckAt k
+failedAt How.Stop f k = endedAt k (Stopped f)
+failedAt How.Stuck f k = stuckAt k
+
 -- h values held, the first of them v
 abbrev pub finishOf : ℕ → Value → Ended
 finishOf h v = cond (eqb h 1) (Done v) Stuck
+
+-- at the place p, where the code has no instruction
+abbrev pub finishedAt : ℕ → ℕ → ℕ → Value → ℕ → Ran
+finishedAt n p h v k = cond (ltb n p) (stuckAt k) (cond (ltb p n) (stuckAt (k + 1)) (endedAt k (finishOf h v)))

@@ -1,10 +1,17 @@
 // The machine: instructions run on values held and a memory that they only read.
+// An instruction is performed from the number of its eight bytes, without being made an `Instr` first: enums pass through memory.
 ghost use mathlib.Core.Path.{_≡_};
-ghost use Prim.Native.Nat.{_-_};
+ghost use Prim.Native.Nat.{_-_, _≤_};
 ghost use Rattle.memory.specs.Environment.{memoryOf};
 ghost use Rattle.machine.specs.Machine.{runs};
-ghost use Rattle.machine.specs.Steps.{givenStep, jumpStep, stepOf, stuckAt, finishOf};
-use code::Instr;
+ghost use Rattle.machine.specs.Steps.{operandOf, wordOf, intBy, realBy, loadBy, indexedBy, unaryBy, binaryBy, jumpBy, jumpIfBy};
+ghost use Rattle.machine.specs.Steps.{lesserOf, pushing, skipStep, stopStep, stuckStep, outcomeStep, bankStep, Does, DoesOn, DoesOnBoth, Loads, LoadsOn, stuckAt, failedAt, finishedAt};
+use memory::Bank;
+use memory::numbers;
+use memory::numbers::BankOf;
+use operators::tables;
+use operators::tables::BinaryOf;
+use operators::tables::UnaryOf;
 use values::Fault;
 use values::Outcome;
 use values::Value;
@@ -23,57 +30,230 @@ pub struct Ran {
     pub count: usize,
 }
 
-// What an instruction does: of the values held it keeps the first, as many as the first number says, and pushes one on them or
-// skips instructions; or it ends the run.
-pub enum Step {
-    Push(usize, Value),
-    Skip(usize, usize),
-    End(Ended),
+// What an instruction does with the values held and the place. Stop and Stuck end the run.
+pub enum How {
+    Push,
+    Skip,
+    Stop,
+    Stuck,
 }
 
-// An outcome worked out from the t last of h values.
-fn given(h: usize, t: usize, o: Outcome) -> Step
-    ensures { λ r. ⌜ r ≡ givenStep h t o ⌝ }
+// Of the values held the first are kept, as many as height says; then value is pushed (Push), or instructions are skipped (Skip), or
+// the run stops with the fault (Stop). A struct, and not an enum with a value in each variant, stays in registers.
+pub struct Step {
+    pub how: How,
+    pub height: usize,
+    pub skip: usize,
+    pub value: Value,
+    pub fault: Fault,
+}
+
+fn sticks() -> Step
+    ensures { λ r. ⌜ r ≡ stuckStep ⌝ }
 {
-    if h < t {
-        return Step::End(Ended::Stuck);
+    Step {
+        how: How::Stuck,
+        height: 0,
+        skip: 0,
+        value: Value::Int(0),
+        fault: Fault::Overflow,
     }
+}
+
+// No more than 128 values are held.
+fn pushes(height: usize, value: Value) -> Step
+    ensures { λ r. ⌜ r ≡ pushing height value ⌝ }
+{
+    if 128 <= height {
+        return sticks();
+    }
+    Step {
+        how: How::Push,
+        height,
+        skip: 0,
+        value,
+        fault: Fault::Overflow,
+    }
+}
+
+fn skips(height: usize, skip: usize) -> Step
+    ensures { λ r. ⌜ r ≡ skipStep height skip ⌝ }
+{
+    Step {
+        how: How::Skip,
+        height,
+        skip,
+        value: Value::Int(0),
+        fault: Fault::Overflow,
+    }
+}
+
+fn stops(fault: Fault) -> Step
+    ensures { λ r. ⌜ r ≡ stopStep fault ⌝ }
+{
+    Step {
+        how: How::Stop,
+        height: 0,
+        skip: 0,
+        value: Value::Int(0),
+        fault,
+    }
+}
+
+// An outcome, where the first values are kept, as many as height says.
+fn given(height: usize, o: Outcome) -> Step
+    ensures { λ r. ⌜ r ≡ outcomeStep height o ⌝ }
+{
     match o {
-        Outcome::Done(v) => Step::Push(h - t, v),
-        Outcome::Stopped(f) => Step::End(Ended::Stopped(f)),
-        Outcome::WrongKind => Step::End(Ended::Stuck),
+        Outcome::Done(v) => pushes(height, v),
+        Outcome::Stopped(f) => stops(f),
+        Outcome::WrongKind => sticks(),
     }
 }
 
-// A jump over d instructions if the truth of v, the last of h values, is t.
-fn jump_if(h: usize, v: Value, t: bool, d: u32) -> Step
-    ensures { λ r. ⌜ r ≡ jumpStep h v t d ⌝ }
+// The parts of the number of an instruction. The two bytes that must be 0 are the operand's upper ones: no operand reaches them.
+fn word_of(w: u64) -> u32
+    ensures { λ r. ⌜ r ≡ wordOf w ⌝ }
 {
+    (w / 4294967296) as u32
+}
+
+fn operand_of(w: u64) -> u32
+    ensures { λ r. ⌜ r ≡ operandOf w ⌝ }
+{
+    (w / 256 % 16777216) as u32
+}
+
+// One function for each class of instruction, as in the crate code, with h values held. Whatever it does not look at may be anything.
+fn push_int(w: u64, h: usize) -> Step
+    ensures { λ x. ⌜ Does (intBy w) h x ⌝ }
+{
+    if operand_of(w) != 0 {
+        return sticks();
+    }
+    pushes(h, Value::Int(values::patterns::from_pattern(word_of(w))))
+}
+
+fn push_real(w: u64, h: usize) -> Step
+    ensures { λ x. ⌜ Does (realBy w) h x ⌝ }
+{
+    if operand_of(w) != 0 {
+        return sticks();
+    }
+    let word = word_of(w);
+    if word / 8388608 % 256 == 255 {
+        return sticks();
+    }
+    pushes(h, Value::Real(f32::from_bits(word)))
+}
+
+fn load_from(bank: Bank, word: u32, image: &[u8], h: usize) -> Step
+    ensures { λ x. ⌜ x ≡ bankStep (memoryOf (now (image .entry))) bank word h ⌝ }
+{
+    if word < memory::layout_of(bank).elements {
+        given(h, memory::cells::read(image, bank, word))
+    } else {
+        sticks()
+    }
+}
+
+// An arm for each bank, so that a bank's layout is known where its cell is read.
+fn load(w: u64, image: &[u8], h: usize) -> Step
+    ensures { λ x. ⌜ Loads (memoryOf (now (image .entry))) (loadBy w) h x ⌝ }
+{
+    let word = word_of(w);
+    match operand_of(w) {
+        0 => load_from(Bank::X, word, image, h),
+        1 => load_from(Bank::C, word, image, h),
+        2 => load_from(Bank::V, word, image, h),
+        3 => load_from(Bank::N, word, image, h),
+        4 => load_from(Bank::D, word, image, h),
+        5 => load_from(Bank::R, word, image, h),
+        _ => sticks(),
+    }
+}
+
+// v is the last of h values, and left the one before it; where there are fewer, they may be anything.
+fn load_indexed(w: u64, image: &[u8], h: usize, v: Value) -> Step
+    ensures { λ x. ⌜ LoadsOn (memoryOf (now (image .entry))) (indexedBy w) h v x ⌝ }
+{
+    let operand = operand_of(w);
     if h < 1 {
-        return Step::End(Ended::Stuck);
+        return sticks();
+    }
+    if word_of(w) != 0 {
+        return sticks();
+    }
+    if 255 < operand {
+        return sticks();
+    }
+    match numbers::bank_numbered(operand as u8) {
+        BankOf::Is(b) => given(h - 1, memory::cells::read_indexed(image, b, v)),
+        BankOf::Nothing => sticks(),
+    }
+}
+
+fn unary(w: u64, h: usize, v: Value) -> Step
+    ensures { λ x. ⌜ DoesOn (unaryBy w) h v x ⌝ }
+{
+    let operand = operand_of(w);
+    if h < 1 {
+        return sticks();
+    }
+    if word_of(w) != 0 {
+        return sticks();
+    }
+    if 255 < operand {
+        return sticks();
+    }
+    match tables::unary_of(operand as u8) {
+        UnaryOf::Is(o) => given(h - 1, operators::unary(o, v)),
+        UnaryOf::Nothing => sticks(),
+    }
+}
+
+fn binary(w: u64, h: usize, left: Value, v: Value) -> Step
+    ensures { λ x. ⌜ DoesOnBoth (binaryBy w) h left v x ⌝ }
+{
+    let operand = operand_of(w);
+    if h < 2 {
+        return sticks();
+    }
+    if word_of(w) != 0 {
+        return sticks();
+    }
+    if 255 < operand {
+        return sticks();
+    }
+    match tables::binary_of(operand as u8) {
+        BinaryOf::Is(o) => given(h - 2, operators::binary(o, left, v)),
+        BinaryOf::Nothing => sticks(),
+    }
+}
+
+fn jump(w: u64, h: usize) -> Step
+    ensures { λ x. ⌜ Does (jumpBy w) h x ⌝ }
+{
+    if operand_of(w) != 0 {
+        return sticks();
+    }
+    skips(h, word_of(w) as usize)
+}
+
+// A jump if the truth of v is t.
+fn jump_if(w: u64, h: usize, v: Value, t: bool) -> Step
+    ensures { λ x. ⌜ DoesOn (jumpIfBy t w) h v x ⌝ }
+{
+    if operand_of(w) != 0 {
+        return sticks();
+    }
+    if h < 1 {
+        return sticks();
     }
     if operators::truth(v) == t {
-        Step::Skip(h - 1, d as usize)
+        skips(h - 1, word_of(w) as usize)
     } else {
-        Step::Skip(h - 1, 0)
-    }
-}
-
-// With h values held, of which right is the last and left the one before it; where there are fewer, no instruction uses them.
-// Each arm tests the height for itself, so that a run branches once on its instruction.
-fn perform(i: Instr, image: &[u8], h: usize, left: Value, right: Value) -> Step
-    ensures { λ r. ⌜ r ≡ stepOf (memoryOf (now (image .entry))) i h left right ⌝ }
-{
-    match i {
-        Instr::PushInt(z) => Step::Push(h, Value::Int(z)),
-        Instr::PushReal(x) => Step::Push(h, Value::Real(x)),
-        Instr::Load(b, e) => given(h, 0, memory::cells::read(image, b, e)),
-        Instr::LoadIndexed(b) => given(h, 1, memory::cells::read_indexed(image, b, right)),
-        Instr::Unary(o) => given(h, 1, operators::unary(o, right)),
-        Instr::Binary(o) => given(h, 2, operators::binary(o, left, right)),
-        Instr::Jump(d) => Step::Skip(h, d as usize),
-        Instr::JumpIf(t, d) => jump_if(h, right, t, d),
-        Instr::Unknown => Step::End(Ended::Stuck),
+        skips(h - 1, 0)
     }
 }
 
@@ -86,6 +266,19 @@ fn stuck(count: usize) -> Ran
     }
 }
 
+// The end of a run that a step makes.
+fn failed(how: How, fault: Fault, count: usize) -> Ran
+    ensures { λ r. ⌜ r ≡ failedAt how fault count ⌝ }
+{
+    match how {
+        How::Stop => Ran {
+            end: Ended::Stopped(fault),
+            count,
+        },
+        _ => stuck(count),
+    }
+}
+
 // Where the k-th value from the top lies among h; the lowest place if there are fewer.
 fn from_top(h: usize, k: usize) -> usize
     ensures { λ r. ⌜ r ≡ h - k ⌝ }
@@ -93,14 +286,34 @@ fn from_top(h: usize, k: usize) -> usize
     if h < k { 0 } else { h - k }
 }
 
-// At the end of the code: h values are held, and the first of them is v.
-fn finished(h: usize, v: Value) -> Ended
-    ensures { λ r. ⌜ r ≡ finishOf h v ⌝ }
+fn lesser(a: usize, b: usize) -> usize
+    ensures { λ r. ⌜ r ≡ lesserOf a b ⌝ }
 {
-    if h == 1 { Ended::Done(v) } else { Ended::Stuck }
+    if a < b { a } else { b }
 }
 
-// The first n instructions of the code, from no values held. Bytes beyond the code are no instruction.
+// Past the instructions that the code has: at the end of n of them, beyond it after a jump, or before it where the code has fewer and
+// the next is none. h values are held, and the first of them is v.
+fn finished(n: usize, place: usize, h: usize, v: Value, count: usize) -> Ran
+    requires { ⌜ count ≤ place ⌝ }
+    ensures { λ r. ⌜ r ≡ finishedAt n place h v count ⌝ }
+{
+    if n < place {
+        return stuck(count);
+    }
+    if place < n {
+        return stuck(count + 1);
+    }
+    if h == 1 {
+        let end = Ended::Done(v);
+        Ran { end, count }
+    } else {
+        stuck(count)
+    }
+}
+
+// The first n instructions of the code, from no values held. Bytes beyond the code are no instruction. A jump past the end leaves the
+// loop as the end does, and is told from it afterwards.
 pub fn run(code: &[u8], n: usize, image: &[u8]) -> Ran
     ensures { λ r. ⌜ r ≡ runs (now (code .entry)) n (now (image .entry)) ⌝ }
 {
@@ -108,30 +321,35 @@ pub fn run(code: &[u8], n: usize, image: &[u8]) -> Ran
     let mut h: usize = 0;
     let mut place: usize = 0;
     let mut count: usize = 0;
-    while place < n {
+    let there = lesser(n, code.len() / 8);
+    while place < there {
+        let w = code::fetch(code, place);
         count += 1;
-        let i = code::decode(code, place);
-        place += 1;
-        let right = stack[from_top(h, 1)];
-        let left = stack[from_top(h, 2)];
-        match perform(i, image, h, left, right) {
-            Step::Push(k, v) => {
-                if 128 <= k {
-                    return stuck(count);
-                }
-                stack[k] = v;
-                h = k + 1;
+        let step = match (w % 256) as u8 {
+            1 => push_int(w, h),
+            2 => push_real(w, h),
+            3 => load(w, image, h),
+            4 => load_indexed(w, image, h, stack[from_top(h, 1)]),
+            5 => unary(w, h, stack[from_top(h, 1)]),
+            6 => binary(w, h, stack[from_top(h, 2)], stack[from_top(h, 1)]),
+            7 => jump(w, h),
+            8 => jump_if(w, h, stack[from_top(h, 1)], false),
+            9 => jump_if(w, h, stack[from_top(h, 1)], true),
+            _ => sticks(),
+        };
+        h = step.height;
+        place += 1 + step.skip;
+        let fault = step.fault;
+        let how = step.how;
+        match how {
+            How::Push => {
+                let value = step.value;
+                stack[h] = value;
+                h += 1;
             }
-            Step::Skip(k, d) => {
-                if n - place < d {
-                    return stuck(count);
-                }
-                h = k;
-                place += d;
-            }
-            Step::End(end) => return Ran { end, count },
+            How::Skip => {}
+            How::Stop | How::Stuck => return failed(how, fault, count),
         }
     }
-    let end = finished(h, stack[0]);
-    Ran { end, count }
+    finished(n, place, h, stack[0], count)
 }

@@ -58,6 +58,9 @@ module _ {w r : Held} (some : 0 < w .height) (p : Popped w r) where
       let f : word w < 2 ^ suc (r .height) = subst (λ h. word w < 2 ^ h) above (k .few) in
       record { low = omega (arith, p .height, k .low); few = rw (p .bits) (omega (arith, rw (pow-succ' 2 (r .height)) at f)) }
 
+  pub kinds-popped : kindsOf w ≡ numberKind (word w % 2) ∷ kindsOf r
+  kinds-popped = rw (p .bits) (ap (λ h. bitKinds h (word w)) above)
+
 -- ---- comparing
 
 number-back : (b : ℕ) → b < 2 → kindNumber (numberKind b) ≡ b

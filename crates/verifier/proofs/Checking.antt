@@ -1,28 +1,27 @@
 -- The loop of `check`: what holds at each of its turns, and why its answer is right.
-use mathlib.Core.Path.{_≡_, refl, sym, ap, _∙_}
-use mathlib.Core.Bool.{true, false, true≢false}
+use mathlib.Core.Path.{_≡_, refl, sym, ap, _∙_, subst}
+use mathlib.Core.Bool.{Bool, true, false, cond, true≢false}
 use mathlib.Core.List.{List}
-use Prim.Native.Nat.{ℕ, zero, suc, _+_, _-_, _≤_, _<_}
-use native.Mathlib.Nat.{zero-add}
+use Prim.Native.Nat.{ℕ, zero, suc, _+_, _-_, _/_, _≤_, _<_}
+use native.Mathlib.Nat.{zero-add, add-zero, add-suc}
 use native.Mathlib.Numerals.{add-one}
 use native.Mathlib.Omega.{arith}
+use lib.Dec.{ltb}
 use lib.ListN.{length, getD, replicate, length-replicate}
-use borrow.Author.Tests.{leb-true, le-leb}
+use borrow.Author.Tests.{ltb-true, ltb-false}
 use Rattle.values.specs.declared.Kind.{Kind}
 use Rattle.code.specs.declared.Instr.{Instr}
-use Rattle.code.specs.declared.Instr.the-variants.{PushInt, PushReal, Load, LoadIndexed, Unary, Binary, Jump, JumpIf, Unknown}
 use Rattle.code.specs.Instructions.{decodeAt, instructions}
-use Rattle.code.proofs.Parts.{decode-length, decode-at}
-use Rattle.verifier.specs.declared.Flow.{Flow}
-use Rattle.verifier.specs.declared.Flow.the-variants as Flow
+use Rattle.code.proofs.Parts.{decode-length, decode-at, decode-beyond}
+use Rattle.verifier.specs.declared.packing.Held.{Held}
 use Rattle.verifier.specs.declared.Verdict.{Verdict}
 use Rattle.verifier.specs.declared.Verdict.the-variants.{Accepted, Refused}
-use Rattle.verifier.specs.Typing.{stands}
+use Rattle.verifier.specs.Typing.{Shape, stands}
 use Rattle.verifier.specs.Accepts.{instrAt, Accepts, Right}
-use Rattle.verifier.specs.Shapes.{State, rejected, none, Keeps, stateOf, kept, tableOf, Table, Blank}
-use Rattle.verifier.specs.Pass.{verdictOf, Joins, Steps}
-use Rattle.verifier.proofs.Pass.{unfailed, Knows, Or, passes, refusal, begins, joined, verdict-sound, verdict-complete}
-use Rattle.verifier.proofs.Onward.{stepped}
+use Rattle.verifier.specs.Shapes.{State, rejected, unreached, holds, instrBy, kindsOf, none, Keeps, tableOf, Table, Blank}
+use Rattle.verifier.specs.Pass.{verdictOf, Joins, takes, Steps, Skips}
+use Rattle.verifier.proofs.Pass.{unheld, unfailed, unarrived, Comes, Knows, Or, passes, refusal, passage, begins, joined, verdict-sound, verdict-complete}
+use Rattle.verifier.proofs.Onward.{stepped, passed}
 use Rattle.verifier.proofs.Held.{keeps-none}
 
 -- tables of m places, filled with 0
@@ -38,18 +37,6 @@ blank m n l = record {
   empty = zeros m;
 }
 
--- an instruction that stands with m following stands with more
-pub stands-more : (i : Instr) {m n : ℕ} → m ≤ n → stands m i ≡ true → stands n i ≡ true
-stands-more (PushInt z) l e = refl
-stands-more (PushReal x) l e = refl
-stands-more (Load b i) l e = refl
-stands-more (LoadIndexed b) l e = refl
-stands-more (Unary o) l e = refl
-stands-more (Binary o) l e = refl
-stands-more (Jump d) {m} {n} l e = le-leb d n (omega (arith, leb-true d m e))
-stands-more (JumpIf t d) {m} {n} l e = le-leb d n (omega (arith, leb-true d m e))
-stands-more Unknown l e = e
-
 module _ (code : List ℕ) (n : ℕ) where
   size : length (instructions code n) ≡ n
   size = decode-length code 0 n
@@ -62,6 +49,10 @@ module _ (code : List ℕ) (n : ℕ) where
     where
       no : (k : Kind) → Refused ≡ Accepted k → ⊥
       no k e = let z : _≡_ {A = ℕ} 0 1 = cc in omega arith
+
+  -- an instruction that does not stand
+  pub unknown : {p : ℕ} → p < n → stands (n - suc p) (decodeAt code p) ≡ false → Right code n Refused
+  unknown {p} l e = refused (λ k a. true≢false (sym (a .each p (omega (arith, size))) ∙ rw (size, at l) e))
 
   -- ---- the number of instructions
 
@@ -77,56 +68,89 @@ module _ (code : List ℕ) (n : ℕ) where
       none : length (instructions code n) ≤ 2048 → ⊥
       none l = omega (arith, size)
 
-  -- ---- what holds at the place p
+  pub too-short : length code / 8 < n → Right code n Refused
+  too-short l = unknown l (rw (decode-beyond code (length code / 8) (omega arith)))
 
-  -- what is known there is exact, or the code is not accepted
-  abbrev pub Known : ℕ → (ℕ → State) → State → Type 0
-  Known p brought o = Or (instructions code n) (Knows (instructions code n) p brought) o
+  -- ---- what is known
 
-  pub record Passing (m p : ℕ) (kinds tops lows highs : List ℕ) (flow : Flow) : Type 0 where
+  -- at the place p: what is reached there, which is held
+  pub record Passing (m p : ℕ) (kinds tops lows highs : List ℕ) (held : Held) : Type 0 where
     pub within : p ≤ n
-    pub keeps : Keeps kinds (kept flow)
+    pub keeps : Keeps kinds held
     pub table : Table m tops lows highs
-    pub knows : Known p (tableOf tops lows highs) (stateOf flow)
+    pub knows : Knows (instructions code n) p (tableOf tops lows highs) (holds (kindsOf held))
 
-  pub first : {tops lows highs : List ℕ} → Blank n tops lows highs → Passing (length tops) 0 (replicate 128 0) tops lows highs (Flow.Holds none)
+  pub first : {tops lows highs : List ℕ} → Blank n tops lows highs → Passing (length tops) 0 (replicate 128 0) tops lows highs none
   first blank = record {
     within = omega arith;
     keeps = keeps-none refl;
     table = blank .table;
-    knows = passes (λ e. unfailed e) (begins (instructions code n) _ (λ q. rw (blank .empty q)));
+    knows = begins (instructions code n) _ (λ q. rw (blank .empty q));
   }
 
-  -- ---- a turn
+  -- from the place before p: what comes to p, or that the code is not accepted
+  abbrev pub Came : ℕ → (ℕ → State) → State → Type 0
+  Came p brought o = Or (instructions code n) (Comes (instructions code n) p brought) o
 
-  module _ {p : ℕ} {i : Instr} (inside : p < n) (is : i ≡ decodeAt code p) where
-    here : i ≡ instrAt (instructions code n) p
-    here = is ∙ sym (at inside)
+  pub turn : {p : ℕ} {i : Instr} {s : Shape} {before after : ℕ → State} {o : State} → p < n → decodeAt code p ≡ i → Knows (instructions code n) p before (holds s)
+      → Steps i (n - (p + 1)) (p + 1) s before o after → Came (p + 1) after o
+  turn {p} {i} {s} {before} {after} {o} l is k t =
+      let here : i ≡ instrAt (instructions code n) p = sym (at l ∙ is) in
+      let left : n - suc p ≡ length (instructions code n) - suc p = ap (λ m. m - suc p) (sym size) in
+      let t′ : Steps (instrAt (instructions code n) p) (length (instructions code n) - suc p) (suc p) s before o after = rw (add-one p, here, left) at t in
+      rw (add-one p) (stepped (instructions code n) p before (omega (arith, size)) k t′)
 
-    follow : length (instructions code n) - suc p ≡ n - p - 1
-    follow = omega (arith, size)
-
-    pub unknown : stands (n - p - 1) i ≡ false → Right code n Refused
-    unknown e = refused (λ k a. true≢false (sym (a .each p (omega (arith, size))) ∙ rw (follow, ← here) e))
-
-    pub turn : {before after : ℕ → State} {o o′ o″ : State} → stands (n - p - 1) i ≡ true → Known p before o → Steps i (p + 1) before o o′ after → Joins o′ (after (p + 1)) o″
-        → Known (p + 1) after o″
-    turn {before} {after} {o} {o′} {o″} e k w j =
-        let l : p < length (instructions code n) = omega (arith, size) in
-        let known : stands (length (instructions code n) - suc p) (instrAt (instructions code n) p) ≡ true = rw (follow, ← here) e in
-        let w′ : Steps (instrAt (instructions code n) p) (suc p) before o o′ after = rw (add-one p, here) at w in
-        rw (add-one p) (joined refl (stepped (instructions code n) p before l known k w′) (rw (add-one p) at j))
-
-  -- ---- the end
-
-  pub fails : {p : ℕ} {brought : ℕ → State} {o : State} → Known p brought o → o ≡ rejected → Right code n Refused
+  pub fails : {p : ℕ} {brought : ℕ → State} {o : State} → Came p brought o → o ≡ rejected → Right code n Refused
   fails w e = refused (refusal w e)
 
-  pub ends : {p : ℕ} {brought : ℕ → State} {o : State} {v : Verdict} → 0 < n → n ≤ 2048 → p ≡ n → Known p brought o → v ≡ verdictOf o → Right code n v
-  ends {p} {brought} {o} some few e w is =
-      let q : p ≡ length (instructions code n) = e ∙ sym size in
-      let w′ : Known (length (instructions code n)) brought o = rw q at w in
-      record {
-        sound = λ k f. verdict-sound (omega (arith, size)) (omega (arith, size)) w′ k (sym is ∙ f);
-        complete = λ k a. is ∙ verdict-complete w′ k a;
-      }
+  -- what flows into p agrees with what jumps brought there, or not
+  module _ {p : ℕ} {brought : ℕ → State} {o : State} {s : Shape} (b : Bool) (w : Came p brought o) (e : o ≡ holds s) (j : Joins (holds s) (brought p) (cond b (holds s) rejected)) where
+    met : {x : State} → cond b (holds s) rejected ≡ x → Or (instructions code n) (Knows (instructions code n) p brought) x
+    met q = subst (Or (instructions code n) (Knows (instructions code n) p brought)) q (joined refl (subst (Or (instructions code n) (Comes (instructions code n) p brought)) e w) j)
+
+    pub agreed : b ≡ true → Knows (instructions code n) p brought (holds s)
+    agreed y = passage (met (ap (λ b. cond b (holds s) rejected) y)) (λ f. unfailed f)
+
+    pub disagreed : b ≡ false → Right code n Refused
+    disagreed y = refused (refusal (met (ap (λ b. cond b (holds s) rejected) y)) refl)
+
+  -- ---- the end, with what is known there
+
+  ends-by : {brought : ℕ → State} {o : State} {v : Verdict} → 0 < n → n ≤ 2048 → Or (instructions code n) (Knows (instructions code n) (length (instructions code n)) brought) o
+      → v ≡ verdictOf o → Right code n v
+  ends-by some few w is = record {
+    sound = λ k f. verdict-sound (omega (arith, size)) (omega (arith, size)) w k (sym is ∙ f);
+    complete = λ k a. is ∙ verdict-complete w k a;
+  }
+
+  pub ends : {p : ℕ} {brought : ℕ → State} {s : Shape} {v : Verdict} → 0 < n → n ≤ 2048 → p ≡ n → Knows (instructions code n) p brought (holds s) → v ≡ verdictOf (holds s) → Right code n v
+  ends {p} {brought} {s} some few e k is = ends-by some few (passes (λ f. unfailed f) (rw (e ∙ sym size) at k)) is
+
+  -- ---- nothing flows into p, and r is the next place that jumps come to, or one that they do not
+
+  module _ {p r : ℕ} {tops : List ℕ} {brought : ℕ → State} {o : State} (w : Came p brought o) (e : o ≡ unreached) (none : (q : ℕ) → getD tops q 0 ≡ 0 → brought q ≡ unreached)
+      (k : Skips code n tops p r) where
+    over : (m : ℕ) → p + m ≤ r → Comes (instructions code n) (p + m) brought unreached
+    over zero l = rw (add-zero p) (passage (subst (Or (instructions code n) (Comes (instructions code n) p brought)) e w) unarrived)
+    over (suc m) l =
+        let q : p + m < n = omega (arith, k .way .within) in
+        let known : stands (length (instructions code n) - suc (p + m)) (instrAt (instructions code n) (p + m)) ≡ true = rw (size, at q) (k .way .each (p + m) (omega arith) (omega arith)) in
+        rw (add-suc p m) (passed (instructions code n) (p + m) brought known (none (p + m) (k .way .none (p + m) (omega arith) (omega arith))) (over m (omega arith)))
+
+    skipped : Comes (instructions code n) r brought unreached
+    skipped =
+        let q : p + (r - p) ≡ r = omega (arith, k .way .onward) in
+        subst (λ r. Comes (instructions code n) r brought unreached) q (over (r - p) (omega (arith, k .way .onward)))
+
+    pub landed : {s : Shape} → holds s ≡ brought r → Knows (instructions code n) r brought (holds s)
+    landed f = passage (joined (sym f) (passes unarrived skipped) takes) (λ g. unfailed g)
+
+    pub lost : 0 < n → n ≤ 2048 → getD tops r 0 ≡ 0 → Right code n Refused
+    lost some few z = go (ltb r n) refl
+      where
+        go : (b : Bool) → ltb r n ≡ b → Right code n Refused
+        go true l = unknown (ltb-true r n l) (k .last z (ltb-true r n l))
+        go false l =
+            let q : r ≡ length (instructions code n) = omega (arith, size, k .way .within, ltb-false r n l) in
+            let f : Knows (instructions code n) r brought unreached = record { comes = skipped; joined = λ s g. unheld (sym (none r z) ∙ g) } in
+            ends-by some few (passes unarrived (subst (λ r. Knows (instructions code n) r brought unreached) q f)) refl

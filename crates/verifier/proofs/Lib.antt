@@ -3,9 +3,9 @@ pub mod Safe
 pub mod Moves
 pub mod Pass
 pub mod Onward
-pub mod Held
+pub mod Numbers
 pub mod Bits
-pub mod Joining
+pub mod Held
 pub mod Merging
 pub mod Stepping
 pub mod Checking

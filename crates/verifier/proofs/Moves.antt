@@ -1,18 +1,23 @@
--- Places: whether two are the same, and where a move leads, which is forward, and within the code where each instruction stands.
+-- Tests and places: whether two are the same, and where a move leads, which is forward, and within the code where each instruction stands.
 use mathlib.Core.Path.{_≡_, refl, sym, subst}
 use mathlib.Core.Bool.{Bool, true, false, cond}
 use mathlib.Core.List.{[], _∷_}
-use Prim.Native.Nat.{ℕ, suc, _+_, _-_, _≤_, _<_}
+use Prim.Native.Nat.{ℕ, zero, suc, _+_, _-_, _≤_, _<_}
 use native.Mathlib.Omega.{arith}
 use lib.Dec.{ltb, leb, eqb}
 use lib.ListN.{length}
-use borrow.Author.Tests.{ltb-true, ltb-false, leb-true, le-leb, lt-leb, eqb-true, eqb-false}
+use borrow.Author.Tests.{leb-true, eqb-true, eqb-false}
 use Rattle.operators.specs.Kinds.{unaryTakes, binaryTakes}
 use Rattle.code.specs.declared.Instr.{Instr}
 use Rattle.code.specs.declared.Instr.the-variants.{PushInt, PushReal, Load, LoadIndexed, Unary, Binary, Jump, JumpIf, Unknown}
 use Rattle.machine.specs.Machine.{most}
 use Rattle.verifier.specs.Typing.{Shape, Move, refused, next, leap, fork, moveOf, stands}
 use Rattle.verifier.specs.Accepts.{Leads, on, over, stay, away}
+
+-- what holds of both sides of a test
+pub under : {A : Type 0} (P : A → Type 0) (b : Bool) {x y : A} → P x → P y → P (cond b x y)
+under P true f g = f
+under P false f g = g
 
 -- a place is another, or it is not
 pub compare : {X : Type 0} (q t : ℕ) → (q ≡ t → X) → ((q ≡ t → ⊥) → X) → X
@@ -22,12 +27,14 @@ compare {X} q t f g = go (eqb q t) refl
     go true e = f (eqb-true q t e)
     go false e = g (eqb-false q t e)
 
-pub below : (d m : ℕ) → 1 ≤ m → ltb d m ≡ leb d (m - 1)
-below d m l = go (ltb d m) refl
-  where
-    go : (b : Bool) → ltb d m ≡ b → b ≡ leb d (m - 1)
-    go true e = sym (le-leb d (m - 1) (omega (arith, ltb-true d m e)))
-    go false e = sym (lt-leb d (m - 1) (omega (arith, ltb-false d m e)))
+-- what holds of each of m numbers from l on holds of a number among them
+abbrev pub Each : (ℕ → Type 0) → ℕ → ℕ → Type 0
+Each P l zero = Unit {0}
+Each P l (suc m) = P l × Each P (suc l) m
+
+pub between : (P : ℕ → Type 0) (l m : ℕ) → Each P l m → {n : ℕ} → l ≤ n → n < l + m → P n
+between P l zero e f g = absurd (omega arith)
+between P l (suc m) e {n} f g = compare n l (λ q. subst P (sym q) (e .0)) (λ q. between P (suc l) m (e .1) (omega arith) (omega arith))
 
 -- what holds below p, and of p, holds below the next
 pub upto : (X : ℕ → Type 0) (p : ℕ) → ((q : ℕ) → q < p → X q) → X p → (q : ℕ) → q < suc p → X q
@@ -80,6 +87,20 @@ spanned (Jump d) s k e = leb-true d k e
 spanned (JumpIf t d) [] k e = omega arith
 spanned (JumpIf t d) (x ∷ s) k e = leb-true d k e
 spanned Unknown s k e = omega arith
+
+-- an instruction that goes on to the next is known
+pub goes-known : (i : Instr) (s : Shape) {r : Shape} (k : ℕ) → moveOf i s ≡ next r → stands k i ≡ true
+unfolding moveOf
+goes-known (PushInt z) s k e = refl
+goes-known (PushReal x) s k e = refl
+goes-known (Load b i) s k e = refl
+goes-known (LoadIndexed b) s k e = refl
+goes-known (Unary o) s k e = refl
+goes-known (Binary o) s k e = refl
+goes-known (Jump d) s k e = let z : _≡_ {A = ℕ} 0 1 = cc in absurd (omega arith)
+goes-known (JumpIf t d) [] k e = let z : _≡_ {A = ℕ} 0 1 = cc in absurd (omega arith)
+goes-known (JumpIf t d) (x ∷ s) k e = let z : _≡_ {A = ℕ} 0 1 = cc in absurd (omega arith)
+goes-known Unknown s k e = let z : _≡_ {A = ℕ} 0 1 = cc in absurd (omega arith)
 
 pub within : (i : Instr) (s : Shape) {n p q : ℕ} {r : Shape} → p < n → stands (n - suc p) i ≡ true → Leads p (moveOf i s) q r → q ≤ n
 within i s {n} {p} l e w = omega (arith, reach w, spanned i s (n - suc p) e)

@@ -1,7 +1,8 @@
--- From one place to the next: where the pass knows what is reached at p, a step of it leaves the pass with what comes to the next place.
+-- From one place to the next: where the pass knows what is reached at p, a step of it leaves the pass with what comes to the next place; and so does a place that
+-- nothing comes to.
 use mathlib.Core.Path.{_≡_, refl, sym, ap, _∙_, subst}
 use mathlib.Core.Logic.{_⊎_, inl, inr}
-use mathlib.Core.Bool.{true, false}
+use mathlib.Core.Bool.{true, false, true≢false}
 use mathlib.Core.List.{List}
 use Prim.Native.Nat.{ℕ, suc, _+_, _-_, _≤_, _<_}
 use native.Mathlib.Omega.{arith}
@@ -11,9 +12,9 @@ use Rattle.code.specs.declared.Instr.{Instr}
 use Rattle.verifier.specs.Typing.{Shape, Move, refused, next, leap, fork, moveOf, stands}
 use Rattle.verifier.specs.Accepts.{Leads, on, over, stay, away, instrAt, Reached, onward, Accepts}
 use Rattle.verifier.specs.Shapes.{State, rejected, unreached, holds}
-use Rattle.verifier.specs.Pass.{Merges, adds, has, clashes, Steps, fails, skips, stuck, goes, leaps, forks, leap-clash, fork-clash}
-use Rattle.verifier.proofs.Moves.{compare, upto, able}
-use Rattle.verifier.proofs.Pass.{holds-same, unheld, unfailed, Arrives, first, from, In, flows, jumped, Comes, Knows, Or, refuses, passes, exact, unique}
+use Rattle.verifier.specs.Pass.{Merges, adds, has, clashes, Steps, stuck, strays, goes, leaps, forks, leap-clash, fork-clash}
+use Rattle.verifier.proofs.Moves.{compare, upto, able, goes-known}
+use Rattle.verifier.proofs.Pass.{holds-same, unheld, unfailed, unarrived, Arrives, first, from, In, flows, jumped, Comes, Knows, Or, refuses, passes, exact, unique}
 
 -- ---- what is asked of a step, whatever the instruction
 
@@ -68,7 +69,10 @@ module _ {before : ℕ → State} {r : Shape} {t : ℕ} where
 
 -- ---- each instruction
 
-module _ (c : List Instr) (p : ℕ) (before : ℕ → State) (inside : p < length c) (known : stands (length c - suc p) (instrAt c p) ≡ true) where
+module _ (c : List Instr) (p : ℕ) (before : ℕ → State) (inside : p < length c) where
+  abbrev Stands : Type 0
+  Stands = stands (length c - suc p) (instrAt c p) ≡ true
+
   -- with the kinds s, which are those that p is reached with, the instruction's move is m
   module _ {s : Shape} (k : Knows c p before (holds s)) {m : Move} (e : moveOf (instrAt c p) s ≡ m) where
     to : {q : ℕ} {r : Shape} → Leads p m q r → Reached c q r
@@ -77,13 +81,13 @@ module _ (c : List Instr) (p : ℕ) (before : ℕ → State) (inside : p < lengt
     clash : {r : Shape} {t : ℕ} {after : ℕ → State} → Leads p m t r → Merges r t before false after → (j : Kind) → Accepts c j → ⊥
     clash {r} {t} w (clashes {x = x} f n) j a = n (a .one t r x (to w) (k .comes .table t x f))
 
-    moved : {after : ℕ → State} {o : State} {t : ℕ} {x : Shape} → Leads p m t x
+    moved : {after : ℕ → State} {o : State} {t : ℕ} {x : Shape} → Stands → Leads p m t x
         → ((q : ℕ) (r : Shape) → Leads p m q r → In (suc p) after o q r)
         → ((q : ℕ) (r : Shape) → before q ≡ holds r → after q ≡ holds r)
         → ((r : Shape) → o ≡ holds r → Leads p m (suc p) r)
         → ((q : ℕ) (r : Shape) → after q ≡ holds r → (before q ≡ holds r) ⊎ Leads p m q r)
         → Comes c (suc p) after o
-    moved a led kept flow table = advance c p before (holds s) k known (record {
+    moved known a led kept flow table = advance c p before (holds s) k known (record {
       acts = λ x d f. able a (sym e ∙ ap (moveOf (instrAt c p)) (only d) ∙ f);
       led = λ x q r d w. led q r (subst (λ m. Leads p m q r) (ap (moveOf (instrAt c p)) (sym (only d)) ∙ e) w);
       kept = kept;
@@ -100,40 +104,43 @@ module _ (c : List Instr) (p : ℕ) (before : ℕ → State) (inside : p < lengt
 
   module _ {s r : Shape} (k : Knows c p before (holds s)) where
     goes-on : moveOf (instrAt c p) s ≡ next r → Comes c (suc p) before (holds r)
-    goes-on e = moved k e on led (λ q x f. f) (λ x f. subst (Leads p (next r) (suc p)) (holds-same f) on) (λ q x f. inl f)
+    goes-on e = moved k e (goes-known (instrAt c p) s (length c - suc p) e) on led (λ q x f. f) (λ x f. subst (Leads p (next r) (suc p)) (holds-same f) on) (λ q x f. inl f)
       where
         led : (q : ℕ) (x : Shape) → Leads p (next r) q x → In (suc p) before (holds r) q x
         led _ _ on = flows refl refl
 
-    leaps-on : {d : ℕ} {after : ℕ → State} → moveOf (instrAt c p) s ≡ leap d r → Merges r (suc p + d) before true after → Comes c (suc p) after unreached
-    leaps-on {d} {after} e b = moved k e over led (keeps b) (λ x f. unheld f) (grows b over)
+    leaps-on : {d : ℕ} {after : ℕ → State} → Stands → moveOf (instrAt c p) s ≡ leap d r → Merges r (suc p + d) before true after → Comes c (suc p) after unreached
+    leaps-on {d} {after} known e b = moved k e known over led (keeps b) (λ x f. unheld f) (grows b over)
       where
         led : (q : ℕ) (x : Shape) → Leads p (leap d r) q x → In (suc p) after unreached q x
         led _ _ over = jumped (there b)
 
-    forks-on : {d : ℕ} {after : ℕ → State} → moveOf (instrAt c p) s ≡ fork d r → Merges r (suc p + d) before true after → Comes c (suc p) after (holds r)
-    forks-on {d} {after} e b = moved k e stay led (keeps b) (λ x f. subst (Leads p (fork d r) (suc p)) (holds-same f) stay) (grows b away)
+    forks-on : {d : ℕ} {after : ℕ → State} → Stands → moveOf (instrAt c p) s ≡ fork d r → Merges r (suc p + d) before true after → Comes c (suc p) after (holds r)
+    forks-on {d} {after} known e b = moved k e known stay led (keeps b) (λ x f. subst (Leads p (fork d r) (suc p)) (holds-same f) stay) (grows b away)
       where
         led : (q : ℕ) (x : Shape) → Leads p (fork d r) q x → In (suc p) after (holds r) q x
         led _ _ stay = flows refl refl
         led _ _ away = jumped (there b)
 
-  pub stepped : {o o′ : State} {after : ℕ → State} → Or c (Knows c p before) o → Steps (instrAt c p) (suc p) before o o′ after → Or c (Comes c (suc p) after) o′
-  stepped (refuses f) fails = refuses f
-  stepped (passes n k) fails = absurd (n refl)
-  stepped (passes n k) skips = passes n (advance c p before unreached k known (record {
-    acts = λ s d. unheld (exact k s d);
-    led = λ s q r d. unheld (exact k s d);
-    kept = λ q r e. e;
-    flow = λ r e. unheld e;
-    table = k .comes .table;
-  }))
-  stepped (passes n k) (stuck {s = s} e) = refuses (λ h a. a .acts p s (k .comes .flow s refl) inside e)
-  stepped (passes n k) (goes e) = passes (λ e. unfailed e) (goes-on k e)
-  stepped (passes n k) (leaps e b) = passes (λ e. other e) (leaps-on k e b)
-    where
-      other : unreached ≡ rejected → ⊥
-      other e = let z : _≡_ {A = ℕ} 0 1 = cc in omega arith
-  stepped (passes n k) (forks e b) = passes (λ e. unfailed e) (forks-on k e b)
-  stepped (passes n k) (leap-clash {d = d} e b) = refuses (clash k e (over {d = d}) b)
-  stepped (passes n k) (fork-clash {d = d} e b) = refuses (clash k e (away {d = d}) b)
+  pub stepped : {s : Shape} {o : State} {after : ℕ → State} → Knows c p before (holds s) → Steps (instrAt c p) (length c - suc p) (suc p) s before o after → Or c (Comes c (suc p) after) o
+  stepped {s} k (stuck e) = refuses (λ h a. a .acts p s (k .comes .flow s refl) inside e)
+  stepped k (strays e) = refuses (λ h a. true≢false (sym (a .each p inside) ∙ e))
+  stepped k (goes e) = passes (λ e. unfailed e) (goes-on k e)
+  stepped k (leaps t e b) = passes unarrived (leaps-on k t e b)
+  stepped k (forks t e b) = passes (λ e. unfailed e) (forks-on k t e b)
+  stepped k (leap-clash {d = d} e b) = refuses (clash k e (over {d = d}) b)
+  stepped k (fork-clash {d = d} e b) = refuses (clash k e (away {d = d}) b)
+
+-- ---- a place that nothing comes to is passed over
+
+pub passed : (c : List Instr) (p : ℕ) (before : ℕ → State) → stands (length c - suc p) (instrAt c p) ≡ true → before p ≡ unreached → Comes c p before unreached → Comes c (suc p) before unreached
+passed c p before known e k = advance c p before unreached w known (record {
+  acts = λ s d. unheld (exact w s d);
+  led = λ s q r d. unheld (exact w s d);
+  kept = λ q r f. f;
+  flow = λ r f. unheld f;
+  table = k .table;
+})
+  where
+    w : Knows c p before unreached
+    w = record { comes = k; joined = λ s f. unheld (sym e ∙ f) }

@@ -11,7 +11,7 @@ use Rattle.verifier.specs.declared.Verdict.the-variants.{Accepted}
 use Rattle.verifier.specs.Typing.{Shape, refused, moveOf, stands}
 use Rattle.verifier.specs.Accepts.{Leads, instrAt, Reached, start, onward, Accepts}
 use Rattle.verifier.specs.Shapes.{State, rejected, unreached, holds}
-use Rattle.verifier.specs.Pass.{verdictOf, Joins, alone, failed, takes, agrees, differs}
+use Rattle.verifier.specs.Pass.{verdictOf, Joins, alone, takes, agrees, differs}
 use Rattle.verifier.proofs.Moves.{upto, forward, within}
 
 -- ---- states
@@ -24,6 +24,9 @@ unheld e = let z : _≡_ {A = ℕ} 0 1 = cc in absurd (omega arith)
 
 pub unfailed : {s : Shape} → holds s ≡ rejected → ⊥
 unfailed e = let z : _≡_ {A = ℕ} 0 1 = cc in omega arith
+
+pub unarrived : unreached ≡ rejected → ⊥
+unarrived e = let z : _≡_ {A = ℕ} 0 1 = cc in omega arith
 
 -- ---- what is known
 
@@ -60,7 +63,7 @@ pub refusal : {c : List Instr} {P : State → Type 0} {o : State} → Or c P o �
 refusal (refuses f) e = f
 refusal (passes n x) e = absurd (n e)
 
-passage : {c : List Instr} {P : State → Type 0} {o : State} → Or c P o → (o ≡ rejected → ⊥) → P o
+pub passage : {c : List Instr} {P : State → Type 0} {o : State} → Or c P o → (o ≡ rejected → ⊥) → P o
 passage (refuses f) n = absurd (n refl)
 passage (passes n x) _ = x
 
@@ -105,9 +108,7 @@ begins c brought e = record {
 
 pub joined : {c : List Instr} {p : ℕ} {brought : ℕ → State} {o x o′ : State} → brought p ≡ x → Or c (Comes c p brought) o → Joins o x o′ → Or c (Knows c p brought) o′
 joined e (refuses f) alone = refuses f
-joined e (refuses f) failed = refuses f
 joined e (passes n k) alone = passes n (record { comes = k; joined = λ s f. unheld (sym e ∙ f) })
-joined e (passes n k) failed = absurd (n refl)
 joined {c} {p} {brought} e (passes n k) (takes {s = s}) = passes (λ e. unfailed e) (record {
   comes = record {
     each = k .each;

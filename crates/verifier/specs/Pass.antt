@@ -1,12 +1,14 @@
 -- What a step of the pass does to what it knows, whatever the arrays: for the contracts of private functions.
 use mathlib.Core.Path.{_≡_}
 use mathlib.Core.Bool.{Bool, true, false}
-use mathlib.Core.List.{[], _∷_}
-use Prim.Native.Nat.{ℕ, _+_}
+use mathlib.Core.List.{List, [], _∷_}
+use Prim.Native.Nat.{ℕ, suc, _+_, _-_, _≤_, _<_}
+use lib.ListN.{getD}
 use Rattle.code.specs.declared.Instr.{Instr}
+use Rattle.code.specs.Instructions.{decodeAt}
 use Rattle.verifier.specs.declared.Verdict.{Verdict}
 use Rattle.verifier.specs.declared.Verdict.the-variants.{Accepted, Refused}
-use Rattle.verifier.specs.Typing.{Shape, refused, next, leap, fork, moveOf}
+use Rattle.verifier.specs.Typing.{Shape, refused, next, leap, fork, moveOf, stands}
 use Rattle.verifier.specs.Shapes.{State, rejected, unreached, holds}
 
 -- the verdict, from what is known at the end
@@ -24,7 +26,6 @@ pub record Agrees (b : Bool) (s r : Shape) : Type 0 where
 -- what flows into a place, and what jumps brought there, are one thing
 pub data Joins : State → State → State → Type 0 where
   alone : {o : State} → Joins o unreached o
-  failed : {x : State} → Joins rejected x rejected
   takes : {s : Shape} → Joins unreached (holds s) (holds s)
   agrees : {s : Shape} → Joins (holds s) (holds s) (holds s)
   differs : {s r : Shape} → (s ≡ r → ⊥) → Joins (holds s) (holds r) rejected
@@ -35,13 +36,24 @@ pub data Merges (s : Shape) (t : ℕ) (before : ℕ → State) : Bool → (ℕ �
   has : before t ≡ holds s → Merges s t before true before
   clashes : {x : Shape} → before t ≡ holds x → (s ≡ x → ⊥) → Merges s t before false before
 
--- from what is known at a place to what flows from it into the next, p
-pub data Steps (i : Instr) (p : ℕ) (before : ℕ → State) : State → State → (ℕ → State) → Type 0 where
-  fails : Steps i p before rejected rejected before
-  skips : Steps i p before unreached unreached before
-  stuck : {s : Shape} → moveOf i s ≡ refused → Steps i p before (holds s) rejected before
-  goes : {s r : Shape} → moveOf i s ≡ next r → Steps i p before (holds s) (holds r) before
-  leaps : {s r : Shape} {d : ℕ} {after : ℕ → State} → moveOf i s ≡ leap d r → Merges r (p + d) before true after → Steps i p before (holds s) unreached after
-  forks : {s r : Shape} {d : ℕ} {after : ℕ → State} → moveOf i s ≡ fork d r → Merges r (p + d) before true after → Steps i p before (holds s) (holds r) after
-  leap-clash : {s r : Shape} {d : ℕ} {after : ℕ → State} → moveOf i s ≡ leap d r → Merges r (p + d) before false after → Steps i p before (holds s) rejected after
-  fork-clash : {s r : Shape} {d : ℕ} {after : ℕ → State} → moveOf i s ≡ fork d r → Merges r (p + d) before false after → Steps i p before (holds s) rejected after
+-- from the kinds s held at a place to what flows from it into the next, p, where k instructions follow
+pub data Steps (i : Instr) (k p : ℕ) (s : Shape) (before : ℕ → State) : State → (ℕ → State) → Type 0 where
+  stuck : moveOf i s ≡ refused → Steps i k p s before rejected before
+  strays : stands k i ≡ false → Steps i k p s before rejected before
+  goes : {r : Shape} → moveOf i s ≡ next r → Steps i k p s before (holds r) before
+  leaps : {r : Shape} {d : ℕ} {after : ℕ → State} → stands k i ≡ true → moveOf i s ≡ leap d r → Merges r (p + d) before true after → Steps i k p s before unreached after
+  forks : {r : Shape} {d : ℕ} {after : ℕ → State} → stands k i ≡ true → moveOf i s ≡ fork d r → Merges r (p + d) before true after → Steps i k p s before (holds r) after
+  leap-clash : {r : Shape} {d : ℕ} {after : ℕ → State} → moveOf i s ≡ leap d r → Merges r (p + d) before false after → Steps i k p s before rejected after
+  fork-clash : {r : Shape} {d : ℕ} {after : ℕ → State} → moveOf i s ≡ fork d r → Merges r (p + d) before false after → Steps i k p s before rejected after
+
+-- from a place p that nothing flows into to r: jumps come to none between them, and each instruction is known
+pub record Skipping (code : List ℕ) (n : ℕ) (tops : List ℕ) (p r : ℕ) : Type 0 where
+  pub onward : p ≤ r
+  pub within : r ≤ n
+  pub none : (q : ℕ) → p ≤ q → q < r → getD tops q 0 ≡ 0
+  pub each : (q : ℕ) → p ≤ q → q < r → stands (n - suc q) (decodeAt code q) ≡ true
+
+-- and r has a jump, or is the end, or its instruction is not known
+pub record Skips (code : List ℕ) (n : ℕ) (tops : List ℕ) (p r : ℕ) : Type 0 where
+  pub way : Skipping code n tops p r
+  pub last : getD tops r 0 ≡ 0 → r < n → stands (n - suc r) (decodeAt code r) ≡ false

@@ -1,21 +1,44 @@
--- How the code keeps kinds: an array of 128 numbers of which the first count, 0 for an integer, beside it the same as bits, and bits alone for a place that jumps
--- go to. For the contracts of private functions, as Pass is; a reader believes Typing, Accepts and Safety.
+-- How the code has what the definitions speak of: an instruction as the number of its eight bytes; kinds in an array of 128 numbers of which the first count, 0 for
+-- an integer, beside it the same as bits, and bits alone for a place that jumps go to. For the contracts of private functions, as Pass is; a reader believes Typing,
+-- Accepts and Safety.
 use mathlib.Core.Path.{_≡_}
-use mathlib.Core.Bool.{cond}
+use mathlib.Core.Bool.{Bool, false, _&&_, cond}
 use mathlib.Core.List.{List, [], _∷_}
 use Prim.Native.Nat.{ℕ, zero, suc, _+_, _-_, _*_, _/_, _%_, _^_, _≤_, _<_}
-use lib.Dec.{eqb}
+use lib.Dec.{eqb, ltb, leb}
 use lib.ListN.{length, getD}
 use Rattle.values.specs.declared.Kind.{Kind}
 use Rattle.values.specs.declared.Kind.the-variants.{Int, Real}
-use Rattle.verifier.specs.declared.Flow.{Flow}
-use Rattle.verifier.specs.declared.Flow.the-variants.{Refused, Unreached, Holds}
-use Rattle.verifier.specs.declared.Jumps.{Jumps}
-use Rattle.verifier.specs.declared.Jumps.the-variants.{Nothing, Kinds}
+use Rattle.operators.specs.Kinds.{isInt, join}
+use Rattle.memory.specs.declared.Bank.the-variants.{X}
+use Rattle.memory.specs.Cells.{bankKind}
+use Rattle.memory.specs.Numbers.{banks}
+use Rattle.code.specs.declared.Instr.{Instr}
+use Rattle.code.specs.Instructions.{instruction}
 use Rattle.verifier.specs.declared.packing.Held.{Held}
-use Rattle.verifier.specs.declared.typing.Going.{Going}
-use Rattle.verifier.specs.declared.typing.Going.the-variants as Going
-use Rattle.verifier.specs.Typing.{Shape, Move, refused, next, leap, fork}
+use Rattle.verifier.specs.declared.typing.Flow.{Flow}
+use Rattle.verifier.specs.Typing.{Shape, Move, refused, next, pushing, moveOf}
+
+-- ---- an instruction as a number: the opcode, behind it the operand with the two bytes that must be 0, and the word
+
+abbrev pub operandOf : ℕ → ℕ
+operandOf w = w / 256 % 16777216
+
+abbrev pub wordOf : ℕ → ℕ
+wordOf w = w / 4294967296
+
+-- with the opcode o, or its own
+abbrev pub instrOf : ℕ → ℕ → Instr
+instrOf o w = instruction o (operandOf w) (wordOf w)
+
+abbrev pub instrBy : ℕ → Instr
+instrBy w = instrOf (w % 256) w
+
+-- a jump of which m instructions follow stands
+abbrev pub staying : ℕ → ℕ → Bool
+staying m w = cond (eqb (operandOf w) 0) (leb (wordOf w) m) false
+
+-- ---- states
 
 -- what the pass knows at a place: the code is not accepted; the place is not reached as yet; it is reached with these kinds
 pub data State : Type 0 where
@@ -29,6 +52,42 @@ numberKind n = cond (eqb n 0) Int Real
 abbrev pub kindNumber : Kind → ℕ
 kindNumber Int = 0
 kindNumber Real = 1
+
+-- ---- what an instruction leaves: the number of a kind, or more than 1 for nothing
+
+abbrev pub leaving : ℕ → Shape → Move
+leaving n s = cond (ltb n 2) (next (numberKind n ∷ s)) refused
+
+abbrev pub pushed : ℕ → Shape → Move
+pushed n s = cond (ltb n 2) (pushing (numberKind n) s) refused
+
+-- the kind k itself, and what two kinds can make
+pub record Itself (k n : ℕ) : Type 0 where
+  pub is : (s : Shape) → leaving n s ≡ next (numberKind k ∷ s)
+
+abbrev pub joint : Kind → Kind → Shape → Move
+joint j k s = next (join j k ∷ s)
+
+abbrev pub wholly : Kind → Kind → Shape → Move
+wholly j k s = cond (isInt j && isInt k) (next (Int ∷ s)) refused
+
+pub record Makes (f : Kind → Kind → Shape → Move) (j k n : ℕ) : Type 0 where
+  pub is : (s : Shape) → leaving n s ≡ f (numberKind j) (numberKind k) s
+
+-- an instruction that leaves it in the place of nothing, of a value of the kind k, or of two, j below k
+pub record Gives (i : Instr) (n : ℕ) : Type 0 where
+  pub is : (s : Shape) → moveOf i s ≡ pushed n s
+
+pub record Turns (i : Instr) (k n : ℕ) : Type 0 where
+  pub is : (s : Shape) → moveOf i (numberKind k ∷ s) ≡ leaving n s
+
+pub record Pairs (i : Instr) (j k n : ℕ) : Type 0 where
+  pub is : (s : Shape) → moveOf i (numberKind k ∷ (numberKind j ∷ s)) ≡ leaving n s
+
+-- the kind of a bank by number
+pub data Banked (b : ℕ) : ℕ → Type 0 where
+  has : {n : ℕ} → b < 6 → n < 2 → numberKind n ≡ bankKind (getD banks b X) → Banked b n
+  lacks : 6 ≤ b → Banked b 2
 
 -- ---- kinds as numbers in the array, and as bits
 
@@ -47,6 +106,9 @@ word w = w .high * 2 ^ 64 + w .low
 
 abbrev pub kindsOf : Held → Shape
 kindsOf w = bitKinds (w .height) (word w)
+
+abbrev pub none : Held
+none = record { height = 0; low = 0; high = 0 }
 
 -- no more than 128, and no other bit is set, so that equal kinds are equal words
 pub record Neat (w : Held) : Type 0 where
@@ -67,46 +129,28 @@ pub record Popped (w r : Held) : Type 0 where
   pub height : r .height ≡ w .height - 1
   pub bits : word r ≡ word w / 2
 
--- ---- what flows, what an instruction leads to, and what jumps brought
+pub record Replaced (n : ℕ) (w r : Held) : Type 0 where
+  pub height : r .height ≡ w .height
+  pub bits : word r ≡ n + 2 * (word w / 2)
 
-abbrev pub none : Held
-none = record { height = 0; low = 0; high = 0 }
+-- the kinds below the last
+abbrev pub below : Held → Shape
+below w = bitKinds (w .height - 1) (word w / 2)
+
+-- ---- what flows on
+
+abbrev pub stateAt : ℕ → Shape → State
+stateAt zero s = rejected
+stateAt (suc zero) s = unreached
+stateAt (suc (suc n)) s = holds s
 
 abbrev pub stateOf : Flow → State
-stateOf Refused = rejected
-stateOf (Unreached w) = unreached
-stateOf (Holds w) = holds (kindsOf w)
+stateOf f = stateAt (f .reach) (kindsOf (f .held))
 
--- what the array has
-abbrev pub kept : Flow → Held
-kept Refused = none
-kept (Unreached w) = w
-kept (Holds w) = w
-
-abbrev pub moveIn : Going → Move
-moveIn Going.Refused = refused
-moveIn (Going.Next w) = next (kindsOf w)
-moveIn (Going.Leap d w) = leap d (kindsOf w)
-moveIn (Going.Fork d w) = fork d (kindsOf w)
-
-abbrev pub after : Going → Held
-after Going.Refused = none
-after (Going.Next w) = w
-after (Going.Leap d w) = w
-after (Going.Fork d w) = w
-
--- the array a, as it is left, and g are the move m
-pub record Leaves (a : List ℕ) (g : Going) (m : Move) : Type 0 where
-  pub keeps : Keeps a (after g)
-  pub is : moveIn g ≡ m
-
-abbrev pub broughtOf : Jumps → State
-broughtOf Nothing = unreached
-broughtOf (Kinds w) = holds (kindsOf w)
-
-abbrev pub found : Jumps → Held
-found Nothing = none
-found (Kinds w) = w
+-- the array a, as it is left, and f are the move m, which is no jump
+pub data Leaves (a : List ℕ) (f : Flow) : Move → Type 0 where
+  stops : f .reach ≡ 0 → Keeps a (f .held) → Leaves a f refused
+  goes : f .reach ≡ 2 → Keeps a (f .held) → Leaves a f (next (kindsOf (f .held)))
 
 -- ---- three arrays, of the places that jumps go to
 

@@ -1,19 +1,21 @@
 // The verifier: one pass over the code, with the kinds of the values held as its state.
 ghost use mathlib.Core.Path.{_≡_};
-ghost use mathlib.Core.Bool.{true};
-ghost use Prim.Native.Nat.{_-_, _<_, _≤_};
-ghost use lib.ListN.{length};
-ghost use Rattle.verifier.specs.Typing.{stands};
+ghost use mathlib.Core.Bool.{Bool, cond};
+ghost use Prim.Native.Nat.{ℕ, _-_, _<_, _≤_};
+ghost use mathlib.Core.List.{List};
+ghost use lib.ListN.{length, getD};
+ghost use Rattle.code.specs.declared.Instr.the-variants.{JumpIf};
+ghost use Rattle.code.specs.Instructions.{alone};
 ghost use Rattle.verifier.specs.Accepts.{Right};
-ghost use Rattle.verifier.specs.Shapes.{kindsOf, Neat, Keeps, stateOf, kept, broughtOf, found, tableOf, Table, Blank};
-ghost use Rattle.verifier.specs.Pass.{Joins, Merges, Steps, verdictOf};
+ghost use Rattle.verifier.specs.Shapes.{rejected, holds, kindsOf, operandOf, wordOf, instrOf, instrBy, Neat, Keeps, stateOf, tableOf, Table, Blank};
+ghost use Rattle.verifier.specs.Pass.{Joins, Merges, Steps, Skips, verdictOf};
 
+mod kinds;
 mod packing;
 mod typing;
 
-use code::Instr;
 use packing::Held;
-use typing::Going;
+use typing::Flow;
 use values::Kind;
 
 pub enum Verdict {
@@ -21,60 +23,30 @@ pub enum Verdict {
     Refused,
 }
 
-// What is known at a place: the code is refused; the place is not reached as yet, and the array has what it had before; or values are held.
-enum Flow {
-    Refused,
-    Unreached(Held),
-    Holds(Held),
-}
-
-// What jumps brought to a place.
-enum Jumps {
-    Nothing,
-    Kinds(Held),
-}
-
-// The top is one more than the values that a jump found held, and 0 where no jump came.
-fn brought(place: usize, tops: &[u8], lows: &[u64], highs: &[u64]) -> Jumps
-    requires { ⌜ place < length (now tops) ⌝ }
+// What jumps brought to a place. The top is one more than the values that they found held, and 0 where no jump came.
+fn brought(place: usize, tops: &[u8], lows: &[u64], highs: &[u64]) -> Held
+    requires { ⌜ (place < length (now tops)) × (0 < getD (now tops) place 0) ⌝ }
     requires { ⌜ Table (length (now tops)) (now tops) (now lows) (now highs) ⌝ }
-    ensures { λ r. ⌜ Neat (found r) × (broughtOf r ≡ tableOf (now (tops .entry)) (now (lows .entry)) (now (highs .entry)) place) ⌝ }
+    ensures { λ r. ⌜ Neat r × (holds (kindsOf r) ≡ tableOf (now (tops .entry)) (now (lows .entry)) (now (highs .entry)) place) ⌝ }
 {
-    let top = tops[place];
-    if top == 0 {
-        return Jumps::Nothing;
-    }
-    Jumps::Kinds(Held {
-        height: (top - 1) as usize,
+    Held {
+        height: (tops[place] - 1) as usize,
         low: lows[place],
         high: highs[place],
-    })
+    }
 }
 
-// What flows into a place and what jumps brought there must be the same; where only one is known, that is it.
-fn join(flow: Flow, kinds: &mut [u8; 128], jumps: Jumps) -> Flow
-    requires { ⌜ Keeps (now kinds) (kept flow) ⌝ }
-    requires { ⌜ Neat (found jumps) ⌝ }
-    ensures { λ r. ⌜ Keeps (now (kinds .exit)) (kept r) ⌝ }
-    ensures { λ r. ⌜ Joins (stateOf flow) (broughtOf jumps) (stateOf r) ⌝ }
+// What flows into a place is what jumps brought there, if they brought anything.
+fn agrees(held: Held, place: usize, tops: &[u8], lows: &[u64], highs: &[u64]) -> bool
+    requires { ⌜ Neat held × (place < length (now tops)) ⌝ }
+    requires { ⌜ Table (length (now tops)) (now tops) (now lows) (now highs) ⌝ }
+    ensures { λ r. ⌜ Joins (holds (kindsOf held)) (tableOf (now (tops .entry)) (now (lows .entry)) (now (highs .entry)) place)
+        (cond r (holds (kindsOf held)) rejected) ⌝ }
 {
-    let Jumps::Kinds(there) = jumps else {
-        return flow;
-    };
-    match flow {
-        Flow::Refused => Flow::Refused,
-        Flow::Unreached(held) => {
-            packing::restore(kinds, held, there);
-            Flow::Holds(there)
-        }
-        Flow::Holds(held) => {
-            if packing::same(held, there) {
-                Flow::Holds(held)
-            } else {
-                Flow::Refused
-            }
-        }
+    if tops[place] == 0 {
+        return true;
     }
+    packing::same(held, brought(place, tops, lows, highs))
 }
 
 // A jump brings the kinds held to its target: they must be the same that jumps brought before.
@@ -86,66 +58,139 @@ fn merge(held: Held, target: usize, tops: &mut [u8], lows: &mut [u64], highs: &m
     ensures { λ r. ⌜ Merges (kindsOf held) target (tableOf (now (tops .entry)) (now (lows .entry)) (now (highs .entry))) r
         (tableOf (now (tops .exit)) (now (lows .exit)) (now (highs .exit))) ⌝ }
 {
-    match brought(target, tops, lows, highs) {
-        Jumps::Kinds(there) => packing::same(held, there),
-        Jumps::Nothing => {
-            tops[target] = (held.height + 1) as u8;
-            lows[target] = held.low;
-            highs[target] = held.high;
-            true
+    if tops[target] == 0 {
+        tops[target] = (held.height + 1) as u8;
+        lows[target] = held.low;
+        highs[target] = held.high;
+        return true;
+    }
+    packing::same(held, brought(target, tops, lows, highs))
+}
+
+// A jump leads to its target alone.
+fn leap(
+    w: u64,
+    n: usize,
+    held: Held,
+    next: usize,
+    tops: &mut [u8],
+    lows: &mut [u64],
+    highs: &mut [u64],
+) -> Flow
+    requires { ⌜ Neat held × (next ≤ n) × (n < length (now tops)) ⌝ }
+    requires { ⌜ Table (length (now tops)) (now tops) (now lows) (now highs) ⌝ }
+    ensures { λ r. ⌜ ((a : List ℕ) → Keeps a held → Keeps a (r .held)) ⌝ }
+    ensures { λ r. ⌜ Table (length (now (tops .entry))) (now (tops .exit)) (now (lows .exit)) (now (highs .exit)) ⌝ }
+    ensures { λ r. ⌜ Steps (instrOf 7 w) (n - next) next (kindsOf held) (tableOf (now (tops .entry)) (now (lows .entry)) (now (highs .entry)))
+        (stateOf r) (tableOf (now (tops .exit)) (now (lows .exit)) (now (highs .exit))) ⌝ }
+{
+    if !kinds::stays(w, n - next) {
+        return Flow { reach: 0, held };
+    }
+    let target = next + (kinds::word(w) as usize);
+    if merge(held, target, tops, lows, highs) {
+        Flow { reach: 1, held }
+    } else {
+        Flow { reach: 0, held }
+    }
+}
+
+// A jump on a value takes it, and leads to its target and to the next place.
+fn fork(
+    w: u64,
+    n: usize,
+    held: Held,
+    next: usize,
+    tops: &mut [u8],
+    lows: &mut [u64],
+    highs: &mut [u64],
+) -> Flow
+    requires { ⌜ Neat held × (next ≤ n) × (n < length (now tops)) ⌝ }
+    requires { ⌜ Table (length (now tops)) (now tops) (now lows) (now highs) ⌝ }
+    ensures { λ r. ⌜ ((a : List ℕ) → Keeps a held → Keeps a (r .held)) ⌝ }
+    ensures { λ r. ⌜ Table (length (now (tops .entry))) (now (tops .exit)) (now (lows .exit)) (now (highs .exit)) ⌝ }
+    ensures { λ r. ⌜ ((t : Bool) → Steps (alone (operandOf w) (JumpIf t (wordOf w))) (n - next) next (kindsOf held)
+        (tableOf (now (tops .entry)) (now (lows .entry)) (now (highs .entry))) (stateOf r)
+        (tableOf (now (tops .exit)) (now (lows .exit)) (now (highs .exit)))) ⌝ }
+{
+    if held.height < 1 {
+        return Flow { reach: 0, held };
+    }
+    if !kinds::stays(w, n - next) {
+        return Flow { reach: 0, held };
+    }
+    let rest = packing::popped(held);
+    let target = next + (kinds::word(w) as usize);
+    if merge(rest, target, tops, lows, highs) {
+        Flow {
+            reach: 2,
+            held: rest,
+        }
+    } else {
+        Flow {
+            reach: 0,
+            held: rest,
         }
     }
 }
 
-// From what is known at a place to what flows from it into the next.
+// From the values held at a place to what flows from it into the next, of n places. The number is the instruction's.
 fn step(
-    i: Instr,
-    flow: Flow,
+    w: u64,
+    n: usize,
+    held: Held,
     next: usize,
     kinds: &mut [u8; 128],
     tops: &mut [u8],
     lows: &mut [u64],
     highs: &mut [u64],
 ) -> Flow
-    requires { ⌜ Keeps (now kinds) (kept flow) ⌝ }
+    requires { ⌜ Keeps (now kinds) held ⌝ }
+    requires { ⌜ (next ≤ n) × (n < length (now tops)) ⌝ }
     requires { ⌜ Table (length (now tops)) (now tops) (now lows) (now highs) ⌝ }
-    requires { ⌜ (next < length (now tops)) × (stands (length (now tops) - 1 - next) i ≡ true) ⌝ }
-    ensures { λ r. ⌜ Keeps (now (kinds .exit)) (kept r) ⌝ }
+    ensures { λ r. ⌜ Keeps (now (kinds .exit)) (r .held) ⌝ }
     ensures { λ r. ⌜ Table (length (now (tops .entry))) (now (tops .exit)) (now (lows .exit)) (now (highs .exit)) ⌝ }
-    ensures { λ r. ⌜ Steps i next (tableOf (now (tops .entry)) (now (lows .entry)) (now (highs .entry))) (stateOf flow)
+    ensures { λ r. ⌜ Steps (instrBy w) (n - next) next (kindsOf held) (tableOf (now (tops .entry)) (now (lows .entry)) (now (highs .entry)))
         (stateOf r) (tableOf (now (tops .exit)) (now (lows .exit)) (now (highs .exit))) ⌝ }
 {
-    let Flow::Holds(held) = flow else {
-        return flow;
-    };
-    match typing::typed(i, kinds, held) {
-        Going::Refused => Flow::Refused,
-        Going::Next(g) => Flow::Holds(g),
-        Going::Leap(d, g) => {
-            if merge(g, next + (d as usize), tops, lows, highs) {
-                Flow::Unreached(g)
-            } else {
-                Flow::Refused
-            }
-        }
-        Going::Fork(d, g) => {
-            if merge(g, next + (d as usize), tops, lows, highs) {
-                Flow::Holds(g)
-            } else {
-                Flow::Refused
-            }
-        }
+    match w % 256 {
+        1 => typing::push(kinds, held, kinds::int_kind(w)),
+        2 => typing::push(kinds, held, kinds::real_kind(w)),
+        3 => typing::push(kinds, held, kinds::load_kind(w)),
+        4 => typing::indexed(kinds, held, w),
+        5 => typing::unary(kinds, held, w),
+        6 => typing::binary(kinds, held, w),
+        7 => leap(w, n, held, next, tops, lows, highs),
+        8 | 9 => fork(w, n, held, next, tops, lows, highs),
+        _ => Flow { reach: 0, held },
     }
 }
 
-// The end has one value.
-fn ended(flow: Flow, kinds: &[u8; 128]) -> Verdict
-    requires { ⌜ Keeps (now kinds) (kept flow) ⌝ }
-    ensures { λ r. ⌜ r ≡ verdictOf (stateOf flow) ⌝ }
+// From a place that nothing flows into, over instructions that are known, to one that jumps come to. Where it ends at another, there is
+// none, or an instruction on the way is not known.
+fn skipped(code: &[u8], n: usize, from: usize, tops: &[u8]) -> usize
+    requires { ⌜ (from ≤ n) × (n < length (now tops)) ⌝ }
+    ensures { λ r. ⌜ Skips (now (code .entry)) n (now (tops .entry)) from r ⌝ }
 {
-    let Flow::Holds(held) = flow else {
-        return Verdict::Refused;
-    };
+    let mut place = from;
+    while tops[place] == 0 {
+        if n <= place {
+            return place;
+        }
+        let w = code::fetch(code, place);
+        if !kinds::known(w, n - place - 1) {
+            return place;
+        }
+        place += 1;
+    }
+    place
+}
+
+// The end has one value.
+fn ended(held: Held, kinds: &[u8; 128]) -> Verdict
+    requires { ⌜ Keeps (now kinds) held ⌝ }
+    ensures { λ r. ⌜ r ≡ verdictOf (holds (kindsOf held)) ⌝ }
+{
     if held.height == 1 {
         return Verdict::Accepted(typing::kind(kinds[0]));
     }
@@ -158,26 +203,39 @@ fn checked(code: &[u8], n: usize, tops: &mut [u8], lows: &mut [u64], highs: &mut
     requires { ⌜ Blank n (now tops) (now lows) (now highs) ⌝ }
     ensures { λ r. ⌜ Right (now (code .entry)) n r ⌝ }
 {
+    if code.len() / 8 < n {
+        return Verdict::Refused;
+    }
     let mut kinds = [0u8; 128];
-    let mut flow = Flow::Holds(Held {
+    let mut held = Held {
         height: 0,
         low: 0,
         high: 0,
-    });
+    };
     let mut place: usize = 0;
     while place < n {
-        let i = code::decode(code, place);
-        if !typing::known(i, n - place) {
+        let w = code::fetch(code, place);
+        place += 1;
+        let flow = step(w, n, held, place, &mut kinds, tops, lows, highs);
+        if flow.reach == 0 {
             return Verdict::Refused;
         }
-        place += 1;
-        flow = step(i, flow, place, &mut kinds, tops, lows, highs);
-        flow = join(flow, &mut kinds, brought(place, tops, lows, highs));
-        if let Flow::Refused = flow {
+        held = flow.held;
+        if flow.reach == 1 {
+            place = skipped(code, n, place, tops);
+            if tops[place] == 0 {
+                return Verdict::Refused;
+            }
+            let there = brought(place, tops, lows, highs);
+            packing::restore(&mut kinds, held, there);
+            held = there;
+            continue;
+        }
+        if !agrees(held, place, tops, lows, highs) {
             return Verdict::Refused;
         }
     }
-    ended(flow, &kinds)
+    ended(held, &kinds)
 }
 
 // The first n instructions of the code. Short code gets short tables, since clearing long ones would take longer than the pass.
@@ -187,10 +245,22 @@ pub fn check(code: &[u8], n: usize) -> Verdict
     if n == 0 {
         return Verdict::Refused;
     }
+    if n < 33 {
+        let mut tops = [0u8; 33];
+        let mut lows = [0u64; 33];
+        let mut highs = [0u64; 33];
+        return checked(code, n, &mut tops, &mut lows, &mut highs);
+    }
     if n < 129 {
         let mut tops = [0u8; 129];
         let mut lows = [0u64; 129];
         let mut highs = [0u64; 129];
+        return checked(code, n, &mut tops, &mut lows, &mut highs);
+    }
+    if n < 513 {
+        let mut tops = [0u8; 513];
+        let mut lows = [0u64; 513];
+        let mut highs = [0u64; 513];
         return checked(code, n, &mut tops, &mut lows, &mut highs);
     }
     if n < 2049 {

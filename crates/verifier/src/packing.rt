@@ -2,7 +2,7 @@
 ghost use mathlib.Core.Path.{_≡_};
 ghost use Prim.Native.Nat.{_%_, _^_, _<_, _≤_};
 ghost use lib.ListN.{length};
-ghost use Rattle.verifier.specs.Shapes.{heldKinds, kindsOf, word, Neat, Keeps, Pushed, Popped};
+ghost use Rattle.verifier.specs.Shapes.{heldKinds, kindsOf, word, Neat, Keeps, Pushed, Popped, Replaced};
 ghost use Rattle.verifier.specs.Pass.{Agrees};
 
 // How many, and a bit for each, the last pushed in the lowest: 1 for a real.
@@ -37,6 +37,19 @@ pub fn popped(w: Held) -> Held
         height: w.height - 1,
         low: high % 2 * 9223372036854775808 + low / 2,
         high: high / 2,
+    }
+}
+
+// Another kind for the last.
+pub fn replaced(w: Held, n: u8) -> Held
+    requires { ⌜ n < 2 ⌝ }
+    ensures { λ r. ⌜ Replaced n w r ⌝ }
+{
+    let low = w.low;
+    Held {
+        height: w.height,
+        low: low / 2 * 2 + (n as u64),
+        high: w.high,
     }
 }
 

@@ -1,39 +1,69 @@
--- `jump_if` meets its contract: its tests are those of `jumpStep`.
-use mathlib.Core.Path.{_≡_}
-use mathlib.Core.Bool.{Bool, true, false, Bool·beq}
-use Prim.Native.Nat.{ℕ, _-_, _≤_}
+-- `jump_if` meets its contract: the tests are those of `alone` and of `jumpStep`.
 use borrow.Author.Needs.{needs}
-use borrow.Author.Tests.{lt-ltb, le-ltb}
-use Rattle.values.specs.declared.Value.{Value}
-use Rattle.operators.specs.Operators.{truthRule}
-use Rattle.machine.specs.declared.Step.the-variants.{Skip}
-use Rattle.machine.specs.Steps.{jumpStep}
+use mathlib.Core.Path.{ap, _∙_}
+use borrow.Author.Tests.{lt-ltb}
+use Prim.Native.Nat.{_-_}
+use Rattle.code.specs.declared.Instr.the-variants.{JumpIf}
+use Rattle.machine.specs.Steps.{operandOf, wordOf, skipStep}
+use Rattle.machine.proofs.Performs.{spoilt, unspoilt, stuck-alone, jumps, stays}
 use Rattle.machine.proofs.jump_if.Statement.{statement}
 use Rattle.machine.proofs.jump_if.Tie as tie
 
--- b is the truth that the code finds
-module _ (h d : ℕ) (v : Value) (t : Bool) {b : Bool} (enough : 1 ≤ h) (found : b ≡ truthRule v) where
-  jumps : Bool·beq b t ≡ true → Skip (h - 1) d ≡ jumpStep h v t d
-  jumps e = rw (le-ltb h 1 enough, ← found, e)
+operand-of-requires : tie.Need-operand-of-requires
+operand-of-requires c κs = search needs
 
-  stays : Bool·beq b t ≡ false → Skip (h - 1) 0 ≡ jumpStep h v t d
-  stays e = rw (le-ltb h 1 enough, ← found, e)
+sticks-requires : tie.Need-sticks-requires
+sticks-requires c κs = search needs
 
 returns : tie.Need-returns
-returns c = rw (lt-ltb _ _ (c .if1 .taken))
+returns c = λ E l. c .sticks .ensures ∙ spoilt E (c .before .before .before .args .h) l (c .before .before .before .args .v) _ (c .before .before .operand-of .ensures) (JumpIf (c .before .before .before .args .t) (wordOf (c .before .before .before .args .w))) (c .before .if1 .taken)
+
+sticks-requires-2 : tie.Need-sticks-requires-2
+sticks-requires-2 c κs = search needs
+
+returns-2 : tie.Need-returns-2
+returns-2 c = λ E l. c .sticks2 .ensures ∙ stuck-alone E (c .before .before .before .before .args .h) l (c .before .before .before .before .args .v) (operandOf (c .before .before .before .before .args .w)) (JumpIf (c .before .before .before .before .args .t) (wordOf (c .before .before .before .before .args .w))) (rw (lt-ltb (c .before .before .before .before .args .h) 1 (c .before .if2 .taken)))
 
 truth-requires : tie.Need-truth-requires
 truth-requires c κs = search needs
 
-returns-2 : tie.Need-returns-2
-returns-2 c =
-    let a = c .before .before .before .args in
-    jumps (a .h) (a .d) (a .v) (a .t) (c .before .before .if1 .left) (c .before .truth .ensures) (c .if2 .taken)
+word-of-requires : tie.Need-word-of-requires
+word-of-requires c κs = search needs
+
+cast-skips : tie.Need-cast-skips
+cast-skips c = search needs
+
+skips-requires : tie.Need-skips-requires
+skips-requires c κs = search needs
+
+skips-requires-2 : tie.Need-skips-requires-2
+skips-requires-2 c κs = search needs
 
 returns-3 : tie.Need-returns-3
-returns-3 c =
-    let a = c .before .before .before .args in
-    stays (a .h) (a .d) (a .v) (a .t) (c .before .before .if1 .left) (c .before .truth .ensures) (c .if2 .left)
+returns-3 c = λ E l.
+    let a = c .before .before .before .before .before .before .before .args in
+    unspoilt E (a .h) l (a .v) _ (c .before .before .before .before .before .before .operand-of .ensures) (JumpIf (a .t) (wordOf (a .w))) (c .before .before .before .before .before .if1 .left)
+    (c .skips .ensures ∙ ap (skipStep (a .h - 1)) (c .before .word-of .ensures) ∙ jumps E (a .h) l (a .v) (a .t) (wordOf (a .w)) (c .before .before .before .before .if2 .left) (c .before .before .before .truth .ensures) (c .before .before .if3 .taken))
+
+returns-4 : tie.Need-returns-4
+returns-4 c = λ E l.
+    let a = c .before .before .before .before .before .before .args in
+    unspoilt E (a .h) l (a .v) _ (c .before .before .before .before .before .operand-of .ensures) (JumpIf (a .t) (wordOf (a .w))) (c .before .before .before .before .if1 .left)
+    (c .skips2 .ensures ∙ stays E (a .h) l (a .v) (a .t) (wordOf (a .w)) (c .before .before .before .if2 .left) (c .before .before .truth .ensures) (c .before .if3 .left))
 
 pub jump-if-spec : {M : Type 1} → statement M
-jump-if-spec = tie.close (tie.spec returns truth-requires returns-2 returns-3)
+jump-if-spec =
+    tie.close
+    (tie.spec
+    operand-of-requires
+    sticks-requires
+    returns
+    sticks-requires-2
+    returns-2
+    truth-requires
+    word-of-requires
+    cast-skips
+    skips-requires
+    skips-requires-2
+    returns-3
+    returns-4)

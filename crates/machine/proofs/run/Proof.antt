@@ -1,146 +1,209 @@
 -- `run` meets its contract: at each turn what is left to run, from the values held, gives what the whole run gives.
-use mathlib.Core.Path.{_≡_, refl, sym, _∙_}
-use Prim.Native.Nat.{_-_, _≤_}
+use mathlib.Core.Path.{_≡_, refl, _∙_}
+use mathlib.Core.Logic.{⊎-elim}
+use Prim.Native.Nat.{_-_, _/_, _≤_}
 use native.Mathlib.Omega.{arith}
 use borrow.Author.Needs.{needs}
 use lib.ListN.{length, length-set}
 use denote.Ref.{now}
+use Rattle.words.specs.Laws.{Bytes}
 use Rattle.memory.specs.Environment.{memoryOf}
 use Rattle.machine.specs.Machine.{most}
 use Rattle.machine.proofs.Held.{held, held-finish}
-use Rattle.machine.proofs.Rest.{Left, begin, ends}
-use Rattle.machine.proofs.Turn.{Turn, turn, pushes, overfull, jumps, overruns, below, ended}
+use Rattle.machine.proofs.Numbered.{is-int, is-real, is-load, is-indexed, is-unary, is-binary, is-jump, is-jump-false, is-jump-true, is-none}
+use Rattle.machine.proofs.Rest.{Stands, starts, lesser-left, lesser-right, finishes}
+use Rattle.machine.proofs.Turn.{Turn, performed, turn, onward, fails, lower, nearer}
 use Rattle.machine.proofs.run.Statement.{statement}
 use Rattle.machine.proofs.run.Tie as tie
 
 abbrev Inv-loop : tie.InvT-loop
-Inv-loop code n image stack₀ h₀ place₀ count₀ stack h place count =
-    (length stack ≡ most) × (h ≤ most) × (count ≤ place) × (place ≤ n) × Left (memoryOf image) code n place (held h stack) count
+Inv-loop code n image stack₀ h₀ place₀ count₀ there stack h place count =
+    (length stack ≡ most) × (h ≤ most) × (count ≤ place) × (there ≤ n) × (there ≤ length code / 8) × Stands (memoryOf image) code n place (held h stack) count
 
 abbrev μ-loop : tie.MeasureT-loop
-μ-loop code n image stack₀ h₀ place₀ count₀ stack h place count = n - place
+μ-loop code n image stack₀ h₀ place₀ count₀ there stack h place count = there - place
 
--- the instruction at the place has been decoded, and has made a step of the values held
-made : (c : tie.After-perform Inv-loop μ-loop) →
-    let l = c .before .before .before .before .before .before .before .loop in
-    let a = c .before .before .before .before .before .before .before .before .before .before .args in
-    Turn (memoryOf (now (a .image))) (now (a .code)) (a .n) (l .place) (l .h) (l .stack) (l .count) (c .perform .result)
+-- the instruction at the place has been performed, and has made a step of the values held
+made : (c : tie.At-match-came Inv-loop μ-loop) →
+    let l = c .before .before .before .loop in
+    let a = c .before .before .before .before .before .before .before .args in
+    Turn (memoryOf (now (a .image))) (now (a .code)) (a .n) (l .place) (l .h) (l .stack) (l .count) (c .match .step)
 made c =
-    let l = c .before .before .before .before .before .before .before .loop in
-    turn (l .h) (l .stack) (c .before .before .before .before .before .before .loop-test .taken) (l .inv .4) (c .before .before .before .before .before .decode .ensures)
-    (c .before .before .from-top2 .ensures) (c .before .before .before .before .from-top .ensures) (c .perform .ensures)
+    let l = c .before .before .before .loop in
+    let a = c .before .before .before .before .before .before .before .args in
+    let w = c .before .fetch .result in
+    let E = memoryOf (now (a .image)) in
+    let bytes : Bytes (now (a .code)) = λ j. omega (arith, c .before .before .before .before .before .before .shared-slice-known .given j) in
+    turn (l .h) (l .stack) (omega arith) (l .inv .5) bytes (c .before .fetch .ensures)
+    (⊎-elim (λ s. s .2 ∙ performed E (l .h) (l .stack) w (is-int w (s .0 .keys1)) refl refl (s .1 .ensures E _ _))
+    (⊎-elim (λ s. s .2 ∙ performed E (l .h) (l .stack) w (is-real w (s .0 .keys2)) refl refl (s .1 .ensures E _ _))
+    (⊎-elim (λ s. s .2 ∙ performed E (l .h) (l .stack) w (is-load w (s .0 .keys3)) refl refl (s .1 .ensures _ _))
+    (⊎-elim (λ s. s .4 ∙ performed E (l .h) (l .stack) w (is-indexed w (s .0 .keys4)) refl (s .1 .ensures) (s .3 .ensures _))
+    (⊎-elim (λ s. s .4 ∙ performed E (l .h) (l .stack) w (is-unary w (s .0 .keys5)) refl (s .1 .ensures) (s .3 .ensures E _))
+    (⊎-elim (λ s. s .6 ∙ performed E (l .h) (l .stack) w (is-binary w (s .0 .keys6)) (s .1 .ensures) (s .3 .ensures) (s .5 .ensures E))
+    (⊎-elim (λ s. s .2 ∙ performed E (l .h) (l .stack) w (is-jump w (s .0 .keys7)) refl refl (s .1 .ensures E _ _))
+    (⊎-elim (λ s. s .4 ∙ performed E (l .h) (l .stack) w (is-jump-false w (s .0 .keys8)) refl (s .1 .ensures) (s .3 .ensures E _))
+    (⊎-elim (λ s. s .4 ∙ performed E (l .h) (l .stack) w (is-jump-true w (s .0 .keys9)) refl (s .1 .ensures) (s .3 .ensures E _))
+    (λ s.
+    let r = s .0 .rest in
+    s .2 ∙ performed E (l .h) (l .stack) w (is-none w (r .0 .0 .0 .0 .0 .0 .0 .0 .1) (r .0 .0 .0 .0 .0 .0 .0 .1) (r .0 .0 .0 .0 .0 .0 .1) (r .0 .0 .0 .0 .0 .1) (r .0 .0 .0 .0 .1) (r .0 .0 .0 .1) (r .0 .0 .1) (r .0 .1) (r .1)) refl refl (s .1 .ensures)))))))))) (c .match .came))
+
+lesser-requires : tie.Need-lesser-requires Inv-loop μ-loop
+lesser-requires c κs = search needs
 
 loop-holds : tie.Need-loop-holds Inv-loop μ-loop
 unfolding held
-loop-holds c = (refl, omega arith, omega arith, omega arith, begin _ _ _)
+loop-holds c =
+    (refl, omega arith, omega arith, rw (c .lesser .ensures) (lesser-left _ _), rw (c .lesser .ensures) (lesser-right _ _), starts _ _ _)
+
+fetch-requires : tie.Need-fetch-requires Inv-loop μ-loop
+fetch-requires c κs = search needs
 
 add-count : tie.Need-add-count Inv-loop μ-loop
 add-count c = omega arith
 
-decode-requires : tie.Need-decode-requires Inv-loop μ-loop
-decode-requires c κs = search needs
+cast-match : tie.Need-cast-match Inv-loop μ-loop
+cast-match c = omega arith
 
-add-place : tie.Need-add-place Inv-loop μ-loop
-add-place c = omega arith
+push-int-requires : tie.Need-push-int-requires Inv-loop μ-loop
+push-int-requires c κs = search needs
+
+push-real-requires : tie.Need-push-real-requires Inv-loop μ-loop
+push-real-requires c κs = search needs
+
+load-requires : tie.Need-load-requires Inv-loop μ-loop
+load-requires c κs = search needs
 
 from-top-requires : tie.Need-from-top-requires Inv-loop μ-loop
 from-top-requires c κs = search needs
 
-mul-right : tie.Need-mul-right Inv-loop μ-loop
-mul-right c = omega arith
+mul-load-indexed : tie.Need-mul-load-indexed Inv-loop μ-loop
+mul-load-indexed c = omega arith
 
-array-copy-out-right : tie.Need-array-copy-out-right Inv-loop μ-loop
-array-copy-out-right c = omega arith
+array-copy-out-load-indexed : tie.Need-array-copy-out-load-indexed Inv-loop μ-loop
+array-copy-out-load-indexed c = omega arith
+
+load-indexed-requires : tie.Need-load-indexed-requires Inv-loop μ-loop
+load-indexed-requires c κs = search needs
 
 from-top-requires-2 : tie.Need-from-top-requires-2 Inv-loop μ-loop
 from-top-requires-2 c κs = search needs
 
-mul-left : tie.Need-mul-left Inv-loop μ-loop
-mul-left c = omega arith
+mul-unary : tie.Need-mul-unary Inv-loop μ-loop
+mul-unary c = omega arith
 
-array-copy-out-left : tie.Need-array-copy-out-left Inv-loop μ-loop
-array-copy-out-left c = omega arith
+array-copy-out-unary : tie.Need-array-copy-out-unary Inv-loop μ-loop
+array-copy-out-unary c = omega arith
 
-perform-requires : tie.Need-perform-requires Inv-loop μ-loop
-perform-requires c κs = search needs
+unary-requires : tie.Need-unary-requires Inv-loop μ-loop
+unary-requires c κs = search needs
 
-enum-known-k : tie.Need-enum-known-k Inv-loop μ-loop
-enum-known-k c = search needs
+from-top-requires-3 : tie.Need-from-top-requires-3 Inv-loop μ-loop
+from-top-requires-3 c κs = search needs
 
-stuck-requires : tie.Need-stuck-requires Inv-loop μ-loop
-stuck-requires c κs = search needs
+mul-binary : tie.Need-mul-binary Inv-loop μ-loop
+mul-binary c = omega arith
 
-returns : tie.Need-returns Inv-loop μ-loop
-returns c = c .stuck .ensures ∙ overfull (made (c .before .before .before .before .before)) (c .before .before .before .k .given .1) (c .before .if1 .taken)
+array-copy-out-binary : tie.Need-array-copy-out-binary Inv-loop μ-loop
+array-copy-out-binary c = omega arith
+
+from-top-requires-4 : tie.Need-from-top-requires-4 Inv-loop μ-loop
+from-top-requires-4 c κs = search needs
+
+mul-binary-2 : tie.Need-mul-binary-2 Inv-loop μ-loop
+mul-binary-2 c = omega arith
+
+array-copy-out-binary-2 : tie.Need-array-copy-out-binary-2 Inv-loop μ-loop
+array-copy-out-binary-2 c = omega arith
+
+binary-requires : tie.Need-binary-requires Inv-loop μ-loop
+binary-requires c κs = search needs
+
+jump-requires : tie.Need-jump-requires Inv-loop μ-loop
+jump-requires c κs = search needs
+
+from-top-requires-5 : tie.Need-from-top-requires-5 Inv-loop μ-loop
+from-top-requires-5 c κs = search needs
+
+mul-jump-if : tie.Need-mul-jump-if Inv-loop μ-loop
+mul-jump-if c = omega arith
+
+array-copy-out-jump-if : tie.Need-array-copy-out-jump-if Inv-loop μ-loop
+array-copy-out-jump-if c = omega arith
+
+jump-if-requires : tie.Need-jump-if-requires Inv-loop μ-loop
+jump-if-requires c κs = search needs
+
+from-top-requires-6 : tie.Need-from-top-requires-6 Inv-loop μ-loop
+from-top-requires-6 c κs = search needs
+
+mul-jump-if-2 : tie.Need-mul-jump-if-2 Inv-loop μ-loop
+mul-jump-if-2 c = omega arith
+
+array-copy-out-jump-if-2 : tie.Need-array-copy-out-jump-if-2 Inv-loop μ-loop
+array-copy-out-jump-if-2 c = omega arith
+
+jump-if-requires-2 : tie.Need-jump-if-requires-2 Inv-loop μ-loop
+jump-if-requires-2 c κs = search needs
+
+sticks-requires : tie.Need-sticks-requires Inv-loop μ-loop
+sticks-requires c κs = search needs
+
+add-place : tie.Need-add-place Inv-loop μ-loop
+add-place c = let q = nearer (made (c .before)) in omega arith
+
+add-place-2 : tie.Need-add-place-2 Inv-loop μ-loop
+add-place-2 c = let q = nearer (made (c .before)) in omega arith
+
+enum-told : tie.Need-enum-told Inv-loop μ-loop
+enum-told c = search needs
 
 mul-stack : tie.Need-mul-stack Inv-loop μ-loop
-mul-stack c = omega arith
+mul-stack c = let q = (onward (made (c .before .before .before)) (c .enum-told .given .1)) .0 in omega arith
 
 array-set-from-stack : tie.Need-array-set-from-stack Inv-loop μ-loop
-array-set-from-stack c = omega arith
+array-set-from-stack c = let q = (onward (made (c .before .before .before)) (c .enum-told .given .1)) .0 in omega arith
 
 add-h : tie.Need-add-h Inv-loop μ-loop
-add-h c = omega arith
+add-h c = let q = (onward (made (c .before .before .before)) (c .enum-told .given .1)) .0 in omega arith
 
 loop-less : tie.Need-loop-less Inv-loop μ-loop
 loop-less c = omega arith
 
 loop-again : tie.Need-loop-again Inv-loop μ-loop
 loop-again c =
-    let l = c .before .before .before .before .before .before .before .before .before .before .before .loop in (
-      simp length-set (l .inv .0),
-      omega arith,
-      omega arith,
-      omega arith,
-      pushes (made (c .before .before .before .before)) (c .before .before .k .given .1) (c .if1 .left) (l .inv .0),
-    )
+    let l = c .before .before .before .before .before .before .loop in
+    let on = onward (made (c .before .before .before)) (c .enum-told .given .1) in
+    (simp length-set (l .inv .0), omega (arith, on .0), omega arith, l .inv .3, l .inv .4, on .1 (l .inv .0))
 
-enum-known-k-2 : tie.Need-enum-known-k-2 Inv-loop μ-loop
-enum-known-k-2 c = search needs
-
-sub-if2 : tie.Need-sub-if2 Inv-loop μ-loop
-sub-if2 c = omega arith
-
-stuck-requires-2 : tie.Need-stuck-requires-2 Inv-loop μ-loop
-stuck-requires-2 c κs = search needs
-
-returns-2 : tie.Need-returns-2 Inv-loop μ-loop
-returns-2 c = c .stuck2 .ensures ∙ overruns (made (c .before .before .before .before .before)) (c .before .before .before .k2 .given .1) (c .before .if2 .taken)
-
-add-place-2 : tie.Need-add-place-2 Inv-loop μ-loop
-add-place-2 c = omega arith
+enum-told-2 : tie.Need-enum-told-2 Inv-loop μ-loop
+enum-told-2 c = search needs
 
 loop-less-2 : tie.Need-loop-less-2 Inv-loop μ-loop
 loop-less-2 c = omega arith
 
 loop-again-2 : tie.Need-loop-again-2 Inv-loop μ-loop
 loop-again-2 c =
-    let l = c .before .before .before .before .before .before .before .before .before .before .before .loop in
-    let t = made (c .before .before .before .before) in
-    let q = below t (c .before .before .k2 .given .1) in (
-      l .inv .0,
-      omega arith,
-      omega arith,
-      omega arith,
-      jumps t (c .before .before .k2 .given .1) (c .if2 .left),
-    )
+    let l = c .before .before .before .before .before .before .loop in
+    let t = made (c .before .before .before) in
+    (l .inv .0, omega (arith, lower t), omega arith, l .inv .3, l .inv .4, onward t (c .enum-told2 .given .1))
 
-enum-known-end : tie.Need-enum-known-end Inv-loop μ-loop
-enum-known-end c = search needs
+failed-requires : tie.Need-failed-requires Inv-loop μ-loop
+failed-requires c κs = search needs
 
-returns-3 : tie.Need-returns-3 Inv-loop μ-loop
-returns-3 c = ended (made (c .before .before .before)) (c .before .end .given .1)
+returns : tie.Need-returns Inv-loop μ-loop
+returns c = c .failed .ensures ∙ fails (made (c .before .before .before)) (c .before .match2 .keys3)
 
 array-copy-out-finished : tie.Need-array-copy-out-finished Inv-loop μ-loop
 array-copy-out-finished c = omega arith
 
 finished-requires : tie.Need-finished-requires Inv-loop μ-loop
-finished-requires c κs = search needs
+finished-requires c κs = omega arith
 
-returns-4 : tie.Need-returns-4 Inv-loop μ-loop
-returns-4 c =
+returns-2 : tie.Need-returns-2 Inv-loop μ-loop
+returns-2 c =
     let l = c .before .before .before .loop in
-    ends (c .before .before .loop-test .left) (l .inv .4) (held-finish (l .h) (l .stack) ∙ sym (c .finished .ensures))
+    c .finished .ensures ∙ finishes (l .h) _ (l .inv .5) (rw (c .before .before .before .before .lesser .ensures) at (c .before .before .loop-test .left)) (held-finish (l .h) (l .stack))
 
 pub run-spec : {M : Type 1} → statement M
 run-spec =
@@ -148,34 +211,52 @@ run-spec =
     (tie.spec
     Inv-loop
     μ-loop
+    lesser-requires
     loop-holds
+    fetch-requires
     add-count
-    decode-requires
-    add-place
+    cast-match
+    push-int-requires
+    push-real-requires
+    load-requires
     from-top-requires
-    mul-right
-    array-copy-out-right
+    mul-load-indexed
+    array-copy-out-load-indexed
+    load-indexed-requires
     from-top-requires-2
-    mul-left
-    array-copy-out-left
-    perform-requires
-    enum-known-k
-    stuck-requires
-    returns
+    mul-unary
+    array-copy-out-unary
+    unary-requires
+    from-top-requires-3
+    mul-binary
+    array-copy-out-binary
+    from-top-requires-4
+    mul-binary-2
+    array-copy-out-binary-2
+    binary-requires
+    jump-requires
+    from-top-requires-5
+    mul-jump-if
+    array-copy-out-jump-if
+    jump-if-requires
+    from-top-requires-6
+    mul-jump-if-2
+    array-copy-out-jump-if-2
+    jump-if-requires-2
+    sticks-requires
+    add-place
+    add-place-2
+    enum-told
     mul-stack
     array-set-from-stack
     add-h
     loop-less
     loop-again
-    enum-known-k-2
-    sub-if2
-    stuck-requires-2
-    returns-2
-    add-place-2
+    enum-told-2
     loop-less-2
     loop-again-2
-    enum-known-end
-    returns-3
+    failed-requires
+    returns
     array-copy-out-finished
     finished-requires
-    returns-4)
+    returns-2)

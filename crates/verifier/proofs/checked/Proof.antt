@@ -1,22 +1,26 @@
--- `verifier::checked` meets its contract: at each turn, what is known at the place is exact.
-use mathlib.Core.Path.{_≡_, sym, ap, _∙_, subst}
+-- `verifier::checked` meets its contract: at each turn, what is held is what the place is reached with.
+use mathlib.Core.Path.{_≡_, sym, ap, _∙_}
 use Prim.Native.Nat.{ℕ, _+_, _-_}
 use native.Mathlib.Omega.{arith}
+use lib.ListN.{length}
+use denote.Ref.{now}
 use borrow.Author.Needs.{needs}
 use borrow.Author.Tests.{not-true, not-false}
-use lib.ListN.{length}
-use Rattle.verifier.specs.Shapes.{State, stateOf, tableOf}
-use Rattle.verifier.specs.Pass.{Joins}
+use Rattle.words.specs.Laws.{Bytes}
+use Rattle.operators.proofs.Arms.{first as some}
+use Rattle.verifier.specs.Shapes.{State, unreached, holds, instrBy, kindsOf, stateAt, stateOf, tableOf}
+use Rattle.verifier.proofs.Checking.{too-short, Passing, first, Came, turn, fails, agreed, disagreed, landed, lost, ends}
 use Rattle.verifier.proofs.Merging.{sized, resized}
-use Rattle.verifier.proofs.Checking.{stands-more, Known, Passing, first, unknown, turn, fails, ends}
+use Rattle.verifier.proofs.Numbers.{decode-by}
+use Rattle.verifier.proofs.Stepping.{state-holds}
 use Rattle.verifier.proofs.checked.Statement.{statement}
 use Rattle.verifier.proofs.checked.Tie as tie
 
 abbrev Inv-loop : tie.InvT-loop
-Inv-loop code n tops₀ lows₀ highs₀ kinds₀ flow₀ place₀ tops lows highs kinds flow place = Passing code n (length tops₀) place kinds tops lows highs flow
+Inv-loop code n tops₀ lows₀ highs₀ kinds₀ held₀ place₀ tops lows highs kinds held place = Passing code n (length tops₀) place kinds tops lows highs held
 
 abbrev μ-loop : tie.MeasureT-loop
-μ-loop code n tops₀ lows₀ highs₀ kinds₀ flow₀ place₀ tops lows highs kinds flow place = n - place
+μ-loop code n tops₀ lows₀ highs₀ kinds₀ held₀ place₀ tops lows highs kinds held place = n - place
 
 -- ---- at the head of the loop
 
@@ -24,7 +28,7 @@ abbrev L : Type 0
 L = tie.At-loop Inv-loop μ-loop
 
 abbrev start : L → tie.Start Inv-loop μ-loop
-start l = l .before .before .before .before .before
+start l = l .before .before .before .before .before .before
 
 tops-kept : (l : L) → length (l .loop .tops) ≡ length (start l .args .tops .now)
 tops-kept l = l .loop .inv .table .tops-size
@@ -35,134 +39,165 @@ lows-kept l = l .loop .inv .table .lows-size ∙ sym (start l .pre .1 .table .lo
 highs-kept : (l : L) → length (l .loop .highs) ≡ length (start l .args .highs .now)
 highs-kept l = l .loop .inv .table .highs-size ∙ sym (start l .pre .1 .table .highs-size)
 
--- ---- where what jumps brought has been joined
+-- ---- after a step
 
 abbrev M : Type 0
-M = tie.After-join Inv-loop μ-loop
-
-abbrev at-step : M → tie.After-step Inv-loop μ-loop
-at-step m = m .before .before .before .before .before .before .before .before .before .before .before .before
-
-abbrev at-known : M → tie.After-known Inv-loop μ-loop
-at-known m = at-step m .before .before .before .before .before .before
+M = tie.After-step Inv-loop μ-loop
 
 abbrev at-loop : M → L
-at-loop m = at-known m .before .before .before
+at-loop m = m .before .before .before .before .before .before .before
 
 abbrev entry : M → tie.Start Inv-loop μ-loop
 entry m = start (at-loop m)
 
-abbrev place : M → ℕ
-place m = at-loop m .loop .place
-
 abbrev brought : M → ℕ → State
-brought m = let l = at-step m .step .last .1 .1 .1 .1 in tableOf (l .0) (l .1 .0) (l .1 .1 .0)
+brought m = let l = m .step .last .1 .1 .1 .1 .1 in tableOf (l .0) (l .1 .0) (l .1 .1 .0)
 
-turned : (m : M) → Known (entry m .args .code .now) (entry m .args .n) (place m + 1) (brought m) (stateOf (m .join .result))
-turned m =
-    let k = at-known m in
-    turn (entry m .args .code .now) (entry m .args .n) (k .before .before .loop-test .taken) (k .before .decode .ensures) {after = brought m}
-    (sym (k .known .ensures) ∙ not-false _ (at-step m .before .before .before .before .before .if1 .left)) (at-loop m .loop .inv .knows)
-    (at-step m .step .ensures .1 .1) (subst (λ o. Joins (stateOf (at-step m .step .result)) o (stateOf (m .join .result))) (m .before .brought .ensures .1) (m .join .ensures .1))
+came : (m : M) → Came (entry m .args .code .now) (entry m .args .n) (at-loop m .loop .place + 1) (brought m) (stateOf (m .step .result))
+came m =
+    let code = now (entry m .args .code) in
+    let bytes : Bytes code = λ j. omega (arith, at-loop m .before .before .before .before .before .shared-slice-known .given j) in
+    turn code (entry m .args .n) {after = brought m} (m .before .before .before .before .before .before .loop-test .taken) (decode-by code (at-loop m .loop .place) bytes ∙ ap instrBy (sym (m .before .before .before .before .before .fetch .ensures))) (at-loop m .loop .inv .knows)
+    (m .step .ensures .1 .1)
+
+came-not : (m : M) → m .step .result .reach ≡ 1 → stateOf (m .step .result) ≡ unreached
+came-not m = ap (λ k. stateAt k (kindsOf (m .step .result .held)))
+
+came-with : (m : M) → (m .step .result .reach ≡ 0 → ⊥) → (m .step .result .reach ≡ 1 → ⊥) → stateOf (m .step .result) ≡ holds (kindsOf (m .step .result .held))
+came-with m = state-holds (m .step .result .reach) _
+
+tops-after : (m : M) → length (m .step .last .1 .1 .1 .1 .1 .0) ≡ length (entry m .args .tops .now)
+tops-after m = m .step .ensures .1 .0 .tops-size ∙ tops-kept (at-loop m)
+
+lows-after : (m : M) → length (m .step .last .1 .1 .1 .1 .1 .1 .0) ≡ length (entry m .args .lows .now)
+lows-after m = m .step .ensures .1 .0 .lows-size ∙ tops-kept (at-loop m) ∙ sym (entry m .pre .1 .table .lows-size)
+
+highs-after : (m : M) → length (m .step .last .1 .1 .1 .1 .1 .1 .1 .0) ≡ length (entry m .args .highs .now)
+highs-after m = m .step .ensures .1 .0 .highs-size ∙ tops-kept (at-loop m) ∙ sym (entry m .pre .1 .table .highs-size)
 
 -- ---- the needs
 
-loop-holds : tie.Need-loop-holds Inv-loop μ-loop
-loop-holds c = first _ _ (c .before .before .before .before .pre .1)
-
-decode-requires : tie.Need-decode-requires Inv-loop μ-loop
-decode-requires c κs = search needs
-
-sub-known : tie.Need-sub-known Inv-loop μ-loop
-sub-known c = omega arith
-
-known-requires : tie.Need-known-requires Inv-loop μ-loop
-known-requires c κs = omega arith
-
-same-length : tie.Need-same-length Inv-loop μ-loop
-same-length c = tops-kept (c .before .before .before .before)
-
-same-length-2 : tie.Need-same-length-2 Inv-loop μ-loop
-same-length-2 c = lows-kept (c .before .before .before .before)
-
-same-length-3 : tie.Need-same-length-3 Inv-loop μ-loop
-same-length-3 c = highs-kept (c .before .before .before .before)
-
 returns : tie.Need-returns Inv-loop μ-loop
-returns c = unknown _ _ (c .before .before .before .loop-test .taken) (c .before .before .decode .ensures) (sym (c .before .known .ensures) ∙ not-true _ (c .if1 .taken))
+returns c = too-short _ _ (c .if1 .taken)
+
+loop-holds : tie.Need-loop-holds Inv-loop μ-loop
+loop-holds c = first _ _ (c .before .before .before .before .before .pre .1)
+
+fetch-requires : tie.Need-fetch-requires Inv-loop μ-loop
+fetch-requires c κs = search needs
 
 add-place : tie.Need-add-place Inv-loop μ-loop
 add-place c = omega arith
 
 step-requires : tie.Need-step-requires Inv-loop μ-loop
 step-requires c κs =
-    let k = c .before .before .before .before .before in
-    let l = k .before .before .before in
+    let l = c .before .before .before .before .before .before in
     let t = l .loop .inv .table in
-    let known = sym (k .known .ensures) ∙ not-false _ (c .before .before .before .before .if1 .left) in
-    (l .loop .inv .keeps, (sized t, (omega (arith, t .tops-size), stands-more (k .before .decode .result) (omega (arith, t .tops-size, start l .pre .1 .room)) known)))
+    (l .loop .inv .keeps, ((omega arith, omega (arith, t .tops-size, start l .pre .1 .room)), sized t))
+
+same-length : tie.Need-same-length Inv-loop μ-loop
+same-length c = tops-after (c .before .before .before .before .before .before .before .before)
+
+same-length-2 : tie.Need-same-length-2 Inv-loop μ-loop
+same-length-2 c = lows-after (c .before .before .before .before .before .before .before .before)
+
+same-length-3 : tie.Need-same-length-3 Inv-loop μ-loop
+same-length-3 c = highs-after (c .before .before .before .before .before .before .before .before)
+
+returns-2 : tie.Need-returns-2 Inv-loop μ-loop
+returns-2 c = fails _ _ (came (c .before .before .before .before .before .before .before .before)) (ap (λ k. stateAt k (kindsOf (c .before .before .before .before .before .before .before .before .step .result .held))) (c .if2 .taken))
+
+skipped-requires : tie.Need-skipped-requires Inv-loop μ-loop
+skipped-requires c κs =
+    let m = c .before .before .before .before .before .before .before .before .before .before .before .before in
+    (omega (arith, c .before .before .before .before .before .before .before .before .before .before .before .before .before .before .before .before .before .before .loop-test .taken), omega (arith, tops-after m, entry m .pre .1 .room))
+
+slice-read-if4 : tie.Need-slice-read-if4 Inv-loop μ-loop
+slice-read-if4 c =
+    let m = c .before .before .before .before .before .before .before .before .before .before .before .before .before .before in
+    omega (arith, c .before .skipped .ensures .way .within, tops-after m, entry m .pre .1 .room)
+
+same-length-4 : tie.Need-same-length-4 Inv-loop μ-loop
+same-length-4 c = tops-after (c .before .before .before .before .before .before .before .before .before .before .before .before .before .before .before)
+
+same-length-5 : tie.Need-same-length-5 Inv-loop μ-loop
+same-length-5 c = lows-after (c .before .before .before .before .before .before .before .before .before .before .before .before .before .before .before)
+
+same-length-6 : tie.Need-same-length-6 Inv-loop μ-loop
+same-length-6 c = highs-after (c .before .before .before .before .before .before .before .before .before .before .before .before .before .before .before)
+
+returns-3 : tie.Need-returns-3 Inv-loop μ-loop
+returns-3 c =
+    let m = c .before .before .before .before .before .before .before .before .before .before .before .before .before .before .before in
+    lost _ _ (came m) (came-not m (c .before .before .before .before .if3 .taken)) (λ q e. rw e) (c .before .before .skipped .ensures) (entry m .pre .0 .0) (entry m .pre .0 .1) (c .if4 .taken)
 
 brought-requires : tie.Need-brought-requires Inv-loop μ-loop
 brought-requires c κs =
-    let a = c .before .before .before .before .before .before .before .before .before .before in
-    let i = a .before .before .before .before .before .before .before .before in
-    let l = i .before in
-    let t = a .step .ensures .1 .0 in
-    (omega (arith, t .tops-size, tops-kept l, start l .pre .1 .room, i .loop-test .taken), sized t)
+    let m = c .before .before .before .before .before .before .before .before .before .before .before .before .before .before .before .before .before .before in
+    ((omega (arith, c .before .before .before .before .before .skipped .ensures .way .within, tops-after m, entry m .pre .1 .room), some (c .before .before .before .if4 .left)), sized (m .step .ensures .1 .0))
 
-join-requires : tie.Need-join-requires Inv-loop μ-loop
-join-requires c κs = (c .before .before .before .before .before .before .before .before .before .before .before .step .ensures .0, c .brought .ensures .0)
-
-enum-told : tie.Need-enum-told Inv-loop μ-loop
-enum-told c = search needs
-
-same-length-4 : tie.Need-same-length-4 Inv-loop μ-loop
-same-length-4 c =
-    let m = c .before .before in
-    at-step m .step .ensures .1 .0 .tops-size ∙ tops-kept (at-loop m)
-
-same-length-5 : tie.Need-same-length-5 Inv-loop μ-loop
-same-length-5 c =
-    let m = c .before .before in
-    at-step m .step .ensures .1 .0 .lows-size ∙ tops-kept (at-loop m) ∙ sym (entry m .pre .1 .table .lows-size)
-
-same-length-6 : tie.Need-same-length-6 Inv-loop μ-loop
-same-length-6 c =
-    let m = c .before .before in
-    at-step m .step .ensures .1 .0 .highs-size ∙ tops-kept (at-loop m) ∙ sym (entry m .pre .1 .table .highs-size)
-
-returns-2 : tie.Need-returns-2 Inv-loop μ-loop
-returns-2 c =
-    let m = c .before .before in
-    fails _ _ (turned m) (ap stateOf (c .enum-told .given .1))
+restore-requires : tie.Need-restore-requires Inv-loop μ-loop
+restore-requires c κs = (c .before .before .before .before .before .before .before .before .before .before .before .before .before .before .before .before .before .before .before .before .step .ensures .0, c .before .brought .ensures .0)
 
 loop-less : tie.Need-loop-less Inv-loop μ-loop
-loop-less c = omega arith
+loop-less c = omega (arith, c .before .before .before .before .before .before .before .before .skipped .ensures .way .onward, c .before .before .before .before .before .before .before .before .skipped .ensures .way .within, c .before .before .before .before .before .before .before .before .before .before .before .before .before .before .before .before .before .before .before .before .before .before .before .before .before .before .before .loop-test .taken)
 
 loop-again : tie.Need-loop-again Inv-loop μ-loop
 loop-again c =
-    let m = c .before in
+    let m = c .before .before .before .before .before .before .before .before .before .before .before .before .before .before .before .before .before .before .before .before .before in
     record {
-      within = omega (arith, at-known m .before .before .loop-test .taken);
-      keeps = m .join .ensures .0;
-      table = resized (tops-kept (at-loop m)) (at-step m .step .ensures .1 .0);
-      knows = turned m;
+      within = c .before .before .before .before .before .before .before .before .skipped .ensures .way .within;
+      keeps = c .restore .ensures;
+      table = resized (tops-kept (at-loop m)) (m .step .ensures .1 .0);
+      knows = landed _ _ (came m) (came-not m (c .before .before .before .before .before .before .before .before .before .before .if3 .taken)) (λ q e. rw e) (c .before .before .before .before .before .before .before .before .skipped .ensures) (c .before .before .brought .ensures .1);
+    }
+
+agrees-requires : tie.Need-agrees-requires Inv-loop μ-loop
+agrees-requires c κs =
+    let m = c .before .before .before .before .before .before .before .before .before .before .before .before .before .before in
+    ((m .step .ensures .0 .neat, omega (arith, c .before .before .before .before .before .before .before .before .before .before .before .before .before .before .before .before .before .before .before .before .loop-test .taken, tops-after m, entry m .pre .1 .room)), sized (m .step .ensures .1 .0))
+
+same-length-7 : tie.Need-same-length-7 Inv-loop μ-loop
+same-length-7 c = tops-after (c .before .before .before .before .before .before .before .before .before .before .before .before .before .before .before .before)
+
+same-length-8 : tie.Need-same-length-8 Inv-loop μ-loop
+same-length-8 c = lows-after (c .before .before .before .before .before .before .before .before .before .before .before .before .before .before .before .before)
+
+same-length-9 : tie.Need-same-length-9 Inv-loop μ-loop
+same-length-9 c = highs-after (c .before .before .before .before .before .before .before .before .before .before .before .before .before .before .before .before)
+
+returns-4 : tie.Need-returns-4 Inv-loop μ-loop
+returns-4 c =
+    let m = c .before .before .before .before .before .before .before .before .before .before .before .before .before .before .before .before in
+    disagreed _ _ (c .before .agrees .result) (came m) (came-with m (c .before .before .before .before .before .before .before .before .if2 .left) (c .before .before .before .before .before .if3 .left)) (c .before .agrees .ensures) (not-true _ (c .if5 .taken))
+
+loop-less-2 : tie.Need-loop-less-2 Inv-loop μ-loop
+loop-less-2 c = omega (arith, c .before .before .before .before .before .before .before .before .before .before .before .before .before .before .before .before .before .before .before .before .before .before .loop-test .taken)
+
+loop-again-2 : tie.Need-loop-again-2 Inv-loop μ-loop
+loop-again-2 c =
+    let m = c .before .before .before .before .before .before .before .before .before .before .before .before .before .before .before .before in
+    record {
+      within = omega (arith, c .before .before .before .before .before .before .before .before .before .before .before .before .before .before .before .before .before .before .before .before .before .before .loop-test .taken);
+      keeps = m .step .ensures .0;
+      table = resized (tops-kept (at-loop m)) (m .step .ensures .1 .0);
+      knows = agreed _ _ (c .before .agrees .result) (came m) (came-with m (c .before .before .before .before .before .before .before .before .if2 .left) (c .before .before .before .before .before .if3 .left)) (c .before .agrees .ensures) (not-false _ (c .if5 .left));
     }
 
 ended-requires : tie.Need-ended-requires Inv-loop μ-loop
 ended-requires c κs = c .before .before .loop .inv .keeps
 
-same-length-7 : tie.Need-same-length-7 Inv-loop μ-loop
-same-length-7 c = tops-kept (c .before .before .before)
+same-length-10 : tie.Need-same-length-10 Inv-loop μ-loop
+same-length-10 c = tops-kept (c .before .before .before)
 
-same-length-8 : tie.Need-same-length-8 Inv-loop μ-loop
-same-length-8 c = lows-kept (c .before .before .before)
+same-length-11 : tie.Need-same-length-11 Inv-loop μ-loop
+same-length-11 c = lows-kept (c .before .before .before)
 
-same-length-9 : tie.Need-same-length-9 Inv-loop μ-loop
-same-length-9 c = highs-kept (c .before .before .before)
+same-length-12 : tie.Need-same-length-12 Inv-loop μ-loop
+same-length-12 c = highs-kept (c .before .before .before)
 
-returns-3 : tie.Need-returns-3 Inv-loop μ-loop
-returns-3 c =
+returns-5 : tie.Need-returns-5 Inv-loop μ-loop
+returns-5 c =
     let l = c .before .before .before in
     ends _ _ (start l .pre .0 .0) (start l .pre .0 .1) (omega arith) (l .loop .inv .knows) (c .ended .ensures)
 
@@ -172,27 +207,34 @@ checked-spec =
     (tie.spec
     Inv-loop
     μ-loop
+    returns
     loop-holds
-    decode-requires
-    sub-known
-    known-requires
+    fetch-requires
+    add-place
+    step-requires
     same-length
     same-length-2
     same-length-3
-    returns
-    add-place
-    step-requires
-    brought-requires
-    join-requires
-    enum-told
+    returns-2
+    skipped-requires
+    slice-read-if4
     same-length-4
     same-length-5
     same-length-6
-    returns-2
+    returns-3
+    brought-requires
+    restore-requires
     loop-less
     loop-again
-    ended-requires
+    agrees-requires
     same-length-7
     same-length-8
     same-length-9
-    returns-3)
+    returns-4
+    loop-less-2
+    loop-again-2
+    ended-requires
+    same-length-10
+    same-length-11
+    same-length-12
+    returns-5)

@@ -1,22 +1,11 @@
--- `verifier::merge` meets its contract: jumps brought something before, or nothing.
-use mathlib.Core.Path.{sym, ap, _∙_, subst}
+-- `verifier::merge` meets its contract: jumps brought nothing before, or something.
 use borrow.Author.Needs.{needs}
-use Rattle.verifier.specs.Shapes.{Neat, broughtOf, found}
 use Rattle.verifier.proofs.Merging.{stored, merge-adds, merge-same}
 use Rattle.verifier.proofs.merge.Statement.{statement}
 use Rattle.verifier.proofs.merge.Tie as tie
 
-brought-requires : tie.Need-brought-requires
-brought-requires c κs = search needs
-
-enum-known-there : tie.Need-enum-known-there
-enum-known-there c = search needs
-
-same-requires : tie.Need-same-requires
-same-requires c κs = (c .before .before .before .before .before .before .before .before .before .before .pre .0, subst (λ j. Neat (found j)) (c .before .there .given .1) (c .before .before .before .brought .ensures .0))
-
-enum-told : tie.Need-enum-told
-enum-told c = search needs
+slice-read-if1 : tie.Need-slice-read-if1
+slice-read-if1 c = search needs
 
 add-tops : tie.Need-add-tops
 add-tops c = search needs
@@ -50,8 +39,14 @@ same-length-3 c = search needs
 
 returns : tie.Need-returns
 returns c =
-    let s = c .before .before .before .before .before .before .before .before .before .before .before in
-    (s .pre .1 .1, merge-same (s .args .held) (c .before .before .there .given .0 .0) (c .same .result) (sym (c .before .before .before .before .brought .ensures .1) ∙ ap broughtOf (c .before .before .there .given .1)) (c .same .ensures))
+    let s = c .before .before .before .before .before .before in
+    (stored (s .pre .1 .1) _ (s .args .held) (s .pre .1 .0) (s .pre .0), merge-adds (s .pre .1 .1) _ (s .args .held) (s .pre .1 .0) (c .before .if1 .taken))
+
+brought-requires : tie.Need-brought-requires
+brought-requires c κs = search needs
+
+same-requires : tie.Need-same-requires
+same-requires c κs = search needs
 
 same-length-4 : tie.Need-same-length-4
 same-length-4 c = search needs
@@ -63,18 +58,13 @@ same-length-6 : tie.Need-same-length-6
 same-length-6 c = search needs
 
 returns-2 : tie.Need-returns-2
-returns-2 c =
-    let s = c .before .before .before .before .before .before .before .before .before .before in
-    (stored (s .pre .1 .1) _ (s .args .held) (s .pre .1 .0) (s .pre .0), merge-adds (s .pre .1 .1) _ (s .args .held) (s .pre .1 .0) (sym (c .before .before .before .brought .ensures .1) ∙ ap broughtOf (c .before .enum-told .given .1)))
+returns-2 c = (c .before .before .before .before .before .before .before .before .before .before .pre .1 .1, merge-same (c .before .before .before .before .before .before .before .before .before .before .args .held) (c .before .brought .result) (c .same .result) (c .before .brought .ensures .1) (c .same .ensures))
 
 pub merge-spec : {M : Type 1} → statement M
 merge-spec =
     tie.close
     (tie.spec
-    brought-requires
-    enum-known-there
-    same-requires
-    enum-told
+    slice-read-if1
     add-tops
     cast-tops
     slice-write-tops
@@ -86,6 +76,8 @@ merge-spec =
     same-length-2
     same-length-3
     returns
+    brought-requires
+    same-requires
     same-length-4
     same-length-5
     same-length-6

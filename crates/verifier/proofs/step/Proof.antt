@@ -1,113 +1,63 @@
--- `verifier::step` meets its contract, way by way.
-use mathlib.Core.Path.{_≡_, subst}
-use Prim.Native.Nat.{ℕ, _+_, _<_}
+-- `verifier::step` meets its contract: an arm for each opcode.
+use mathlib.Core.Path.{refl}
+use native.Mathlib.Omega.{arith}
 use borrow.Author.Needs.{needs}
-use lib.ListN.{length}
-use Rattle.code.specs.declared.Instr.{Instr}
-use Rattle.verifier.specs.declared.Flow.the-variants.{Holds}
-use Rattle.verifier.specs.declared.packing.Held.{Held}
-use Rattle.verifier.specs.declared.typing.Going.{Going}
-use Rattle.verifier.specs.Shapes.{State, Keeps, kept, moveIn, after, tableOf}
-use Rattle.verifier.proofs.Moves.{span}
-use Rattle.verifier.proofs.Held.{keeps-none}
-use Rattle.verifier.proofs.Stepping.{empty-flow, idle, keeps-after, target, step-stuck, step-goes, step-leaps, step-leap-clash, step-forks, step-fork-clash}
+use Rattle.operators.proofs.Arms.{past}
+use Rattle.verifier.proofs.Numbers.{no-opcode, past-opcodes}
+use Rattle.verifier.proofs.Stepping.{typed-keeps, typed-steps, fork-by, none-stuck}
 use Rattle.verifier.proofs.step.Statement.{statement}
 use Rattle.verifier.proofs.step.Tie as tie
 
--- ---- where the instruction is typed
+int-kind-requires : tie.Need-int-kind-requires
+int-kind-requires c κs = search needs
 
-abbrev M : Type 0
-M = tie.After-typed
+push-requires : tie.Need-push-requires
+push-requires c κs = search needs
 
-abbrev entry : M → tie.Start
-entry m = m .before .before .before .before .before .before .before .before
+real-kind-requires : tie.Need-real-kind-requires
+real-kind-requires c κs = search needs
 
-abbrev i : M → Instr
-i m = entry m .args .i
+push-requires-2 : tie.Need-push-requires-2
+push-requires-2 c κs = search needs
 
-abbrev h : M → Held
-h m = m .before .before .before .flow .given .0 .0
+load-kind-requires : tie.Need-load-kind-requires
+load-kind-requires c κs = search needs
 
-abbrev before : M → ℕ → State
-before m = tableOf (entry m .args .tops .now) (entry m .args .lows .now) (entry m .args .highs .now)
+push-requires-3 : tie.Need-push-requires-3
+push-requires-3 c κs = search needs
 
-held : (m : M) → entry m .args .flow ≡ Holds (h m)
-held m = m .before .before .before .flow .given .1
+indexed-requires : tie.Need-indexed-requires
+indexed-requires c κs = search needs
 
-after-typed : (m : M) {g : Going} → m .typed .result ≡ g → Keeps (m .typed .last .1 .0) (after g)
-after-typed m e = keeps-after (i m) (h m) (m .typed .ensures) e
+unary-requires : tie.Need-unary-requires
+unary-requires c κs = search needs
 
-ahead : (m : M) {g : Going} → m .typed .result ≡ g → entry m .args .next + span (moveIn g) < length (entry m .args .tops .now)
-ahead m {g} e = target (i m) (h m) (m .typed .ensures) g e (entry m .pre .1 .1 .0) (entry m .pre .1 .1 .1)
+binary-requires : tie.Need-binary-requires
+binary-requires c κs = search needs
 
--- ---- what jumps brought after the merge of a leap, and of a fork
+leap-requires : tie.Need-leap-requires
+leap-requires c κs = search needs
 
-abbrev later : tie.After-merge → ℕ → State
-later n = let l = n .merge .last .1 .1 in tableOf (l .0) (l .1 .0) (l .1 .1 .0)
-
-abbrev later2 : tie.After-merge2 → ℕ → State
-later2 n = let l = n .merge2 .last .1 .1 in tableOf (l .0) (l .1 .0) (l .1 .1 .0)
-
--- ---- the needs
-
-enum-known-flow : tie.Need-enum-known-flow
-enum-known-flow c = search needs
+fork-requires : tie.Need-fork-requires
+fork-requires c κs = search needs
 
 returns : tie.Need-returns
-returns c =
-    let s = c .before .before .before .before in
-    (s .pre .0, (s .pre .1 .0, idle (empty-flow (s .args .flow) (c .match .keys2))))
-
-typed-requires : tie.Need-typed-requires
-typed-requires c κs = subst (λ f. Keeps (c .before .before .before .before .before .before .before .args .kinds .now) (kept f)) (c .before .before .flow .given .1) (c .before .before .before .before .before .before .before .pre .0)
-
-enum-told : tie.Need-enum-told
-enum-told c = search needs
-
-enum-known-g : tie.Need-enum-known-g
-enum-known-g c = search needs
-
-enum-known-d : tie.Need-enum-known-d
-enum-known-d c = search needs
-
-cast-merge : tie.Need-cast-merge
-cast-merge c = search needs
-
-add-merge : tie.Need-add-merge
-add-merge c = search needs
-
-merge-requires : tie.Need-merge-requires
-merge-requires c κs =
-    let m = c .before .before .before .before .before .before in
-    let e = c .before .before .before .before .d .given .1 in
-    (after-typed m e .neat, (ahead m e, entry m .pre .1 .0))
-
-enum-known-d-2 : tie.Need-enum-known-d-2
-enum-known-d-2 c = search needs
-
-cast-merge-2 : tie.Need-cast-merge-2
-cast-merge-2 c = search needs
-
-add-merge-2 : tie.Need-add-merge-2
-add-merge-2 c = search needs
-
-merge-requires-2 : tie.Need-merge-requires-2
-merge-requires-2 c κs =
-    let m = c .before .before .before .before .before .before in
-    let e = c .before .before .before .before .d2 .given .1 in
-    (after-typed m e .neat, (ahead m e, entry m .pre .1 .0))
+returns c = (typed-keeps (c .push .ensures), (c .before .before .before .before .before .before .before .pre .1 .1, rw (c .before .before .before .match .keys1) (typed-steps (c .before .int-kind .ensures .is _) (c .push .ensures))))
 
 returns-2 : tie.Need-returns-2
-returns-2 c =
-    let m = c .before .before in
-    let e = c .enum-told .given .1 in
-    (after-typed m e, (entry m .pre .1 .0, step-stuck (i m) (h m) (m .typed .ensures) (held m) e))
+returns-2 c = (typed-keeps (c .push2 .ensures), (c .before .before .before .before .before .before .before .pre .1 .1, rw (c .before .before .before .match .keys2) (typed-steps (c .before .real-kind .ensures .is _) (c .push2 .ensures))))
 
 returns-3 : tie.Need-returns-3
-returns-3 c =
-    let m = c .before .before .before in
-    let e = c .before .g .given .1 in
-    (after-typed m e, (entry m .pre .1 .0, step-goes (i m) (h m) (m .typed .ensures) (held m) e))
+returns-3 c = (typed-keeps (c .push3 .ensures), (c .before .before .before .before .before .before .before .pre .1 .1, rw (c .before .before .before .match .keys3) (typed-steps (c .before .load-kind .ensures .is _) (c .push3 .ensures))))
+
+returns-4 : tie.Need-returns-4
+returns-4 c = (typed-keeps (c .indexed .ensures), (c .before .before .before .before .before .before .pre .1 .1, rw (c .before .before .match .keys4) (typed-steps refl (c .indexed .ensures))))
+
+returns-5 : tie.Need-returns-5
+returns-5 c = (typed-keeps (c .unary .ensures), (c .before .before .before .before .before .before .pre .1 .1, rw (c .before .before .match .keys5) (typed-steps refl (c .unary .ensures))))
+
+returns-6 : tie.Need-returns-6
+returns-6 c = (typed-keeps (c .binary .ensures), (c .before .before .before .before .before .before .pre .1 .1, rw (c .before .before .match .keys6) (typed-steps refl (c .binary .ensures))))
 
 same-length : tie.Need-same-length
 same-length c = search needs
@@ -118,12 +68,8 @@ same-length-2 c = search needs
 same-length-3 : tie.Need-same-length-3
 same-length-3 c = search needs
 
-returns-4 : tie.Need-returns-4
-returns-4 c =
-    let m = c .before .before .before .before .before .before .before .before .before .before .before .before .before .before in
-    let e = c .before .before .before .before .before .before .before .before .before .before .before .before .d .given .1 in
-    let w = c .before .before .before .before .before .before .before .merge .ensures in
-    (after-typed m e, (w .0, step-leaps (i m) (h m) (m .typed .ensures) {before = before m} (held m) _ {after = later (c .before .before .before .before .before .before .before)} (w .1) e (c .if1 .taken)))
+returns-7 : tie.Need-returns-7
+returns-7 c = (c .before .before .before .before .before .before .leap .ensures .0 _ (c .before .before .before .before .before .before .before .before .before .before .before .before .before .before .pre .0), (c .before .before .before .before .before .before .leap .ensures .1 .0, rw (c .before .before .before .before .before .before .before .before .before .before .match .keys7) (c .before .before .before .before .before .before .leap .ensures .1 .1)))
 
 same-length-4 : tie.Need-same-length-4
 same-length-4 c = search needs
@@ -134,77 +80,48 @@ same-length-5 c = search needs
 same-length-6 : tie.Need-same-length-6
 same-length-6 c = search needs
 
-returns-5 : tie.Need-returns-5
-returns-5 c =
-    let m = c .before .before .before .before .before .before .before .before .before .before .before .before .before .before in
-    let e = c .before .before .before .before .before .before .before .before .before .before .before .before .d .given .1 in
-    let w = c .before .before .before .before .before .before .before .merge .ensures in
-    (keeps-none (after-typed m e .whole), (w .0, step-leap-clash (i m) (h m) (m .typed .ensures) {before = before m} (held m) _ {after = later (c .before .before .before .before .before .before .before)} (w .1) e (c .if1 .left)))
+returns-8 : tie.Need-returns-8
+returns-8 c =
+    let r = c .before .before .before .before .before .before .before .before .before .before .before .before .match .rest in
+    let l = past 7 (past 6 (past 5 (past 4 (past 3 (past 2 (past 1 (c .before .before .before .before .before .before .before .before .before .before .before .if1 .left) (r .0 .0 .0 .0 .0 .0 .1)) (r .0 .0 .0 .0 .0 .1)) (r .0 .0 .0 .0 .1)) (r .0 .0 .0 .1)) (r .0 .0 .1)) (r .0 .1)) (r .1) in
+    (c .before .before .before .before .before .before .fork .ensures .0 _ (c .before .before .before .before .before .before .before .before .before .before .before .before .before .before .before .before .pre .0), (c .before .before .before .before .before .before .fork .ensures .1 .0, fork-by _ _ l (c .before .before .before .before .before .before .before .before .before .before .if2 .taken) (c .before .before .before .before .before .before .fork .ensures .1 .1)))
 
-same-length-7 : tie.Need-same-length-7
-same-length-7 c = search needs
+returns-9 : tie.Need-returns-9
+returns-9 c =
+    let r = c .before .match .rest in
+    (c .before .before .before .before .before .pre .0, (c .before .before .before .before .before .pre .1 .1, none-stuck (no-opcode _ _ (r .0 .0 .0 .0 .0 .0 .1) (r .0 .0 .0 .0 .0 .1) (r .0 .0 .0 .0 .1) (r .0 .0 .0 .1) (r .0 .0 .1) (r .0 .1) (r .1) (λ e. omega arith) (λ e. omega arith))))
 
-same-length-8 : tie.Need-same-length-8
-same-length-8 c = search needs
-
-same-length-9 : tie.Need-same-length-9
-same-length-9 c = search needs
-
-returns-6 : tie.Need-returns-6
-returns-6 c =
-    let m = c .before .before .before .before .before .before .before .before .before .before .before .before .before .before in
-    let e = c .before .before .before .before .before .before .before .before .before .before .before .before .d2 .given .1 in
-    let w = c .before .before .before .before .before .before .before .merge2 .ensures in
-    (after-typed m e, (w .0, step-forks (i m) (h m) (m .typed .ensures) {before = before m} (held m) _ {after = later2 (c .before .before .before .before .before .before .before)} (w .1) e (c .if2 .taken)))
-
-same-length-10 : tie.Need-same-length-10
-same-length-10 c = search needs
-
-same-length-11 : tie.Need-same-length-11
-same-length-11 c = search needs
-
-same-length-12 : tie.Need-same-length-12
-same-length-12 c = search needs
-
-returns-7 : tie.Need-returns-7
-returns-7 c =
-    let m = c .before .before .before .before .before .before .before .before .before .before .before .before .before .before in
-    let e = c .before .before .before .before .before .before .before .before .before .before .before .before .d2 .given .1 in
-    let w = c .before .before .before .before .before .before .before .merge2 .ensures in
-    (keeps-none (after-typed m e .whole), (w .0, step-fork-clash (i m) (h m) (m .typed .ensures) {before = before m} (held m) _ {after = later2 (c .before .before .before .before .before .before .before)} (w .1) e (c .if2 .left)))
+returns-10 : tie.Need-returns-10
+returns-10 c = (c .before .before .before .before .before .before .pre .0, (c .before .before .before .before .before .before .pre .1 .1, none-stuck (past-opcodes _ _ (c .if2 .left))))
 
 pub step-spec : {M : Type 1} → statement M
 step-spec =
     tie.close
     (tie.spec
-    enum-known-flow
+    int-kind-requires
+    push-requires
+    real-kind-requires
+    push-requires-2
+    load-kind-requires
+    push-requires-3
+    indexed-requires
+    unary-requires
+    binary-requires
+    leap-requires
+    fork-requires
     returns
-    typed-requires
-    enum-told
-    enum-known-g
-    enum-known-d
-    cast-merge
-    add-merge
-    merge-requires
-    enum-known-d-2
-    cast-merge-2
-    add-merge-2
-    merge-requires-2
     returns-2
     returns-3
+    returns-4
+    returns-5
+    returns-6
     same-length
     same-length-2
     same-length-3
-    returns-4
+    returns-7
     same-length-4
     same-length-5
     same-length-6
-    returns-5
-    same-length-7
-    same-length-8
-    same-length-9
-    returns-6
-    same-length-10
-    same-length-11
-    same-length-12
-    returns-7)
+    returns-8
+    returns-9
+    returns-10)

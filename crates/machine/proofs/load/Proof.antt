@@ -1,0 +1,84 @@
+-- `load` meets its contract: an arm for each bank of the list.
+use borrow.Author.Needs.{needs}
+use mathlib.Core.Path.{sym, ap, _∙_}
+use denote.Ref.{now}
+use Rattle.operators.proofs.Arms.{first, past}
+use Rattle.memory.specs.declared.Bank.the-variants.{X, C, «V», N, D, R}
+use Rattle.memory.specs.Numbers.{bankNumbered}
+use Rattle.memory.specs.Environment.{memoryOf}
+use Rattle.machine.specs.Steps.{operandOf, wordOf}
+use Rattle.machine.proofs.Performs.{from-bank, no-load}
+use Rattle.machine.proofs.load.Statement.{statement}
+use Rattle.machine.proofs.load.Tie as tie
+
+word-of-requires : tie.Need-word-of-requires
+word-of-requires c κs = search needs
+
+operand-of-requires : tie.Need-operand-of-requires
+operand-of-requires c κs = search needs
+
+load-from-requires : tie.Need-load-from-requires
+load-from-requires c κs = search needs
+
+load-from-requires-2 : tie.Need-load-from-requires-2
+load-from-requires-2 c κs = search needs
+
+load-from-requires-3 : tie.Need-load-from-requires-3
+load-from-requires-3 c κs = search needs
+
+load-from-requires-4 : tie.Need-load-from-requires-4
+load-from-requires-4 c κs = search needs
+
+load-from-requires-5 : tie.Need-load-from-requires-5
+load-from-requires-5 c κs = search needs
+
+load-from-requires-6 : tie.Need-load-from-requires-6
+load-from-requires-6 c κs = search needs
+
+sticks-requires : tie.Need-sticks-requires
+sticks-requires c κs = search needs
+
+returns : tie.Need-returns
+returns c = λ l r. from-bank (memoryOf (now (c .before .before .before .before .before .args .image))) (c .before .before .before .before .before .args .h) l r (operandOf (c .before .before .before .before .before .args .w)) (wordOf (c .before .before .before .before .before .args .w)) X (ap bankNumbered (sym (c .before .before .operand-of .ensures) ∙ c .before .match .keys1)) (rw (c .before .before .before .word-of .ensures) at (c .load-from .ensures))
+
+returns-2 : tie.Need-returns-2
+returns-2 c = λ l r. from-bank (memoryOf (now (c .before .before .before .before .before .args .image))) (c .before .before .before .before .before .args .h) l r (operandOf (c .before .before .before .before .before .args .w)) (wordOf (c .before .before .before .before .before .args .w)) C (ap bankNumbered (sym (c .before .before .operand-of .ensures) ∙ c .before .match .keys2)) (rw (c .before .before .before .word-of .ensures) at (c .load-from2 .ensures))
+
+returns-3 : tie.Need-returns-3
+returns-3 c = λ l r. from-bank (memoryOf (now (c .before .before .before .before .before .args .image))) (c .before .before .before .before .before .args .h) l r (operandOf (c .before .before .before .before .before .args .w)) (wordOf (c .before .before .before .before .before .args .w)) «V» (ap bankNumbered (sym (c .before .before .operand-of .ensures) ∙ c .before .match .keys3)) (rw (c .before .before .before .word-of .ensures) at (c .load-from3 .ensures))
+
+returns-4 : tie.Need-returns-4
+returns-4 c = λ l r. from-bank (memoryOf (now (c .before .before .before .before .before .args .image))) (c .before .before .before .before .before .args .h) l r (operandOf (c .before .before .before .before .before .args .w)) (wordOf (c .before .before .before .before .before .args .w)) N (ap bankNumbered (sym (c .before .before .operand-of .ensures) ∙ c .before .match .keys4)) (rw (c .before .before .before .word-of .ensures) at (c .load-from4 .ensures))
+
+returns-5 : tie.Need-returns-5
+returns-5 c = λ l r. from-bank (memoryOf (now (c .before .before .before .before .before .args .image))) (c .before .before .before .before .before .args .h) l r (operandOf (c .before .before .before .before .before .args .w)) (wordOf (c .before .before .before .before .before .args .w)) D (ap bankNumbered (sym (c .before .before .operand-of .ensures) ∙ c .before .match .keys5)) (rw (c .before .before .before .word-of .ensures) at (c .load-from5 .ensures))
+
+returns-6 : tie.Need-returns-6
+returns-6 c = λ l r. from-bank (memoryOf (now (c .before .before .before .before .before .args .image))) (c .before .before .before .before .before .args .h) l r (operandOf (c .before .before .before .before .before .args .w)) (wordOf (c .before .before .before .before .before .args .w)) R (ap bankNumbered (sym (c .before .before .operand-of .ensures) ∙ c .before .match .keys6)) (rw (c .before .before .before .word-of .ensures) at (c .load-from6 .ensures))
+
+returns-7 : tie.Need-returns-7
+returns-7 c = λ l r.
+    let rest = c .before .match .rest in
+    let large = past 5 (past 4 (past 3 (past 2 (past 1 (first (rest .0 .0 .0 .0 .0 .1)) (rest .0 .0 .0 .0 .1)) (rest .0 .0 .0 .1)) (rest .0 .0 .1)) (rest .0 .1)) (rest .1) in
+    c .sticks .ensures ∙ no-load (memoryOf (now (c .before .before .before .before .before .args .image))) (c .before .before .before .before .before .args .h) l r (operandOf (c .before .before .before .before .before .args .w)) (wordOf (c .before .before .before .before .before .args .w)) (rw (c .before .before .operand-of .ensures) at large)
+
+pub load-spec : {M : Type 1} → statement M
+load-spec =
+    tie.close
+    (tie.spec
+    word-of-requires
+    operand-of-requires
+    load-from-requires
+    load-from-requires-2
+    load-from-requires-3
+    load-from-requires-4
+    load-from-requires-5
+    load-from-requires-6
+    sticks-requires
+    returns
+    returns-2
+    returns-3
+    returns-4
+    returns-5
+    returns-6
+    returns-7)

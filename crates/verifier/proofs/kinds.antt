@@ -1,0 +1,3 @@
+-- Laws for the proofs of kinds.
+pub mod Classes
+pub mod Standing
