@@ -1,2 +1,3 @@
 pub mod Machine
+pub mod Configurations
 pub mod Steps

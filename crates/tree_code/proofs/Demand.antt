@@ -1,13 +1,15 @@
--- Demand 3, on trees: the code of a formula's tree is right, accepted, short and quick.
+-- Demand 3, on trees: the code of a formula's tree is right, accepted, short and quick, and holds what it takes.
 use Prim.Native.Nat.{ℕ, _≤_}
 use mathlib.Core.Path.{_≡_}
 use mathlib.Core.List.{List, []}
 use native.Mathlib.Omega.{arith}
 use Rattle.tokens.specs.Scan.{Tok}
-use Rattle.grammar.specs.Tree.{Tree, nowhere, wrongKind}
+use Rattle.grammar.specs.Tree.{Tree, treeKind, nowhere, wrongKind}
 use Rattle.grammar.specs.Grammar.{Formula}
 use Rattle.grammar.specs.Theorems.{Shallow}
 use Rattle.machine.specs.Machine.{most}
+use Rattle.verifier.specs.Accepts.{Accepts}
+use Rattle.verifier.proofs.Safe.{safe}
 use Rattle.tree_code.specs.Code.{codeOf}
 use Rattle.tree_code.specs.Demand.{leastBytes, Compiled, Demand}
 use Rattle.tree_code.proofs.Well.{well}
@@ -22,10 +24,12 @@ use Rattle.tree_code.proofs.Height.{height}
 compiled : (w : List Tok) (t : Tree) (n : ℕ) → Formula w t → Shallow 0 w → wrongKind t ≡ nowhere → leastBytes w ≤ n → n ≤ 1024 → Compiled t n
 compiled w t n formula shallow right long short =
     let low : need t ≤ most = omega (arith, height formula shallow) in
+    let taken : Accepts (codeOf t) (treeKind t) = accepted (well t right) low (code-some t) (omega (arith, small formula)) in
     record {
       kind = λ E kinded. worth-of-kind E kinded t right;
       same = λ E kinded. whole E kinded (well t right) low;
-      accepted = accepted (well t right) low (code-some t) (omega (arith, small formula));
+      accepted = taken;
+      stack = λ E kinded. safe .stack E (codeOf t) (treeKind t) kinded taken;
       short = omega (arith, small formula);
       quick = λ E. omega (arith, small formula, begun E (codeOf t) 0 []);
     }

@@ -21,6 +21,7 @@ use Rattle.machine.specs.declared.Ended.{Ended}
 use Rattle.machine.specs.declared.Ended.the-variants.{Done, Stopped, Stuck}
 use Rattle.machine.specs.Machine.{exec}
 use Rattle.verifier.specs.Accepts.{Accepts}
+use Rattle.verifier.specs.Stack.{StackSafe}
 use Rattle.verifier.specs.Safety.{Kinded}
 use Rattle.tree_code.specs.Code.{codeOf}
 
@@ -45,10 +46,12 @@ leastBytes (x ∷ xs) = bytesOfToken (x .token) + leastBytes xs
 pub record Compiled (t : Tree) (n : ℕ) : Type 0 where
   -- the rules give a value of the formula's kind, or a fault
   pub kind : (E : Environment) → Kinded E → OfKind (treeKind t) (worth E t)
-  -- the code gives the same value, kind and bits, or the same fault; so it is never stuck: never short of a value, and never more than 128 held
+  -- the code gives the same value, kind and bits, or the same fault
   pub same : (E : Environment) → Kinded E → exec E (codeOf t) 0 [] .end ≡ endOf (worth E t)
   pub accepted : Accepts (codeOf t) (treeKind t)
-  -- it has, and begins, at most two instructions a byte
+  -- "never holds more than 128 values", and is never short of one
+  pub stack : (E : Environment) → Kinded E → StackSafe E (codeOf t) (treeKind t)
+  -- "A compiled formula has at most two instructions a byte", of n bytes, and begins no more
   pub short : length (codeOf t) ≤ 2 * n
   pub quick : (E : Environment) → exec E (codeOf t) 0 [] .count ≤ 2 * n
 

@@ -1,13 +1,13 @@
--- Accepted code, whatever it reads of the right kinds, reaches its end or a fault: `Safe`, and that a memory's reads are of the right kinds.
+-- Accepted code, whatever it reads of the right kinds, reaches its end or a fault, and holds what each instruction takes: `Safe`, and that a memory's reads are of the right kinds.
 use mathlib.Core.Path.{_≡_, refl, sym, ap, _∙_, subst}
 use mathlib.Core.Bool.{Bool, true, false, cond, Bool·beq}
-use mathlib.Core.List.{List, [], _∷_}
+use mathlib.Core.List.{List, [], _∷_, map}
 use Prim.Native.Nat.{ℕ, zero, suc, _+_, _≤_, _<_}
 use native.Mathlib.Nat.{add-zero}
 use native.Mathlib.Omega.{arith}
 use lib.Dec.{T, ltb}
 use lib.IntN.{pos, negsuc}
-use lib.ListN.{length, drop, length-drop}
+use lib.ListN.{length, drop, length-drop, length-map}
 use lib.Seq.{drop-cons}
 use borrow.Author.Tests.{lt-ltb, ltb-true}
 use Rattle.values.specs.declared.Kind.{Kind}
@@ -29,26 +29,20 @@ use Rattle.code.specs.declared.Instr.{Instr}
 use Rattle.code.specs.declared.Instr.the-variants.{PushInt, PushReal, Load, LoadIndexed, Unary, Binary, Jump, JumpIf, Unknown}
 use Rattle.machine.specs.declared.Ended.the-variants.{Stopped}
 use Rattle.machine.specs.Machine.{most, Next, goes, halts, pushed, given, act, finish, exec}
+use Rattle.machine.specs.Configurations.{Configuration, first, skip, step, Finishes}
 use Rattle.machine.proofs.Laws.{onward as after, count-most}
 use Rattle.verifier.specs.Typing.{Shape, Move, refused, next, fork, pushing, moveOf}
 use Rattle.verifier.specs.Accepts.{Leads, on, over, stay, away, instrAt, Reached, start, onward, Accepts}
+use Rattle.verifier.specs.Stack.{HasOperands, push-int, push-real, load, load-indexed, unary, binary, jump-always, jump-if, StackSafe}
 use Rattle.verifier.specs.Safety.{Kinded, EndsWell, value, fault, Safe}
 use Rattle.verifier.proofs.Moves.{within}
-
-abbrev kindsOf : List Value → Shape
-kindsOf [] = []
-kindsOf (v ∷ st) = kindOf v ∷ kindsOf st
-
-kinds-length : (st : List Value) → length (kindsOf st) ≡ length st
-kinds-length [] = refl
-kinds-length (v ∷ st) = ap suc (kinds-length st)
 
 -- ---- one instruction
 
 -- what an instruction leads to, at p, is a fault or what the check says, the move m
 data Follows (p : ℕ) (m : Move) : Next → Type 0 where
   ends : (f : Fault) → Follows p m (halts (Stopped f))
-  leads : {d : ℕ} {st : List Value} → Leads p m (suc p + d) (kindsOf st) → length st ≤ most → Follows p m (goes d st)
+  leads : {d : ℕ} {st : List Value} → Leads p m (suc p + d) (map kindOf st) → length st ≤ most → Follows p m (goes d st)
 
 on-next : (p : ℕ) (r : Shape) → Leads p (next r) (suc p + 0) r
 on-next p r = subst (λ n. Leads p (next r) n r) (sym (add-zero (suc p))) on
@@ -57,33 +51,33 @@ stay-next : (p d : ℕ) (r : Shape) → Leads p (fork d r) (suc p + 0) r
 stay-next p d r = subst (λ n. Leads p (fork d r) n r) (sym (add-zero (suc p))) stay
 
 module _ (p : ℕ) (st : List Value) where
-  pushes : (v : Value) (k : Kind) → kindOf v ≡ k → length st < most → Follows p (next (k ∷ kindsOf st)) (pushed v st)
-  pushes v k e h = rw (lt-ltb (length st) most h) (leads (subst (λ k. Leads p (next (k ∷ kindsOf st)) (suc p + 0) (kindsOf (v ∷ st))) e (on-next p _)) h)
+  pushes : (v : Value) (k : Kind) → kindOf v ≡ k → length st < most → Follows p (next (k ∷ map kindOf st)) (pushed v st)
+  pushes v k e h = rw (lt-ltb (length st) most h) (leads (subst (λ k. Leads p (next (k ∷ map kindOf st)) (suc p + 0) (map kindOf (v ∷ st))) e (on-next p _)) h)
 
-  gives : {o : Outcome} {k : Kind} → OfKind k o → length st < most → Follows p (next (k ∷ kindsOf st)) (given o st)
+  gives : {o : Outcome} {k : Kind} → OfKind k o → length st < most → Follows p (next (k ∷ map kindOf st)) (given o st)
   gives {k = k} (done v e) h = pushes v k e h
   gives (stopped f) h = ends f
 
   -- a push, where there is room for it
-  fits : {o : Outcome} {k : Kind} → OfKind k o → (pushing k (kindsOf st) ≡ refused → ⊥) → Follows p (pushing k (kindsOf st)) (given o st)
-  fits {o} {k} w n = go (ltb (length (kindsOf st)) most) refl n
+  fits : {o : Outcome} {k : Kind} → OfKind k o → (pushing k (map kindOf st) ≡ refused → ⊥) → Follows p (pushing k (map kindOf st)) (given o st)
+  fits {o} {k} w n = go (ltb (length (map kindOf st)) most) refl n
     where
-      go : (b : Bool) → ltb (length (kindsOf st)) most ≡ b → (cond b (next (k ∷ kindsOf st)) refused ≡ refused → ⊥) → Follows p (cond b (next (k ∷ kindsOf st)) refused) (given o st)
-      go true e n = gives w (omega (arith, kinds-length st, ltb-true (length (kindsOf st)) most e))
+      go : (b : Bool) → ltb (length (map kindOf st)) most ≡ b → (cond b (next (k ∷ map kindOf st)) refused ≡ refused → ⊥) → Follows p (cond b (next (k ∷ map kindOf st)) refused) (given o st)
+      go true e n = gives w (omega (arith, length-map st kindOf, ltb-true (length (map kindOf st)) most e))
       go false e n = absurd (n refl)
 
   -- an operator, where it takes the kinds
-  takes : (b : Bool) {o : Outcome} {k : Kind} → (T b → OfKind k o) → length st < most → (cond b (next (k ∷ kindsOf st)) refused ≡ refused → ⊥)
-      → Follows p (cond b (next (k ∷ kindsOf st)) refused) (given o st)
+  takes : (b : Bool) {o : Outcome} {k : Kind} → (T b → OfKind k o) → length st < most → (cond b (next (k ∷ map kindOf st)) refused ≡ refused → ⊥)
+      → Follows p (cond b (next (k ∷ map kindOf st)) refused) (given o st)
   takes true w h n = gives (w tt) h
   takes false w h n = absurd (n refl)
 
-  jumps : (d : ℕ) (b : Bool) → length st ≤ most → Follows p (fork d (kindsOf st)) (cond b (goes d st) (goes 0 st))
+  jumps : (d : ℕ) (b : Bool) → length st ≤ most → Follows p (fork d (map kindOf st)) (cond b (goes d st) (goes 0 st))
   jumps d true h = leads away h
-  jumps d false h = leads (stay-next p d (kindsOf st)) h
+  jumps d false h = leads (stay-next p d (map kindOf st)) h
 
 module _ (E : Environment) (K : Kinded E) where
-  follows : (p : ℕ) (i : Instr) (st : List Value) → length st ≤ most → (moveOf i (kindsOf st) ≡ refused → ⊥) → Follows p (moveOf i (kindsOf st)) (act E i st)
+  follows : (p : ℕ) (i : Instr) (st : List Value) → length st ≤ most → (moveOf i (map kindOf st) ≡ refused → ⊥) → Follows p (moveOf i (map kindOf st)) (act E i st)
   unfolding moveOf act
   follows p (PushInt z) st h n = fits p st (done _ refl) n
   follows p (PushReal x) st h n = fits p st (done _ refl) n
@@ -100,9 +94,32 @@ module _ (E : Environment) (K : Kinded E) where
   follows p (JumpIf t d) (v ∷ st) h n = jumps p st d (Bool·beq (truthRule v) t) (omega arith)
   follows p Unknown st h n = absurd (n refl)
 
+-- ---- what an instruction takes
+
+allowed : (b : Bool) (s : Shape) → (cond b (next s) refused ≡ refused → ⊥) → b ≡ true
+allowed true s n = refl
+allowed false s n = absurd (n refl)
+
+operands : (i : Instr) (s : Shape) → (moveOf i s ≡ refused → ⊥) → HasOperands i s
+unfolding moveOf
+operands (PushInt z) s n = push-int
+operands (PushReal x) s n = push-real
+operands (Load b i) s n = load
+operands (LoadIndexed b) [] n = absurd (n refl)
+operands (LoadIndexed b) (k ∷ s) n = load-indexed
+operands (Unary o) [] n = absurd (n refl)
+operands (Unary o) (k ∷ s) n = unary (allowed (unaryTakes o k) _ n)
+operands (Binary o) [] n = absurd (n refl)
+operands (Binary o) (k ∷ []) n = absurd (n refl)
+operands (Binary o) (k ∷ (j ∷ s)) n = binary (allowed (binaryTakes o j k) _ n)
+operands (Jump d) s n = jump-always
+operands (JumpIf t d) [] n = absurd (n refl)
+operands (JumpIf t d) (k ∷ s) n = jump-if
+operands Unknown s n = absurd (n refl)
+
 -- ---- a run
 
-last : (st : List Value) (k : Kind) → kindsOf st ≡ k ∷ [] → EndsWell k (finish st)
+last : (st : List Value) (k : Kind) → map kindOf st ≡ k ∷ [] → EndsWell k (finish st)
 last [] k e = let z : _≡_ {A = ℕ} 0 1 = cc in absurd (omega arith)
 last (v ∷ []) k e = value v (cc)
 last (v ∷ (w ∷ st)) k e = let z : _≡_ {A = ℕ} 0 1 = cc in absurd (omega arith)
@@ -119,45 +136,94 @@ split i left c p e =
     let q : i ∷ left ≡ instrAt c p ∷ drop (suc p) c = e ∙ drop-cons c p Unknown h in
     record { inside = h; first = cc; rest = cc }
 
+-- where it goes on, and how it ends
+led : {p d : ℕ} {m : Move} {st : List Value} → Follows p m (goes d st) → Leads p m (suc p + d) (map kindOf st) × (length st ≤ most)
+led (leads w h) = (w, h)
+
 module _ (E : Environment) (K : Kinded E) (c : List Instr) (k : Kind) (acc : Accepts c k) where
-  -- a state that accepted code can be in: at p, with st held
-  record At (p : ℕ) (st : List Value) : Type 0 where
-    reached : Reached c p (kindsOf st)
+  -- a configuration of accepted code: the instructions left begin at the place p, and the one d further on is reached with the kinds of the values held
+  record At (left : List Instr) (d : ℕ) (st : List Value) (p : ℕ) : Type 0 where
+    rest : left ≡ drop p c
+    reached : Reached c (p + d) (map kindOf st)
     room : length st ≤ most
-    in-code : p ≤ length c
+    in-code : p + d ≤ length c
 
-  goes-on : {i : Instr} {left : List Instr} (p : ℕ) (st : List Value) → At p st → Split i left c p
-      → ((d : ℕ) (st′ : List Value) → At (suc p + d) st′ → EndsWell k (exec E left d st′ .end))
-      → (x : Next) → Follows p (moveOf (instrAt c p) (kindsOf st)) x
-      → EndsWell k (after E left x .end)
-  goes-on p st a s ih (halts _) (ends f) = fault f
-  goes-on p st a s ih (goes d st′) (leads w h) =
-      ih d st′ (record {
-        reached = onward (a .reached) (s .inside) w;
-        room = h;
-        in-code = within (instrAt c p) (kindsOf st) (s .inside) (acc .each p (s .inside)) w;
-      })
+  -- what the instruction at p leads to
+  module _ {i : Instr} {left : List Instr} {st : List Value} {p : ℕ} (a : At (i ∷ left) 0 st p) where
+    here : Split i left c p
+    here = split i left c p (a .rest)
 
-  runs : (left : List Instr) (p d : ℕ) (st : List Value) → left ≡ drop p c → At (p + d) st → EndsWell k (exec E left d st .end)
-  unfolding exec
-  runs [] p zero st e a =
-      let q : p + 0 ≡ length c = omega (arith, ap length e, length-drop p c, a .in-code) in
-      last st k (acc .one (length c) (kindsOf st) (k ∷ []) (subst (λ n. Reached c n (kindsOf st)) q (a .reached)) (acc .ended))
-  runs [] p (suc d) st e a = absurd (omega (arith, ap length e, length-drop p c, a .in-code))
-  runs (i ∷ left) p (suc d) st e a =
+    there : Reached c p (map kindOf st)
+    there = subst (λ n. Reached c n (map kindOf st)) (add-zero p) (a .reached)
+
+    able : moveOf i (map kindOf st) ≡ refused → ⊥
+    able = subst (λ i. moveOf i (map kindOf st) ≡ refused → ⊥) (sym (here .first)) (acc .acts p (map kindOf st) there (here .inside))
+
+    after-it : {x : Next} → act E i st ≡ x → Follows p (moveOf (instrAt c p) (map kindOf st)) x
+    after-it {x} e = subst (λ i. Follows p (moveOf i (map kindOf st)) x) (here .first) (subst (Follows p (moveOf i (map kindOf st))) e (follows E K p i st (a .room) able))
+
+    steps : {d : ℕ} {st′ : List Value} → act E i st ≡ goes d st′ → At left d st′ (suc p)
+    steps e =
+        let w = led (after-it e) in
+        record {
+          rest = here .rest;
+          reached = onward there (here .inside) (w .0);
+          room = w .1;
+          in-code = within (instrAt c p) (map kindOf st) (here .inside) (acc .each p (here .inside)) (w .0);
+        }
+
+  skips : {i : Instr} {left : List Instr} {d : ℕ} {st : List Value} {p : ℕ} → At (i ∷ left) (suc d) st p → At left d st (suc p)
+  skips {i} {left} {d} {st} {p} a =
       let n : p + suc d ≡ suc p + d = omega arith in
-      runs left (suc p) d st (split i left c p e .rest) (subst (λ n. At n st) n a)
-  runs (i ∷ left) p zero st e a =
-      let s = split i left c p e in
-      let a₀ : At p st = subst (λ n. At n st) (add-zero p) a in
-      subst (λ i. EndsWell k (after E left (act E i st) .end)) (sym (s .first))
-      (goes-on p st a₀ s (λ d st′ b. runs left (suc p) d st′ (s .rest) b) (act E (instrAt c p) st)
-      (follows E K p (instrAt c p) st (a₀ .room) (acc .acts p (kindsOf st) (a₀ .reached) (s .inside))))
+      record {
+        rest = split i left c p (a .rest) .rest;
+        reached = subst (λ n. Reached c n (map kindOf st)) n (a .reached);
+        room = a .room;
+        in-code = omega (arith, a .in-code);
+      }
+
+  place : {left : List Instr} {d : ℕ} {st : List Value} → Configuration E c left d st → (p : ℕ) × At left d st p
+  place first = (0, record { rest = refl; reached = start; room = omega arith; in-code = omega arith })
+  place (skip C) = let a = place C in (suc (a .0), skips (a .1))
+  place (step C e) = let a = place C in (suc (a .0), steps (a .1) e)
+
+  -- ---- what is held
+
+  result : {st : List Value} → Finishes E c st → map kindOf st ≡ k ∷ []
+  result {st} C =
+      let a = place C in
+      let q : a .0 + 0 ≡ length c = omega (arith, ap length (a .1 .rest), length-drop (a .0) c, a .1 .in-code) in
+      acc .one (length c) (map kindOf st) (k ∷ []) (subst (λ n. Reached c n (map kindOf st)) q (a .1 .reached)) (acc .ended)
+
+  stack : StackSafe E c k
+  stack = record {
+    height = λ C. place C .1 .room;
+    operands = λ {i} {st} b. operands i (map kindOf st) (able (place (b .1) .1));
+    result = result;
+  }
+
+  -- ---- how it ends
+
+  goes-on : {i : Instr} {left : List Instr} {st : List Value} → Configuration E c (i ∷ left) 0 st
+      → ((d : ℕ) (st′ : List Value) → Configuration E c left d st′ → EndsWell k (exec E left d st′ .end))
+      → (x : Next) → act E i st ≡ x → {p : ℕ} {m : Move} → Follows p m x → EndsWell k (after E left x .end)
+  goes-on C ih (halts _) e (ends f) = fault f
+  goes-on C ih (goes d st′) e (leads w h) = ih d st′ (step C e)
+
+  runs : (left : List Instr) (d : ℕ) (st : List Value) → Configuration E c left d st → EndsWell k (exec E left d st .end)
+  unfolding exec
+  runs [] zero st C = last st k (result C)
+  runs [] (suc d) st C =
+      let a = place C in
+      absurd (omega (arith, ap length (a .1 .rest), length-drop (a .0) c, a .1 .in-code))
+  runs (i ∷ left) (suc d) st C = runs left d st (skip C)
+  runs (i ∷ left) zero st C = goes-on C (runs left) (act E i st) refl (after-it (place C .1) refl)
 
 pub safe : Safe
 safe = record {
-  ends = λ E c k K acc. runs E K c k acc c 0 0 [] refl (record { reached = start; room = omega arith; in-code = omega arith });
+  ends = λ E c k K acc. runs E K c k acc c 0 [] first;
   counts = λ E c. count-most E c 0 [];
+  stack = λ E c k K acc. stack E K c k acc;
 }
 
 -- ---- an actual memory

@@ -1,5 +1,6 @@
 pub mod Typing
 pub mod Accepts
+pub mod Stack
 pub mod Safety
 pub mod Shapes
 pub mod Pass

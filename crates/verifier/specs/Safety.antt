@@ -1,6 +1,5 @@
 -- What accepted code does, whatever the memory holds (demand 3's second half): it "reaches its end or a fault. It executes at most as many instructions as it has, is
--- never short of a value and never holds more than 128". Being short of a value, given one of a wrong kind, past 128 or past the end are all `Stuck` to the machine.
--- proofs/Safe.antt proves `Safe`.
+-- never short of a value and never holds more than 128". proofs/Safe.antt proves `Safe`.
 use mathlib.Core.Path.{_≡_}
 use mathlib.Core.List.{List, []}
 use Prim.Native.Nat.{ℕ, _≤_}
@@ -18,6 +17,7 @@ use Rattle.machine.specs.declared.Ended.the-variants.{Done, Stopped}
 use Rattle.memory.specs.Environment.{Environment}
 use Rattle.machine.specs.Machine.{exec}
 use Rattle.verifier.specs.Accepts.{Accepts}
+use Rattle.verifier.specs.Stack.{StackSafe}
 
 -- what is read of a bank is of its kind
 pub record Kinded (E : Environment) : Type 0 where
@@ -32,3 +32,4 @@ pub data EndsWell (k : Kind) : Ended → Type 0 where
 pub record Safe : Type 0 where
   pub ends : (E : Environment) (c : List Instr) (k : Kind) → Kinded E → Accepts c k → EndsWell k (exec E c 0 [] .end)
   pub counts : (E : Environment) (c : List Instr) → exec E c 0 [] .count ≤ length c
+  pub stack : (E : Environment) (c : List Instr) (k : Kind) → Kinded E → Accepts c k → StackSafe E c k
