@@ -1,5 +1,6 @@
--- Safe is what other crates may cite; the others are the laws that lead to it and to `check`.
+-- Safe and Verdicts are what other crates may cite; the others are the laws that lead to them and to `check`.
 pub mod Safe
+pub mod Verdicts
 pub mod Moves
 pub mod Pass
 pub mod Onward

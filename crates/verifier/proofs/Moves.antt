@@ -1,18 +1,19 @@
 -- Tests and places: whether two are the same, and where a move leads, which is forward, and within the code where each instruction stands.
-use mathlib.Core.Path.{_≡_, refl, sym, subst}
+use mathlib.Core.Path.{_≡_, refl, sym, ap, _∙_, subst}
 use mathlib.Core.Bool.{Bool, true, false, cond}
-use mathlib.Core.List.{[], _∷_}
+use mathlib.Core.List.{List, [], _∷_}
 use Prim.Native.Nat.{ℕ, zero, suc, _+_, _-_, _≤_, _<_}
 use native.Mathlib.Omega.{arith}
 use lib.Dec.{ltb, leb, eqb}
-use lib.ListN.{length}
+use lib.ListN.{length, drop, length-drop}
+use lib.Seq.{drop-cons}
 use borrow.Author.Tests.{leb-true, eqb-true, eqb-false}
 use Rattle.operators.specs.Kinds.{unaryTakes, binaryTakes}
 use Rattle.code.specs.declared.Instr.{Instr}
 use Rattle.code.specs.declared.Instr.the-variants.{PushInt, PushReal, Load, LoadIndexed, Unary, Binary, Jump, JumpIf, Unknown}
 use Rattle.machine.specs.Machine.{most}
 use Rattle.verifier.specs.Typing.{Shape, Move, refused, next, leap, fork, moveOf, stands}
-use Rattle.verifier.specs.Accepts.{Leads, on, over, stay, away}
+use Rattle.verifier.specs.Accepts.{Leads, on, over, stay, away, instrAt}
 
 -- what holds of both sides of a test
 pub under : {A : Type 0} (P : A → Type 0) (b : Bool) {x y : A} → P x → P y → P (cond b x y)
@@ -104,3 +105,17 @@ goes-known Unknown s k e = let z : _≡_ {A = ℕ} 0 1 = cc in absurd (omega ari
 
 pub within : (i : Instr) (s : Shape) {n p q : ℕ} {r : Shape} → p < n → stands (n - suc p) i ≡ true → Leads p (moveOf i s) q r → q ≤ n
 within i s {n} {p} l e w = omega (arith, reach w, spanned i s (n - suc p) e)
+
+-- ---- places in the code
+
+-- the first instruction of what is left is the one at p
+pub record Split (i : Instr) (left c : List Instr) (p : ℕ) : Type 0 where
+  pub inside : p < length c
+  pub first : i ≡ instrAt c p
+  pub rest : left ≡ drop (suc p) c
+
+pub split : (i : Instr) (left c : List Instr) (p : ℕ) → i ∷ left ≡ drop p c → Split i left c p
+split i left c p e =
+    let h : p < length c = omega (arith, ap length e, length-drop p c) in
+    let q : i ∷ left ≡ instrAt c p ∷ drop (suc p) c = e ∙ drop-cons c p Unknown h in
+    record { inside = h; first = cc; rest = cc }

@@ -68,7 +68,7 @@ passage (refuses f) n = absurd (n refl)
 passage (passes n x) _ = x
 
 -- so what is reached at p is what is known there
-arrives : {c : List Instr} {q : ℕ} {s : Shape} → Reached c q s → Arrives c q q s
+pub arrives : {c : List Instr} {q : ℕ} {s : Shape} → Reached c q s → Arrives c q q s
 arrives start = first
 arrives (onward d l w) = from (forward w) d w
 
@@ -130,7 +130,7 @@ joined {c} {p} e (passes n k) (differs {s = s} {r = r} f) = refuses (λ j a. f (
 -- ---- at the end
 
 -- no place beyond it is reached
-ahead : {c : List Instr} → ((q : ℕ) → q < length c → stands (length c - suc q) (instrAt c q) ≡ true) → {p : ℕ} {s : Shape} → Reached c p s → p ≤ length c
+pub ahead : {c : List Instr} → ((q : ℕ) → q < length c → stands (length c - suc q) (instrAt c q) ≡ true) → {p : ℕ} {s : Shape} → Reached c p s → p ≤ length c
 ahead f start = omega arith
 ahead {c} f (onward {p = p} {s = s} d l w) = within (instrAt c p) s l (f p l) w
 

@@ -8,7 +8,6 @@ use native.Mathlib.Omega.{arith}
 use lib.Dec.{T, ltb}
 use lib.IntN.{pos, negsuc}
 use lib.ListN.{length, drop, length-drop, length-map}
-use lib.Seq.{drop-cons}
 use borrow.Author.Tests.{lt-ltb, ltb-true}
 use Rattle.values.specs.declared.Kind.{Kind}
 use Rattle.values.specs.declared.Value.{Value}
@@ -35,7 +34,7 @@ use Rattle.verifier.specs.Typing.{Shape, Move, refused, next, fork, push
 use Rattle.verifier.specs.Accepts.{Leads, on, over, stay, away, instrAt, Reached, start, onward, Accepts}
 use Rattle.verifier.specs.Stack.{HasOperands, push-int, push-real, load, load-indexed, unary, binary, jump-always, jump-if, StackSafe}
 use Rattle.verifier.specs.Safety.{Kinded, EndsWell, value, fault, Safe}
-use Rattle.verifier.proofs.Moves.{within}
+use Rattle.verifier.proofs.Moves.{Split, split, within}
 
 -- ---- one instruction
 
@@ -123,18 +122,6 @@ last : (st : List Value) (k : Kind) → map kindOf st ≡ k ∷ [] → EndsWell 
 last [] k e = let z : _≡_ {A = ℕ} 0 1 = cc in absurd (omega arith)
 last (v ∷ []) k e = value v (cc)
 last (v ∷ (w ∷ st)) k e = let z : _≡_ {A = ℕ} 0 1 = cc in absurd (omega arith)
-
--- the first instruction of what is left is the one at p
-record Split (i : Instr) (left c : List Instr) (p : ℕ) : Type 0 where
-  inside : p < length c
-  first : i ≡ instrAt c p
-  rest : left ≡ drop (suc p) c
-
-split : (i : Instr) (left c : List Instr) (p : ℕ) → i ∷ left ≡ drop p c → Split i left c p
-split i left c p e =
-    let h : p < length c = omega (arith, ap length e, length-drop p c) in
-    let q : i ∷ left ≡ instrAt c p ∷ drop (suc p) c = e ∙ drop-cons c p Unknown h in
-    record { inside = h; first = cc; rest = cc }
 
 -- where it goes on, and how it ends
 led : {p d : ℕ} {m : Move} {st : List Value} → Follows p m (goes d st) → Leads p m (suc p + d) (map kindOf st) × (length st ≤ most)

@@ -2,5 +2,6 @@ pub mod Typing
 pub mod Accepts
 pub mod Stack
 pub mod Safety
+pub mod Verdicts
 pub mod Shapes
 pub mod Pass

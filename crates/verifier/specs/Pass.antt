@@ -6,18 +6,9 @@ use Prim.Native.Nat.{ℕ, suc, _+_, _-_, _≤_, _<_}
 use lib.ListN.{getD}
 use Rattle.code.specs.declared.Instr.{Instr}
 use Rattle.code.specs.Instructions.{decodeAt}
-use Rattle.verifier.specs.declared.Verdict.{Verdict}
-use Rattle.verifier.specs.declared.Verdict.the-variants.{Accepted, Refused}
 use Rattle.verifier.specs.Typing.{Shape, refused, next, leap, fork, moveOf, stands}
+pub use Rattle.verifier.specs.Verdicts.{verdictOf}
 use Rattle.verifier.specs.Shapes.{State, rejected, unreached, holds}
-
--- the verdict, from what is known at the end
-abbrev pub verdictOf : State → Verdict
-verdictOf rejected = Refused
-verdictOf unreached = Refused
-verdictOf (holds []) = Refused
-verdictOf (holds (k ∷ [])) = Accepted k
-verdictOf (holds (k ∷ (j ∷ s))) = Refused
 
 pub record Agrees (b : Bool) (s r : Shape) : Type 0 where
   pub yes : b ≡ true → s ≡ r

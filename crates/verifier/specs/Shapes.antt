@@ -1,6 +1,6 @@
 -- How the code has what the definitions speak of: an instruction as the number of its eight bytes; kinds in an array of 128 numbers of which the first count, 0 for
 -- an integer, beside it the same as bits, and bits alone for a place that jumps go to. For the contracts of private functions, as Pass is; a reader believes Typing,
--- Accepts and Safety.
+-- Accepts, Stack and Safety.
 use mathlib.Core.Path.{_≡_}
 use mathlib.Core.Bool.{Bool, false, _&&_, cond}
 use mathlib.Core.List.{List, [], _∷_}
@@ -18,6 +18,7 @@ use Rattle.code.specs.Instructions.{instruction}
 use Rattle.verifier.specs.declared.packing.Held.{Held}
 use Rattle.verifier.specs.declared.typing.Flow.{Flow}
 use Rattle.verifier.specs.Typing.{Shape, Move, refused, next, pushing, moveOf}
+pub use Rattle.verifier.specs.Verdicts.{State, rejected, unreached, holds}
 
 -- ---- an instruction as a number: the opcode, behind it the operand with the two bytes that must be 0, and the word
 
@@ -38,13 +39,7 @@ instrBy w = instrOf (w % 256) w
 abbrev pub staying : ℕ → ℕ → Bool
 staying m w = cond (eqb (operandOf w) 0) (leb (wordOf w) m) false
 
--- ---- states
-
--- what the pass knows at a place: the code is not accepted; the place is not reached as yet; it is reached with these kinds
-pub data State : Type 0 where
-  rejected : State
-  unreached : State
-  holds : Shape → State
+-- ---- kinds as numbers
 
 abbrev pub numberKind : ℕ → Kind
 numberKind n = cond (eqb n 0) Int Real
