@@ -4,15 +4,16 @@ use mathlib.Core.Bool.{Bool, true, false, cond}
 use mathlib.Core.List.{List, [], _∷_}
 use Prim.Native.Nat.{ℕ, zero, suc, _+_, _-_, _≤_, _<_}
 use native.Mathlib.Omega.{arith}
-use lib.Dec.{ltb, leb, eqb}
+use lib.Dec.{T, leb, leb→le, eqb}
 use lib.ListN.{length, drop, length-drop}
 use lib.Seq.{drop-cons}
 use borrow.Author.Tests.{leb-true, eqb-true, eqb-false}
+use Rattle.values.specs.declared.Kind.{Kind}
 use Rattle.operators.specs.Kinds.{unaryTakes, binaryTakes}
 use Rattle.code.specs.declared.Instr.{Instr}
 use Rattle.code.specs.declared.Instr.the-variants.{PushInt, PushReal, Load, LoadIndexed, Unary, Binary, Jump, JumpIf, Unknown}
 use Rattle.machine.specs.Machine.{most}
-use Rattle.verifier.specs.Typing.{Shape, Move, refused, next, leap, fork, moveOf, stands}
+use Rattle.verifier.specs.Typing.{Shape, Move, refused, next, leap, fork, hasRoom, pushing, moveOf, stands}
 use Rattle.verifier.specs.Accepts.{Leads, on, over, stay, away, instrAt}
 
 -- what holds of both sides of a test
@@ -40,6 +41,17 @@ between P l (suc m) e {n} f g = compare n l (λ q. subst P (sym q) (e .0)) (λ q
 -- what holds below p, and of p, holds below the next
 pub upto : (X : ℕ → Type 0) (p : ℕ) → ((q : ℕ) → q < p → X q) → X p → (q : ℕ) → q < suc p → X q
 upto X p f x q l = compare q p (λ e. subst X (sym e) x) (λ n. f q (omega arith))
+
+-- ---- a test that lets a move through
+
+pub allowed : (b : Bool) (s : Shape) → (cond b (next s) refused ≡ refused → ⊥) → T b
+allowed true s n = tt
+allowed false s n = absurd (n refl)
+
+pub has-room : (k : Kind) (s : Shape) → (pushing k s ≡ refused → ⊥) → length s < most
+has-room k s n =
+    let t = allowed (hasRoom s) (k ∷ s) n in
+    omega (arith, leb→le)
 
 -- ---- a move
 
@@ -74,9 +86,9 @@ flat false r k = omega arith
 
 pub spanned : (i : Instr) (s : Shape) (k : ℕ) → stands k i ≡ true → span (moveOf i s) ≤ k
 unfolding moveOf
-spanned (PushInt z) s k e = flat (ltb (length s) most) _ k
-spanned (PushReal x) s k e = flat (ltb (length s) most) _ k
-spanned (Load b i) s k e = flat (ltb (length s) most) _ k
+spanned (PushInt z) s k e = flat (hasRoom s) _ k
+spanned (PushReal x) s k e = flat (hasRoom s) _ k
+spanned (Load b i) s k e = flat (hasRoom s) _ k
 spanned (LoadIndexed b) [] k e = omega arith
 spanned (LoadIndexed b) (x ∷ s) k e = omega arith
 spanned (Unary o) [] k e = omega arith

@@ -1,4 +1,5 @@
--- Accepted code, whatever it reads of the right kinds, reaches its end or a fault, and holds what each instruction takes: `Safe`, and that a memory's reads are of the right kinds.
+-- Accepted code, whatever it reads of the right kinds, reaches its end or a fault, and holds what each instruction takes: `Safe`, and that a memory's reads are
+-- of the right kinds.
 use mathlib.Core.Path.{_≡_, refl, sym, ap, _∙_, subst}
 use mathlib.Core.Bool.{Bool, true, false, cond, Bool·beq}
 use mathlib.Core.List.{List, [], _∷_, map}
@@ -8,7 +9,7 @@ use native.Mathlib.Omega.{arith}
 use lib.Dec.{T, ltb}
 use lib.IntN.{pos, negsuc}
 use lib.ListN.{length, drop, length-drop, length-map}
-use borrow.Author.Tests.{lt-ltb, ltb-true}
+use borrow.Author.Tests.{lt-ltb}
 use Rattle.values.specs.declared.Kind.{Kind}
 use Rattle.values.specs.declared.Value.{Value}
 use Rattle.values.specs.declared.Fault.{Fault}
@@ -34,7 +35,7 @@ use Rattle.verifier.specs.Typing.{Shape, Move, refused, next, fork, push
 use Rattle.verifier.specs.Accepts.{Leads, on, over, stay, away, instrAt, Reached, start, onward, Accepts}
 use Rattle.verifier.specs.Stack.{HasOperands, push-int, push-real, load, load-indexed, unary, binary, jump-always, jump-if, StackSafe}
 use Rattle.verifier.specs.Safety.{Kinded, EndsWell, value, fault, Safe}
-use Rattle.verifier.proofs.Moves.{Split, split, within}
+use Rattle.verifier.proofs.Moves.{allowed, has-room, Split, split, within}
 
 -- ---- one instruction
 
@@ -59,11 +60,9 @@ module _ (p : ℕ) (st : List Value) where
 
   -- a push, where there is room for it
   fits : {o : Outcome} {k : Kind} → OfKind k o → (pushing k (map kindOf st) ≡ refused → ⊥) → Follows p (pushing k (map kindOf st)) (given o st)
-  fits {o} {k} w n = go (ltb (length (map kindOf st)) most) refl n
-    where
-      go : (b : Bool) → ltb (length (map kindOf st)) most ≡ b → (cond b (next (k ∷ map kindOf st)) refused ≡ refused → ⊥) → Follows p (cond b (next (k ∷ map kindOf st)) refused) (given o st)
-      go true e n = gives w (omega (arith, length-map st kindOf, ltb-true (length (map kindOf st)) most e))
-      go false e n = absurd (n refl)
+  fits {o} {k} w n =
+      let l : length (map kindOf st) < most = has-room k (map kindOf st) n in
+      rw (lt-ltb (length (map kindOf st)) most l) (gives w (omega (arith, length-map st kindOf)))
 
   -- an operator, where it takes the kinds
   takes : (b : Bool) {o : Outcome} {k : Kind} → (T b → OfKind k o) → length st < most → (cond b (next (k ∷ map kindOf st)) refused ≡ refused → ⊥)
@@ -76,7 +75,8 @@ module _ (p : ℕ) (st : List Value) where
   jumps d false h = leads (stay-next p d (map kindOf st)) h
 
 module _ (E : Environment) (K : Kinded E) where
-  follows : (p : ℕ) (i : Instr) (st : List Value) → length st ≤ most → (moveOf i (map kindOf st) ≡ refused → ⊥) → Follows p (moveOf i (map kindOf st)) (act E i st)
+  follows : (p : ℕ) (i : Instr) (st : List Value) → length st ≤ most → (moveOf i (map kindOf st) ≡ refused → ⊥)
+      → Follows p (moveOf i (map kindOf st)) (act E i st)
   unfolding moveOf act
   follows p (PushInt z) st h n = fits p st (done _ refl) n
   follows p (PushReal x) st h n = fits p st (done _ refl) n
@@ -94,10 +94,6 @@ module _ (E : Environment) (K : Kinded E) where
   follows p Unknown st h n = absurd (n refl)
 
 -- ---- what an instruction takes
-
-allowed : (b : Bool) (s : Shape) → (cond b (next s) refused ≡ refused → ⊥) → b ≡ true
-allowed true s n = refl
-allowed false s n = absurd (n refl)
 
 operands : (i : Instr) (s : Shape) → (moveOf i s ≡ refused → ⊥) → HasOperands i s
 unfolding moveOf
@@ -147,7 +143,8 @@ module _ (E : Environment) (K : Kinded E) (c : List Instr) (k : Kind) (acc : Acc
     able = subst (λ i. moveOf i (map kindOf st) ≡ refused → ⊥) (sym (here .first)) (acc .acts p (map kindOf st) there (here .inside))
 
     after-it : {x : Next} → act E i st ≡ x → Follows p (moveOf (instrAt c p) (map kindOf st)) x
-    after-it {x} e = subst (λ i. Follows p (moveOf i (map kindOf st)) x) (here .first) (subst (Follows p (moveOf i (map kindOf st))) e (follows E K p i st (a .room) able))
+    after-it {x} e = subst (λ i. Follows p (moveOf i (map kindOf st)) x) (here .first)
+        (subst (Follows p (moveOf i (map kindOf st))) e (follows E K p i st (a .room) able))
 
     steps : {d : ℕ} {st′ : List Value} → act E i st ≡ goes d st′ → At left d st′ (suc p)
     steps e =

@@ -16,11 +16,13 @@ use Rattle.verifier.specs.declared.Verdict.{Verdict}
 use Rattle.verifier.specs.declared.Verdict.the-variants.{Accepted, Refused}
 use Rattle.verifier.specs.Typing.{Shape, Move, refused, next, leap, fork, moveOf, stands}
 use Rattle.verifier.specs.Accepts.{Leads, on, over, stay, away, instrAt, Reached, start, onward, Accepts, Right}
-use Rattle.verifier.specs.Verdicts.{State, rejected, unreached, holds, States, sameShape, joinState, joinAt, propagate, transfer, dataflow, entry, verdictOf, verdict, VerdictLaws}
+use Rattle.verifier.specs.Verdicts.{State, rejected, unreached, holds, States, sameShape, joinState, joinAt, propagate, transfer, dataflow, entryStates}
+use Rattle.verifier.specs.Verdicts.{verdictOf, verdict, VerdictLaws}
 use Rattle.verifier.specs.Pass.{Agrees}
 use Rattle.verifier.proofs.Moves.{upto, Split, split}
 use Rattle.verifier.proofs.Pass as Pass
-use Rattle.verifier.proofs.Pass.{holds-same, unheld, unfailed, unarrived, Arrives, first, from, arrives, flows, Knows, Or, passes, ahead, verdict-sound, verdict-complete}
+use Rattle.verifier.proofs.Pass.{holds-same, unheld, unfailed, unarrived, Arrives, first, from, arrives, flows, Knows, Or, passes, ahead}
+use Rattle.verifier.proofs.Pass.{verdict-sound, verdict-complete}
 
 -- ---- lists of kinds
 
@@ -71,7 +73,8 @@ record Represents (f : States) (S : ℕ → Shape → Type 0) : Type 0 where
 clash-into : {S S′ : ℕ → Shape → Type 0} {q : ℕ} → ((s : Shape) → S q s → S′ q s) → Clash S q → Clash S′ q
 clash-into i c = record { one = c .one; other = c .other; comes = i (c .one) (c .comes); also = i (c .other) (c .also); differ = c .differ }
 
-likewise : {f : States} {S S′ : ℕ → Shape → Type 0} → Represents f S → ((q : ℕ) (s : Shape) → S q s → S′ q s) → ((q : ℕ) (s : Shape) → S′ q s → S q s) → Represents f S′
+likewise : {f : States} {S S′ : ℕ → Shape → Type 0} → Represents f S
+    → ((q : ℕ) (s : Shape) → S q s → S′ q s) → ((q : ℕ) (s : Shape) → S′ q s → S q s) → Represents f S′
 likewise w i o = record {
   known = λ q s e. i q s (w .known q s e);
   clash = λ q e. clash-into (i q) (w .clash q e);
@@ -137,7 +140,8 @@ module _ {f : States} {S : ℕ → Shape → Type 0} (w : Represents f S) (r : S
   }
 
 -- and what an instruction at p leads to
-led : (p : ℕ) (m : Move) {f : States} {S : ℕ → Shape → Type 0} → Represents f S → (m ≡ refused → ⊥) → Represents (propagate p m f) (λ q s. S q s ⊎ Leads p m q s)
+led : (p : ℕ) (m : Move) {f : States} {S : ℕ → Shape → Type 0} → Represents f S → (m ≡ refused → ⊥)
+    → Represents (propagate p m f) (λ q s. S q s ⊎ Leads p m q s)
 led p refused w n = absurd (n refl)
 led p (next r) {S = S} w n = likewise (joined w r (suc p)) into out
   where
@@ -201,7 +205,8 @@ module _ (c : List Instr) where
       let b = w .clash q e in
       b .differ (a .one q (b .one) (b .other) (reached l (b .comes)) (reached l (b .also)))
 
-  module _ {p : ℕ} {f : States} (inside : p < length c) (stood : stands (length c - suc p) (instrAt c p) ≡ true) (a : Before p) (w : Represents f (Arrives c p)) where
+  module _ {p : ℕ} {f : States} (inside : p < length c) (stood : stands (length c - suc p) (instrAt c p) ≡ true) (a : Before p)
+      (w : Represents f (Arrives c p)) where
     finds : {s : Shape} → Reached c p s → Found s (f p)
     finds {s} d = w .found p s (arrives d)
 
@@ -219,9 +224,11 @@ module _ (c : List Instr) where
         out : (q : ℕ) (r : Shape) → Arrives c (suc p) q r → Arrives c p q r ⊎ L q r
         out _ _ first = inl first
         out q r (from {o = n} {s = x} m d u) =
-            upto (λ n. Reached c n x → Leads n (moveOf (instrAt c n) x) q r → Arrives c p q r ⊎ L q r) p (λ n m d u. inl (from m d u)) (λ d u. inr (o x q r d u)) n m d u
+            upto (λ n. Reached c n x → Leads n (moveOf (instrAt c n) x) q r → Arrives c p q r ⊎ L q r) p
+            (λ n m d u. inl (from m d u)) (λ d u. inr (o x q r d u)) n m d u
 
-    before-next : ((s : Shape) → Reached c p s → moveOf (instrAt c p) s ≡ refused → ⊥) → ((s r : Shape) → Reached c p s → Reached c p r → s ≡ r) → Before (suc p)
+    before-next : ((s : Shape) → Reached c p s → moveOf (instrAt c p) s ≡ refused → ⊥)
+        → ((s r : Shape) → Reached c p s → Reached c p r → s ≡ r) → Before (suc p)
     before-next f g = record {
       each = upto (λ q. stands (length c - suc q) (instrAt c q) ≡ true) p (a .each) stood;
       acts = λ q s l. upto (λ q. Reached c q s → moveOf (instrAt c q) s ≡ refused → ⊥) p (λ q l. a .acts q s l) (f s) q l;
@@ -250,7 +257,8 @@ module _ (c : List Instr) where
       moved (inl i) = refuses (λ k a. a .acts p s here inside i) (λ q. ap (λ m. propagate p m f q) i)
       moved (inr n) = knows
           (before-next (λ x d. subst (λ x. moveOf (instrAt c p) x ≡ refused → ⊥) (sym (only d)) n) (λ x r d u. only d ∙ sym (only u)))
-          (further (λ q r u. from (omega arith) here u) (λ x q r d u. subst (λ x. Leads p (moveOf (instrAt c p) x) q r) (only d) u) (led p (moveOf (instrAt c p) s) w n))
+          (further (λ q r u. from (omega arith) here u) (λ x q r d u. subst (λ x. Leads p (moveOf (instrAt c p) x) q r) (only d) u)
+          (led p (moveOf (instrAt c p) s) w n))
 
     stepped : (x : State) → f p ≡ x → Known (suc p) (transfer p (instrAt c p) x f)
     stepped rejected e = refuses (clashes (omega arith) w e) (λ q. refl)
@@ -266,7 +274,8 @@ module _ (c : List Instr) where
   abbrev Judged : State → Type 0
   Judged = Or c (Knows c (length c) (λ q. unreached))
 
-  final : {f : States} → Before (length c) → Represents f (Arrives c (length c)) → (x : State) → f (length c) ≡ x → (x ≡ rejected → ⊥) → Knows c (length c) (λ q. unreached) x
+  final : {f : States} → Before (length c) → Represents f (Arrives c (length c)) → (x : State) → f (length c) ≡ x → (x ≡ rejected → ⊥)
+      → Knows c (length c) (λ q. unreached) x
   final {f} a w x e n = record {
     comes = record {
       each = a .each;
@@ -293,7 +302,8 @@ module _ (c : List Instr) where
 
   -- ---- from the first instruction to the last
 
-  turn : {i : Instr} {left : List Instr} {p : ℕ} {f : States} → Split i left c p → Known p f → (Known (suc p) (transfer p i (f p) f) → Judged (dataflow left (suc p) (transfer p i (f p) f)))
+  turn : {i : Instr} {left : List Instr} {p : ℕ} {f : States} → Split i left c p → Known p f
+      → (Known (suc p) (transfer p i (f p) f) → Judged (dataflow left (suc p) (transfer p i (f p) f)))
       → (b : Bool) → stands (length left) i ≡ b → Judged (cond b (dataflow left (suc p) (transfer p i (f p) f)) rejected)
   turn {i} {left} {p} {f} s k ih b e =
       let n : length left ≡ length c - suc p = omega (arith, ap length (s .rest), length-drop (suc p) c, s .inside) in
@@ -312,9 +322,12 @@ module _ (c : List Instr) where
       let s = split i left c p e in
       turn s k (passed left (suc p) (transfer p i (f p) f) (s .rest) (s .inside)) (stands (length left) i) refl
 
-  begun : Known 0 entry
-  begun = knows (record { each = λ q l. absurd (omega arith); acts = λ q s l. absurd (omega arith); one = λ q s r l. absurd (omega arith) }) (likewise (joined none [] 0) into out)
+  begun : Known 0 entryStates
+  begun = knows before-none (likewise (joined none [] 0) into out)
     where
+      before-none : Before 0
+      before-none = record { each = λ q l. absurd (omega arith); acts = λ q s l. absurd (omega arith); one = λ q s r l. absurd (omega arith) }
+
       none : Represents (λ q. unreached) (λ q s. ⊥)
       none = record { known = λ q s e. unheld e; clash = λ q e. absurd (unarrived e); found = λ q s m. absurd m }
 
@@ -326,8 +339,8 @@ module _ (c : List Instr) where
       out _ _ first = new
       out _ _ (from m d u) = absurd (omega arith)
 
-  judged : Judged (dataflow c 0 entry)
-  judged = passed c 0 entry refl (omega arith) begun
+  judged : Judged (dataflow c 0 entryStates)
+  judged = passed c 0 entryStates refl (omega arith) begun
 
 -- ---- the laws
 
@@ -339,7 +352,7 @@ unfolding dataflow
 sound [] k e = unaccepted e
 sound (i ∷ left) k e = go (leb (length (i ∷ left)) 2048) refl e
   where
-    go : (b : Bool) → leb (length (i ∷ left)) 2048 ≡ b → cond b (verdictOf (dataflow (i ∷ left) 0 entry)) Refused ≡ Accepted k → Accepts (i ∷ left) k
+    go : (b : Bool) → leb (length (i ∷ left)) 2048 ≡ b → cond b (verdictOf (dataflow (i ∷ left) 0 entryStates)) Refused ≡ Accepted k → Accepts (i ∷ left) k
     go true l e = verdict-sound (omega arith) (leb-true (length (i ∷ left)) 2048 l) (judged (i ∷ left)) k e
     go false l e = unaccepted e
 

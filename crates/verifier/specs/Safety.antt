@@ -1,5 +1,5 @@
--- What accepted code does, whatever the memory holds (demand 3's second half): it "reaches its end or a fault. It executes at most as many instructions as it has, is
--- never short of a value and never holds more than 128". proofs/Safe.antt proves `Safe`.
+-- What accepted code does, whatever the memory holds (demand 3's second half): it "reaches its end or a fault. It executes at most as many instructions as it
+-- has, is never short of a value and never holds more than 128". proofs/Safe.antt proves `Safe`.
 use mathlib.Core.Path.{_≡_}
 use mathlib.Core.List.{List, []}
 use Prim.Native.Nat.{ℕ, _≤_}

@@ -1,8 +1,9 @@
 -- The values held by a run, which demand 3 bounds: code "is never short of a value and never holds more than 128".
 use mathlib.Core.Path.{_≡_}
-use mathlib.Core.Bool.{Bool, true}
+use mathlib.Core.Bool.{Bool}
 use mathlib.Core.List.{List, [], _∷_, map}
 use Prim.Native.Nat.{ℕ, _≤_}
+use lib.Dec.{T}
 use lib.ListN.{length}
 use lib.IntN.{ℤ}
 use lib.Ieee.{Float}
@@ -20,14 +21,15 @@ use Rattle.machine.specs.Machine.{most}
 use Rattle.machine.specs.Configurations.{Configuration, Begins, Finishes}
 use Rattle.verifier.specs.Typing.{Shape}
 
--- what an instruction takes is held, of kinds that it takes, the last pushed first: "Code is short of a value if an instruction begins with fewer held than it takes, or one of the wrong kind."
+-- what an instruction takes is held, of kinds that it takes, the last pushed first: "Code is short of a value if an instruction begins with fewer held than it
+-- takes, or one of the wrong kind."
 pub data HasOperands : Instr → Shape → Type 0 where
   push-int : {z : ℤ} {s : Shape} → HasOperands (PushInt z) s
   push-real : {x : Float} {s : Shape} → HasOperands (PushReal x) s
   load : {b : Bank} {i : ℕ} {s : Shape} → HasOperands (Load b i) s
   load-indexed : {b : Bank} {k : Kind} {s : Shape} → HasOperands (LoadIndexed b) (k ∷ s)
-  unary : {o : UnaryOp} {k : Kind} {s : Shape} → unaryTakes o k ≡ true → HasOperands (Unary o) (k ∷ s)
-  binary : {o : BinaryOp} {j k : Kind} {s : Shape} → binaryTakes o j k ≡ true → HasOperands (Binary o) (k ∷ (j ∷ s))
+  unary : {o : UnaryOp} {k : Kind} {s : Shape} → T (unaryTakes o k) → HasOperands (Unary o) (k ∷ s)
+  binary : {o : BinaryOp} {j k : Kind} {s : Shape} → T (binaryTakes o j k) → HasOperands (Binary o) (k ∷ (j ∷ s))
   jump-always : {d : ℕ} {s : Shape} → HasOperands (Jump d) s
   jump-if : {t : Bool} {d : ℕ} {k : Kind} {s : Shape} → HasOperands (JumpIf t d) (k ∷ s)
 

@@ -24,8 +24,11 @@ pub data Move : Type 0 where
   fork : ℕ → Shape → Move
 
 -- "the height never exceeds 128"
+abbrev pub hasRoom : Shape → Bool
+hasRoom s = ltb (length s) most
+
 abbrev pub pushing : Kind → Shape → Move
-pushing k s = cond (ltb (length s) most) (next (k ∷ s)) refused
+pushing k s = cond (hasRoom s) (next (k ∷ s)) refused
 
 unfoldable pub moveOf : Instr → Shape → Move
 moveOf (PushInt z) s = pushing Int s

@@ -1,5 +1,5 @@
--- The check as a function of the instructions: one pass from the first to the last, with what is known of each place. What a reader believes is `Accepts`; proofs/Verdicts.antt proves `VerdictLaws`, that
--- the function says the same, so that a contract can be an equation.
+-- The check as a function of the instructions: one pass from the first to the last, with what is known of each place. What a reader believes is `Accepts`;
+-- proofs/Verdicts.antt proves `VerdictLaws`, that the function says the same, so that a contract can be an equation.
 use mathlib.Core.Path.{_≡_}
 use mathlib.Core.Logic.{_↔_}
 use mathlib.Core.Bool.{Bool, true, false, _&&_, cond, Bool·beq}
@@ -68,12 +68,12 @@ verdictOf (holds (k ∷ [])) = Accepted k
 verdictOf (holds (k ∷ (j ∷ s))) = Refused
 
 -- the first place is reached with nothing held
-abbrev pub entry : States
-entry = joinAt [] 0 (λ p. unreached)
+abbrev pub entryStates : States
+entryStates = joinAt [] 0 (λ p. unreached)
 
 -- "code of 1 to 2,048 instructions": none end with no value
 abbrev pub verdict : List Instr → Verdict
-verdict c = cond (leb (length c) 2048) (verdictOf (dataflow c 0 entry)) Refused
+verdict c = cond (leb (length c) 2048) (verdictOf (dataflow c 0 entryStates)) Refused
 
 pub record VerdictLaws : Type 0 where
   pub exact : (c : List Instr) (k : Kind) → verdict c ≡ Accepted k ↔ Accepts c k
