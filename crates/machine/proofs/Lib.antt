@@ -1,5 +1,6 @@
 -- What other crates may cite, and the steps to the proof of run.
 pub mod Laws
+pub mod Properness
 mod Held
 mod Acts
 mod Rest

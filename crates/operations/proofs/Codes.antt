@@ -1,20 +1,15 @@
 -- Demand 3, and what compiling writes: compiled code in its buffer, and any code that the check accepts.
-use mathlib.Core.Path.{_≡_, refl, sym, ap, subst, _∙_}
+use mathlib.Core.Path.{_≡_, refl, sym, subst}
 use mathlib.Core.Logic.{inr}
-use mathlib.Core.Bool.{Bool, true, false, cond}
 use mathlib.Core.List.{List}
 use Prim.Native.Nat.{ℕ, _*_, _≤_}
 use native.Mathlib.Omega.{arith}
-use lib.Dec.{ltb}
-use lib.IntN.{pos}
 use lib.ListN.{length, getD}
-use borrow.Author.Tests.{ltb-false}
 use Rattle.values.specs.declared.Kind.{Kind}
-use Rattle.values.specs.declared.Value.the-variants.{Int}
 use Rattle.memory.specs.Environment.{memoryOf}
 use Rattle.memory.proofs.Runs.{other-kept}
 use Rattle.grammar.specs.Tree.{Tree, treeKind}
-use Rattle.text.specs.Judge.{Judgement, accepted, refused, judge}
+use Rattle.text.specs.Judge.{Judgement, accepted, refused}
 use Rattle.text.specs.Theorems.{Accepts}
 use Rattle.code.specs.Instructions.{instructions}
 use Rattle.code.proofs.Parts.{decode-length}
@@ -26,22 +21,22 @@ use Rattle.compiler.specs.Compile.{compiling, codedBytes, encoded}
 use Rattle.compiler.proofs.Bytes.{encoded-length}
 use Rattle.compiler.proofs.Theorems.{compile-theorems}
 use Rattle.operations.specs.declared.Answer.{Answer}
-use Rattle.operations.specs.declared.Answer.the-variants.{Done}
-use Rattle.operations.specs.Operations.{compileAnswer, Checks, accepts, refuses}
-use Rattle.operations.specs.Terms.{compiled, compiledCode, number, Ends}
+use Rattle.operations.specs.Operations.{compileAnswer, Checks, accepts}
+use Rattle.operations.specs.Terms.{compiled, compiledCode, doneWith, number, Ends}
 use Rattle.operations.specs.Promises.{Faithful}
-use Rattle.operations.proofs.Requests.{with-room, run-tree}
+use Rattle.operations.proofs.Verdicts.{accepted-by}
+use Rattle.operations.proofs.Requests.{run-code, run-tree, written}
 use Rattle.operations.proofs.Texts.{is-formula}
 
 -- ---- what compiling writes
 
-beyond : (code : List ℕ) (n k : ℕ) (j : Judgement) → compileAnswer j ≡ Done (Int (pos 0)) n → 8 * n ≤ k → getD (codedBytes code j) k 0 ≡ getD code k 0
+beyond : (code : List ℕ) (n k : ℕ) (j : Judgement) → compileAnswer j ≡ doneWith n → 8 * n ≤ k → getD (codedBytes code j) k 0 ≡ getD code k 0
 beyond code n k (accepted t) e h =
     let l : length (codeOf t) ≡ n = cc in
     other-kept code 0 (encoded (codeOf t)) k (inr (omega (arith, encoded-length (codeOf t))))
 beyond code n k (refused a p) e h = refl
 
-pub only-code : (text code : List ℕ) (n k : ℕ) → compiled text code ≡ Done (Int (pos 0)) n → 8 * n ≤ k → getD (compiledCode text code) k 0 ≡ getD code k 0
+pub only-code : (text code : List ℕ) (n k : ℕ) → compiled text code ≡ doneWith n → 8 * n ≤ k → getD (compiledCode text code) k 0 ≡ getD code k 0
 only-code text code n k = beyond code n k (compiling (length code) text)
 
 -- ---- accepted code
@@ -51,8 +46,9 @@ module _ (code : List ℕ) (n : ℕ) where
   well {k} a most h = record { well = λ m. safe .ends (memoryOf m) (instructions code n) k (memory-kinded m) a; quick = h }
 
   pub ends : {r : Answer} → Checks code n r → number r ≡ 0 → (k : Kind) × Ends code n n k
-  ends (accepts {k} a) e = (k, well a n (λ m. omega (arith, safe .counts (memoryOf m) (instructions code n), decode-length code 0 n)))
-  ends (refuses h) e = absurd (omega arith)
+  ends w e =
+      let a = accepted-by w e in
+      (a .0, well (a .1) n (λ m. omega (arith, safe .counts (memoryOf m) (instructions code n), decode-length code 0 n)))
 
 -- ---- compiled code
 
@@ -64,19 +60,13 @@ module _ {text : List ℕ} {t : Tree} (code : List ℕ) (a : Accepts text t) whe
       let demand = compile-theorems .demand text t q in
       let good = subst (λ c. Verifier.Accepts c (treeKind t)) (sym there) (demand .accepted) in
       record {
-        same = λ m. ap (λ x. x .end) (run-tree text code m t q room);
+        same = λ m. run-tree text t q m code room;
         accepted = accepts good;
-        ends = well _ _ good _ (λ m. rw (run-tree text code m t q room) (demand .quick (memoryOf m)));
+        ends = well _ _ good _ (λ m. rw (run-code text t q m code room) (demand .quick (memoryOf m)));
+        short = demand .short;
       }
 
-  room : {n : ℕ} (b : Bool) → ltb (length code) 16384 ≡ b → compileAnswer (cond b (refused 10 0) (judge text)) ≡ Done (Int (pos 0)) n → 16384 ≤ length code
-  room true l e = let z : _≡_ {A = ℕ} 0 1 = cc in absurd (omega arith)
-  room false l e = ltb-false (length code) 16384 l
-
-  pub faithful : {n : ℕ} → compiled text code ≡ Done (Int (pos 0)) n → Faithful text t (compiledCode text code) n
+  pub faithful : {n : ℕ} → compiled text code ≡ doneWith n → Faithful text t (compiledCode text code) n
   faithful {n} e =
-      let h = room (ltb (length code) 16384) refl e in
-      let w : compiling (length code) text ≡ accepted t = with-room code text h ∙ is-formula a in
-      let d : Done (Int (pos 0)) (length (codeOf t)) ≡ Done (Int (pos 0)) n = ap compileAnswer (sym w) ∙ e in
-      let l : length (codeOf t) ≡ n = cc in
-      subst (λ n. Faithful text t (compiledCode text code) n) l (rw w (in-buffer h))
+      let w = written text code (is-formula a) e in
+      subst (λ n. Faithful text t (compiledCode text code) n) (w .count) (rw (w .bytes) (in-buffer (w .room)))

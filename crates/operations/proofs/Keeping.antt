@@ -29,9 +29,10 @@ use Rattle.compiler.proofs.Theorems.{compile-theorems}
 use Rattle.tree_code.specs.Code.{codeOf}
 use Rattle.operations.specs.declared.Answer.{Answer}
 use Rattle.operations.specs.declared.Answer.the-variants.{Done, Fault, Refused}
-use Rattle.operations.specs.Operations.{compileAnswer, Checks, accepts, refuses, Runs, unready, unaccepted, ran, none, goalOf, goal, Request, ofTarget, ofText, request, performed, performedMemory, performedCode}
+use Rattle.operations.specs.Operations.{compileAnswer, Checks, accepts, refuses, Runs, unready, unaccepted, ran, none, goalOf, goal}
+use Rattle.operations.specs.Operations.{Request, ofTarget, ofText, request, performed, performedMemory, performedCode}
 use Rattle.operations.specs.Terms.{compiled, compiledCode, Refusal, Gives, stored, unstored, stopped}
-use Rattle.operations.specs.Promises.{Does, compile, check, run, compile-and-run, Keeps}
+use Rattle.operations.specs.Promises.{Operation, Does, compile-does, check-does, run-does, compile-and-run-does, Keeps}
 use Rattle.operations.proofs.Numbers.{either, Numbered, formula, three-to-nine, numbered, fault-range, no-fault, own-number}
 use Rattle.operations.proofs.Verdicts as Run
 use Rattle.operations.proofs.Requests.{no-memory, no-room, named}
@@ -135,13 +136,13 @@ module _ (target m code : List ℕ) where
   abbrev Performs : Request → Type 0
   Performs q = Sorted target m code (performed m q) (performedMemory m q) (performedCode code q)
 
-  sorted-text : (text : List ℕ) {b : Bank} {i : ℕ} → length m ≡ imageSize → targetRule target ≡ Cell b i → (j : Judgement) → judge text ≡ j → Performs (ofText b i j)
+  sorted-text : (text : List ℕ) {b : Bank} {i : ℕ} → length m ≡ imageSize → targetRule target ≡ Cell b i → (j : Judgement) → judge text ≡ j → Performs (ofText code b i j)
   sorted-text text {b} {i} l e (accepted t) q =
       let kind = compile-theorems .demand text t q .kind (memoryOf m) (memory-kinded m) in
       sorted-end e (coded-length (accepted t)) (gives m b i _ l (target-element target e) (ends-well kind))
   sorted-text text l e (refused a p) q = sorted-judged (subst Numbered q (numbered (text-theorems .outcome text)))
 
-  sorted-target : (text : List ℕ) → length m ≡ imageSize → (x : Named) → targetRule target ≡ x → Performs (ofTarget text x)
+  sorted-target : (text : List ℕ) → length m ≡ imageSize → (x : Named) → targetRule target ≡ x → Performs (ofTarget text code x)
   sorted-target text l (Cell b i) e = sorted-text text l e (judge text) refl
   sorted-target text l Other e = low 2 0 (omega arith) (omega arith)
 
@@ -153,11 +154,11 @@ module _ (target m code : List ℕ) where
       by (yes h) (yes l) = subst⁻¹ Performs (no-room target text m code h l) (low 10 0 (omega arith) (omega arith))
       by (yes h) (no l) = subst⁻¹ Performs (named target text m code h (omega arith) refl) (sorted-target text h (targetRule target) refl)
 
-sorted : {target m code m′ code′ : List ℕ} {r : Answer} → Does target m code r m′ code′ → Sorted target m code r m′ code′
-sorted {target} {m} {code} (compile text) = sorted-compile target m code text
-sorted {target} {m} {code} (check n w) = sorted-check target m code w
-sorted {target} {m} {code} (run n w) = sorted-run target m code w
-sorted {target} {m} {code} (compile-and-run text e) = subst⁻¹ (λ q. Performs target m code q) e (sorted-request target m code text)
+sorted : {target m code m′ code′ : List ℕ} {o : Operation} {r : Answer} → Does target m code o r m′ code′ → Sorted target m code r m′ code′
+sorted {target} {m} {code} (compile-does text) = sorted-compile target m code text
+sorted {target} {m} {code} (check-does n w) = sorted-check target m code w
+sorted {target} {m} {code} (run-does n w) = sorted-run target m code w
+sorted {target} {m} {code} (compile-and-run-does text e) = subst⁻¹ (λ q. Performs target m code q) e (sorted-request target m code text)
 
-pub kept : {target m code m′ code′ : List ℕ} {r : Answer} → Does target m code r m′ code′ → Keeps target m code r m′ code′
+pub kept : {target m code m′ code′ : List ℕ} {o : Operation} {r : Answer} → Does target m code o r m′ code′ → Keeps target m code r m′ code′
 kept w = keeps (sorted w)

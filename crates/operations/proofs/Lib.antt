@@ -3,6 +3,9 @@ pub mod Promises
 mod Keeping
 mod Texts
 mod Codes
+mod Running
+mod Determined
+mod Finite
 mod Endings
 mod Numbers
 mod Verdicts

@@ -3,18 +3,27 @@ use mathlib.Core.Path.{refl}
 use Rattle.text.proofs.Theorems.{text-theorems}
 use Rattle.operations.specs.Promises.{Promises}
 use Rattle.operations.proofs.Keeping.{kept}
-use Rattle.operations.proofs.Texts.{compiles, performs, answers, same-code}
+use Rattle.operations.proofs.Determined.{determined}
+use Rattle.operations.proofs.Texts.{compiles, performs, answers, same-code, same-refusal}
 use Rattle.operations.proofs.Codes.{only-code, faithful, ends}
+use Rattle.operations.proofs.Running.{runs-code, desk-and-box}
+use Rattle.operations.proofs.Finite.{finite, finite-code}
 
 pub promises : Promises
 promises = record {
   keeps = kept;
   only-code = only-code;
+  determined = λ v w. determined v w;
   compiles = compiles;
-  performs = λ text ready. performs ready text;
+  performs = λ text code ready room. performs ready text code room;
   judged = text-theorems .outcome;
-  answers = λ ready a. answers ready a;
+  answers = λ code ready a e. answers ready code a e;
+  finite = λ m a h. finite m a h;
+  finite-code = finite-code;
   faithful = λ code a e. faithful code a e;
-  same-code = λ ready a. same-code ready a;
+  desk-and-box = λ text desk box ready room e run. desk-and-box ready text desk box room e run;
+  same-refusal = λ text desk box ready here there e. same-refusal ready text desk box here there e;
+  same-code = λ text code ready room. same-code ready text code room;
   safe = λ code n w. ends code n w refl;
+  runs-code = λ ready w run. runs-code ready w refl run;
 }

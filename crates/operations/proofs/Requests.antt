@@ -1,11 +1,13 @@
--- `compile` and `compile_and_run`: the request as the tests find it, and that the run of compiled code is what the rules give for the tree.
+-- `compile` and `compile_and_run`: the request as the tests find it, and that the run of compiled code ends as the rules say of the tree.
 use mathlib.Core.Path.{_≡_, refl, sym, ap, subst, _∙_}
+use mathlib.Core.Bool.{Bool, true, false, cond}
 use mathlib.Core.List.{List, []}
 use Prim.Native.Nat.{ℕ, _≤_, _<_}
 use native.Mathlib.Omega.{arith}
+use lib.Dec.{ltb}
 use lib.IntN.{pos}
 use lib.ListN.{length}
-use borrow.Author.Tests.{eq-eqb, ne-eqb, lt-ltb, le-ltb}
+use borrow.Author.Tests.{eq-eqb, ne-eqb, lt-ltb, le-ltb, ltb-false}
 use Rattle.values.specs.declared.Value.the-variants.{Int}
 use Rattle.memory.specs.declared.Bank.{Bank}
 use Rattle.memory.specs.declared.names.Named.{Named}
@@ -26,7 +28,9 @@ use Rattle.compiler.specs.Compile.{compiling, codedAnswer, codedBytes}
 use Rattle.compiler.proofs.Theorems.{compile-theorems}
 use Rattle.operations.specs.declared.Answer.{Answer}
 use Rattle.operations.specs.declared.Answer.the-variants.{Done, Refused}
-use Rattle.operations.specs.Operations.{compileAnswer, Request, stops, ofText, ofTarget, request, performed, performedMemory, performedCode}
+use Rattle.operations.specs.Operations.{compileAnswer, finished, memoryAfter}
+use Rattle.operations.specs.Operations.{Request, stops, ofText, ofTarget, request, performed, performedMemory, performedCode}
+use Rattle.operations.specs.Terms.{compiled, compiledCode, doneWith}
 use Rattle.operations.proofs.Verdicts.{Finishes}
 
 -- ---- compile alone
@@ -52,7 +56,7 @@ module _ (target text m code : List ℕ) where
     pub no-room : length code < 16384 → request target text m code ≡ stops 10 0
     no-room l = rw (eq-eqb (length m) imageSize h, lt-ltb (length code) 16384 l)
 
-    pub named : {x : Named} → 16384 ≤ length code → targetRule target ≡ x → request target text m code ≡ ofTarget text x
+    pub named : {x : Named} → 16384 ≤ length code → targetRule target ≡ x → request target text m code ≡ ofTarget text code x
     named l e = rw (eq-eqb (length m) imageSize h, le-ltb (length code) 16384 l, e)
 
 -- the answer, the memory and the code are those of the request
@@ -64,28 +68,29 @@ refuses m code e = rw e (refl, (refl, refl))
 
 -- ---- the run of compiled code
 
-abbrev pub treeRun : List ℕ → Tree → Ran
-treeRun m t = record { end = endOf (worth (memoryOf m) t); count = exec (memoryOf m) (codeOf t) 0 [] .count }
+module _ (s : List ℕ) (t : Tree) (e : judge s ≡ accepted t) (m : List ℕ) where
+  -- whatever else the buffer holds
+  pub run-code : (code : List ℕ) → 16384 ≤ length code → runs (codedBytes code (accepted t)) (length (codeOf t)) m ≡ exec (memoryOf m) (codeOf t) 0 []
+  run-code code h = ap (λ c. exec (memoryOf m) c 0 []) (compile-theorems .there s code t e h)
 
-pub run-tree : (s code m : List ℕ) (t : Tree) → judge s ≡ accepted t → 16384 ≤ length code → runs (codedBytes code (accepted t)) (length (codeOf t)) m ≡ treeRun m t
-run-tree s code m t e h =
-    ap (λ c. exec (memoryOf m) c 0 []) (compile-theorems .there s code t e h)
-    ∙ ap (λ x. record { end = x; count = exec (memoryOf m) (codeOf t) 0 [] .count }) (compile-theorems .demand s t e .same (memoryOf m) (memory-kinded m))
+  pub run-tree : (code : List ℕ) → 16384 ≤ length code → runs (codedBytes code (accepted t)) (length (codeOf t)) m .end ≡ endOf (worth (memoryOf m) t)
+  run-tree code h = ap (λ x. x .end) (run-code code h) ∙ compile-theorems .demand s t e .same (memoryOf m) (memory-kinded m)
 
 -- the judgement j of the text s was compiled, and what was written was run on m; then came the store or the flag
 pub performs : {q : Request} (s code m : List ℕ) (b : Bank) (i : ℕ) (j : Judgement) {n : ℕ} {code′ : List ℕ} {x : Ran} {r : Answer} {m′ : List ℕ}
-    → q ≡ ofText b i j → judge s ≡ j → 16384 ≤ length code → Coded.Done n ≡ codedAnswer j → code′ ≡ codedBytes code j → x ≡ runs code′ n m
+    → q ≡ ofText code b i j → judge s ≡ j → 16384 ≤ length code → Coded.Done n ≡ codedAnswer j → code′ ≡ codedBytes code j → x ≡ runs code′ n m
     → Finishes m b i x r m′ → Performs q m code r m′ code′
 performs s code m b i (accepted t) {n} {code′} {x} {r} {m′} o e h a w f g =
     let l : n ≡ length (codeOf t) = cc in
     let y : runs code′ n m ≡ runs (codedBytes code (accepted t)) (length (codeOf t)) m = cc in
-    let z = subst (λ x. Finishes m b i x r m′) (f ∙ (y ∙ run-tree s code m t e h)) g in
-    rw o (z .0, (z .1, w))
+    let z = subst (λ x. Finishes m b i x r m′) (f ∙ y) g in
+    let d = run-tree s t e m code h in
+    rw o (z .0 ∙ ap (λ d. finished m b i d (runs (codedBytes code (accepted t)) (length (codeOf t)) m .count)) d, (z .1 ∙ ap (memoryAfter m b i) d, w))
 performs s code m b i (refused a p) o e h d w f g = let z : _≡_ {A = ℕ} 0 1 = cc in absurd (omega arith)
 
 -- the same, where the text is refused
 pub refuses-text : {q : Request} (code m : List ℕ) (b : Bank) (i : ℕ) (j : Judgement) {a p : ℕ} {code′ : List ℕ}
-    → q ≡ ofText b i j → Coded.Refused a p ≡ codedAnswer j → code′ ≡ codedBytes code j
+    → q ≡ ofText code b i j → Coded.Refused a p ≡ codedAnswer j → code′ ≡ codedBytes code j
     → Performs q m code (Refused a p) m code′
 refuses-text code m b i (accepted t) o e w = let z : _≡_ {A = ℕ} 0 1 = cc in absurd (omega arith)
 refuses-text code m b i (refused a p) o e w = rw o (cc, (refl, w))
@@ -93,3 +98,23 @@ refuses-text code m b i (refused a p) o e w = rw o (cc, (refl, w))
 -- a buffer with room leaves the judgement to the text
 pub with-room : (code s : List ℕ) → 16384 ≤ length code → compiling (length code) s ≡ judge s
 with-room code s h = rw (le-ltb (length code) 16384 h)
+
+pub has-room : {n : ℕ} (code s : List ℕ) → compiled s code ≡ doneWith n → 16384 ≤ length code
+has-room {n} code s e = by (ltb (length code) 16384) refl e
+  where
+    by : (b : Bool) → ltb (length code) 16384 ≡ b → compileAnswer (cond b (refused 10 0) (judge s)) ≡ doneWith n → 16384 ≤ length code
+    by true l e = let z : _≡_ {A = ℕ} 0 1 = cc in absurd (omega arith)
+    by false l e = ltb-false (length code) 16384 l
+
+-- what compile wrote of the tree t
+pub record Written (s code : List ℕ) (t : Tree) (n : ℕ) : Type 0 where
+  pub room : 16384 ≤ length code
+  pub count : length (codeOf t) ≡ n
+  pub bytes : compiledCode s code ≡ codedBytes code (accepted t)
+
+pub written : (s code : List ℕ) {t : Tree} {n : ℕ} → judge s ≡ accepted t → compiled s code ≡ doneWith n → Written s code t n
+written s code {t} {n} q e =
+    let h = has-room code s e in
+    let w : compiling (length code) s ≡ accepted t = with-room code s h ∙ q in
+    let d : doneWith (length (codeOf t)) ≡ doneWith n = ap compileAnswer (sym w) ∙ e in
+    record { room = h; count = cc; bytes = ap (codedBytes code) w }

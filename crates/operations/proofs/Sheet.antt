@@ -1,4 +1,4 @@
--- The sheet of sums, by computing each: the text is judged, its tree's worth is stored, and the cell is read back.
+-- The sheet of sums, by computing each: the text is judged, its tree's worth is returned and stored, and the cell is read back.
 use mathlib.Core.Path.{refl}
 use lib.Ieee as Ieee
 use Rattle.memory.specs.Names.{bankOf, namedRule}
@@ -11,21 +11,21 @@ use Rattle.grammar.specs.Worth.{worth}
 use Rattle.text.specs.Judge.{ofParse, ofScan, judge}
 use Rattle.machine.specs.Machine.{exec, act}
 use Rattle.tree_code.specs.Code.{codeOf}
-use Rattle.operations.specs.Sheet.{Sums, none, more, reads, answers, sheet, ascii, zeros}
+use Rattle.operations.specs.Sheet.{Sums, none, more, reads, answers, sheet, ascii}
 
 pub sums : Sums sheet
-unfolding Ieee.ofBits Ieee.toBits Ieee.ofInt Ieee.add Ieee.div Ieee.eq ascii zeros bankOf namedRule otherWord wordOf lexemeOf scanFrom groupNumber treeKind wrongKind expression parse worth ofParse ofScan judge exec act codeOf
+unfolding Ieee.ofBits Ieee.toBits Ieee.ofInt Ieee.add Ieee.div Ieee.eq ascii bankOf namedRule otherWord wordOf lexemeOf scanFrom groupNumber treeKind wrongKind expression parse worth ofParse ofScan judge exec act codeOf
 sums =
-    more (reads refl refl)
-    (more (reads refl refl)
-    (more (reads refl refl)
-    (more (reads refl refl)
-    (more (reads refl refl)
-    (more (reads refl refl)
-    (more (reads refl refl)
-    (more (reads refl refl)
-    (more (reads refl refl)
-    (more (reads refl refl)
-    (more (reads refl refl)
+    more (reads refl refl refl)
+    (more (reads refl refl refl)
+    (more (reads refl refl refl)
+    (more (reads refl refl refl)
+    (more (reads refl refl refl)
+    (more (reads refl refl refl)
+    (more (reads refl refl refl)
+    (more (reads refl refl refl)
+    (more (reads refl refl refl)
+    (more (reads refl refl refl)
+    (more (reads refl refl refl)
     (more (answers refl)
     none)))))))))))

@@ -1,7 +1,7 @@
--- Demand 2: which texts are accepted, and that the answer is what the rules give.
-use mathlib.Core.Path.{_≡_, refl, ap, subst, _∙_}
+-- Demand 2: which texts are accepted, and that the answer is what the rules give. What compile and compile-and-run do with a text is the same.
+use mathlib.Core.Path.{_≡_, refl, sym, ap, subst, _∙_}
 use mathlib.Core.Logic.{_↔_, inl}
-use mathlib.Core.List.{List, []}
+use mathlib.Core.List.{List}
 use Prim.Native.Nat.{ℕ, _≤_}
 use native.Mathlib.Omega.{arith}
 use lib.ListN.{length}
@@ -13,17 +13,19 @@ use Rattle.text.specs.Judge.{Judgement, accepted, refused, judge}
 use Rattle.text.specs.Theorems.{Accepts}
 use Rattle.text.proofs.Theorems.{text-theorems}
 use Rattle.machine.specs.declared.Ended.{Ended}
-use Rattle.machine.specs.Machine.{exec}
+use Rattle.machine.specs.Machine.{runs}
 use Rattle.verifier.proofs.Safe.{memory-kinded}
 use Rattle.tree_code.specs.Code.{codeOf}
 use Rattle.tree_code.specs.Demand.{endOf}
+use Rattle.compiler.specs.Compile.{codedBytes}
 use Rattle.compiler.proofs.Theorems.{compile-theorems}
 use Rattle.operations.specs.declared.Answer.{Answer}
-use Rattle.operations.specs.Operations.{compileAnswer, stores, ofText, request, performed, performedMemory, performedCode}
-use Rattle.operations.specs.Terms.{compiled, compiledCode, number, Refusal, Ready, Gives, stored, unstored, stopped}
+use Rattle.operations.specs.declared.Answer.the-variants.{Refused}
+use Rattle.operations.specs.Operations.{compileAnswer, ofText, request, performed, performedMemory, performedCode}
+use Rattle.operations.specs.Terms.{compiled, compiledCode, doneWith, number, Refusal, Ready, Room, Gives, stored, unstored, stopped}
 use Rattle.operations.proofs.Numbers.{Numbered, three-to-nine, numbered, no-fault}
 use Rattle.operations.proofs.Endings.{target-element, ends-well, gives}
-use Rattle.operations.proofs.Requests.{named, with-room}
+use Rattle.operations.proofs.Requests.{named, with-room, has-room, written}
 
 pub is-formula : {text : List ℕ} {t : Tree} → Accepts text t → judge text ≡ accepted t
 is-formula {text} {t} a = text-theorems .accepts text t .1 a
@@ -48,25 +50,46 @@ no-refusal (stored e) x = omega arith
 no-refusal (unstored {f = f} e) x = no-fault f (x .1) refl
 no-refusal (stopped {f}) x = no-fault f (x .1) refl
 
-module _ {target m code : List ℕ} {b : Bank} {i : ℕ} (ready : Ready target m code b i) where
-  the-text : (text : List ℕ) → request target text m code ≡ ofText b i (judge text)
-  the-text text = named target text m code (ready .memory) (ready .room) (ready .cell)
+-- what compile takes is a formula
+pub formula : (text code : List ℕ) {n : ℕ} → compiled text code ≡ doneWith n → (t : Tree) × Accepts text t
+formula text code e = compiles text code (has-room code text e) .0 (ap number e)
 
-  the-tree : {text : List ℕ} {t : Tree} → Accepts text t → request target text m code ≡ stores b i t
-  the-tree {text} a = the-text text ∙ ap (ofText b i) (is-formula a)
+module _ {target m : List ℕ} {b : Bank} {i : ℕ} (ready : Ready target m b i) where
+  the-text : (text code : List ℕ) → Room code → request target text m code ≡ ofText code b i (judge text)
+  the-text text code room = named target text m code (ready .memory) room (ready .cell)
 
-  pub answers : {text : List ℕ} {t : Tree} → Accepts text t
-      → Gives m b i (exec (memoryOf m) (codeOf t) 0 [] .count) (endOf (worth (memoryOf m) t)) (performed m (request target text m code)) (performedMemory m (request target text m code))
-  answers {text} {t} a =
+  pub the-tree : {text : List ℕ} {t : Tree} (code : List ℕ) → Room code → Accepts text t → request target text m code ≡ ofText code b i (accepted t)
+  the-tree {text} code room a = the-text text code room ∙ ap (ofText code b i) (is-formula a)
+
+  pub answers : {text : List ℕ} {t : Tree} {n : ℕ} (code : List ℕ) → Accepts text t → compiled text code ≡ doneWith n
+      → Gives m b i (runs (compiledCode text code) n m .count) (endOf (worth (memoryOf m) t))
+      (performed m (request target text m code)) (performedMemory m (request target text m code))
+  answers {text} {t} code a e =
+      let w = written text code (is-formula a) e in
       let kind = compile-theorems .demand text t (is-formula a) .kind (memoryOf m) (memory-kinded m) in
-      rw (the-tree a) (gives m b i _ (ready .memory) (target-element target (ready .cell)) (ends-well kind))
+      rw (the-tree code (w .room) a, w .bytes, ← w .count) (gives m b i _ (ready .memory) (target-element target (ready .cell)) (ends-well kind))
 
-  pub performs : (text : List ℕ) → (Refusal (number (performed m (request target text m code))) → ⊥) ↔ ((t : Tree) × Accepts text t)
-  performs text = (rw (the-text text) (only (judge text) refl), λ x. no-refusal (answers (x .1)))
+  pub performs : (text code : List ℕ) → Room code → (Refusal (number (performed m (request target text m code))) → ⊥) ↔ ((t : Tree) × Accepts text t)
+  performs text code room = (rw (the-text text code room) (only (judge text) refl), λ x. no-refusal (answers code (x .1) (taken (x .1))))
     where
-      only : (j : Judgement) → judge text ≡ j → (Refusal (number (performed m (ofText b i j))) → ⊥) → (t : Tree) × Accepts text t
+      taken : {t : Tree} → Accepts text t → compiled text code ≡ doneWith (length (codeOf t))
+      taken a = ap compileAnswer (with-room code text room ∙ is-formula a)
+
+      only : (j : Judgement) → judge text ≡ j → (Refusal (number (performed m (ofText code b i j))) → ⊥) → (t : Tree) × Accepts text t
       only (accepted t) q e = (t, text-theorems .accepts text t .0 q)
       only (refused a p) q e = absurd (let h = low text q in e (omega arith, inl (omega arith)))
 
-  pub same-code : {text : List ℕ} {t : Tree} → Accepts text t → performedCode code (request target text m code) ≡ compiledCode text code
-  same-code {text} a = rw (the-tree a, with-room code text (ready .room), is-formula a) refl
+  pub same-code : (text code : List ℕ) → Room code → performedCode code (request target text m code) ≡ compiledCode text code
+  same-code text code room = rw (the-text text code room, with-room code text room) (by (judge text))
+    where
+      by : (j : Judgement) → performedCode code (ofText code b i j) ≡ codedBytes code j
+      by (accepted t) = refl
+      by (refused a p) = refl
+
+  pub same-refusal : (text desk box : List ℕ) {a p : ℕ} → Room desk → Room box → compiled text desk ≡ Refused a p
+      → performed m (request target text m box) ≡ Refused a p
+  same-refusal text desk box {a} {p} here there e = rw (the-text text box there) (by (judge text) (ap compileAnswer (sym (with-room desk text here)) ∙ e))
+    where
+      by : (j : Judgement) → compileAnswer j ≡ Refused a p → performed m (ofText box b i j) ≡ Refused a p
+      by (accepted t) e = let z : _≡_ {A = ℕ} 0 1 = cc in absurd (omega arith)
+      by (refused c d) e = e

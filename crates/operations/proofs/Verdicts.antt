@@ -1,5 +1,5 @@
--- `check` and `run`: from a verdict that is right to what they answer and write.
-use mathlib.Core.Path.{_≡_, subst, subst⁻¹}
+-- `check` and `run`: from a verdict that is right to what they answer and write, and back.
+use mathlib.Core.Path.{_≡_, refl, subst, subst⁻¹}
 use mathlib.Core.List.{List}
 use Prim.Native.Nat.{ℕ}
 use native.Mathlib.Omega.{arith}
@@ -20,7 +20,8 @@ use Rattle.verifier.specs.declared.Verdict.the-variants as Verdict
 use Rattle.verifier.specs.Accepts.{Accepts, Right}
 use Rattle.operations.specs.declared.Answer.{Answer}
 use Rattle.operations.specs.declared.Answer.the-variants.{Done}
-use Rattle.operations.specs.Operations.{Checks, accepts, to, none, goal, goalOf, finished, memoryAfter, Runs, ran}
+use Rattle.operations.specs.Operations.{Checks, accepts, refuses, to, none, goal, goalOf, finished, memoryAfter, Runs, unready, unaccepted, ran}
+use Rattle.operations.specs.Terms.{number}
 
 -- ---- the verdict
 
@@ -33,6 +34,10 @@ module _ {code : List ℕ} {n : ℕ} {v : Verdict} (right : Right code n v) wher
 
   pub checked : {k : Kind} → v ≡ Verdict.Accepted k → Checks code n (Done (Int (pos 0)) 0)
   checked e = accepts (right .sound _ e)
+
+pub accepted-by : {code : List ℕ} {n : ℕ} {r : Answer} → Checks code n r → number r ≡ 0 → (k : Kind) × Accepts (instructions code n) k
+accepted-by (accepts {k} a) e = (k, a)
+accepted-by (refuses h) e = absurd (omega arith)
 
 -- ---- where the value goes
 
@@ -58,3 +63,13 @@ module _ {code target m : List ℕ} {n : ℕ} where
   after-run {m′} {b} {i} {r = r} g a e h =
       let f = subst (λ x. Finishes m b i x r m′) e h in
       moved (f .1) (f .0) (ran g a)
+
+  -- and nothing else comes of it
+  pub only-run : {m′ : List ℕ} {b : Bank} {i : ℕ} {k : Kind} {r : Answer} → goal target m ≡ to b i → Accepts (instructions code n) k → Runs code n target m m′ r
+      → Finishes m b i (runs code n m) r m′
+  only-run g a (unready e) = let z : _≡_ {A = ℕ} 0 1 = cc in absurd (omega arith)
+  only-run {k = k} g a (unaccepted e h) = absurd (h k a)
+  only-run {b = b} {i = i} g a (ran {b = c} {i = j} e w) =
+      let p : c ≡ b = cc in
+      let q : j ≡ i = cc in
+      rw (p, q) (refl, refl)

@@ -1,7 +1,7 @@
 -- The four operations of paper 01: what each answers and writes, for every input.
 use mathlib.Core.Path.{_≡_}
 use mathlib.Core.Bool.{cond}
-use mathlib.Core.List.{List, []}
+use mathlib.Core.List.{List}
 use Prim.Native.Nat.{ℕ}
 use lib.Dec.{eqb, ltb}
 use lib.IntN.{pos}
@@ -25,7 +25,7 @@ use Rattle.text.specs.Judge.{Judgement, accepted, refused, judge}
 use Rattle.code.specs.Instructions.{instructions}
 use Rattle.machine.specs.declared.Ended.{Ended}
 use Rattle.machine.specs.declared.Ended.the-variants as Ended
-use Rattle.machine.specs.Machine.{exec, runs}
+use Rattle.machine.specs.Machine.{runs}
 use Rattle.verifier.specs.Accepts.{Accepts}
 use Rattle.tree_code.specs.Code.{codeOf}
 use Rattle.tree_code.specs.Demand.{endOf}
@@ -34,8 +34,8 @@ use Rattle.operations.specs.declared.Answer.{Answer}
 use Rattle.operations.specs.declared.Answer.the-variants.{Done, Fault, Refused}
 use Rattle.operations.specs.declared.Report.{Report}
 
--- the number, place, value and count of each answer: "1 to 10 and 15 .. return integer 0, count 0. 11 to 14 .. return integer 0 and the instructions begun .. 0 returns the value before the store and the instructions
--- executed"; "Place is 0 for 0 to 3, 10 and above"
+-- the number, place, value and count of each answer: "1 to 10 and 15 .. return integer 0, count 0. 11 to 14 .. return integer 0 and the instructions begun .. 0
+-- returns the value before the store and the instructions executed"; "Place is 0 for 0 to 3, 10 and above"
 abbrev pub reportOf : Answer → Report
 reportOf (Done v n) = record { answer = 0; place = 0; value = v; count = n }
 reportOf (Fault f n) = record { answer = faultNumber f; place = 0; value = Int (pos 0); count = n }
@@ -46,7 +46,8 @@ abbrev pub compileAnswer : Judgement → Answer
 compileAnswer (accepted t) = Done (Int (pos 0)) (length (codeOf t))
 compileAnswer (refused a p) = Refused a p
 
--- "a check that accepts returns integer 0, count 0"; 15: "the given number of instructions reaches beyond the buffer, or the check does not accept them". Either case shuts out the other.
+-- "a check that accepts returns integer 0, count 0"; 15: "the given number of instructions reaches beyond the buffer, or the check does not accept them".
+-- Either case shuts out the other.
 pub data Checks (code : List ℕ) (n : ℕ) : Answer → Type 0 where
   accepts : {k : Kind} → Accepts (instructions code n) k → Checks code n (Done (Int (pos 0)) 0)
   refuses : ((k : Kind) → Accepts (instructions code n) k → ⊥) → Checks code n (Refused 15 0)
@@ -90,32 +91,33 @@ pub data Runs (code : List ℕ) (n : ℕ) (target m : List ℕ) : List ℕ → A
   ran : {b : Bank} {i : ℕ} {k : Kind} → goal target m ≡ to b i → Accepts (instructions code n) k
       → Runs code n target m (memoryAfter m b i (runs code n m .end)) (finished m b i (runs code n m .end) (runs code n m .count))
 
--- compile and run: the cell and the formula's tree, or the first refusal in the order 1, 10, 2, 3 to 9
+-- compile and run: the cell, the formula's tree and its code, the buffer as written and the number of instructions; or the first refusal in the order
+-- 1, 10, 2, 3 to 9
 pub data Request : Type 0 where
-  stores : Bank → ℕ → Tree → Request
+  stores : Bank → ℕ → Tree → List ℕ → ℕ → Request
   stops : ℕ → ℕ → Request
 
-abbrev pub ofText : Bank → ℕ → Judgement → Request
-ofText b i (accepted t) = stores b i t
-ofText b i (refused a p) = stops a p
+abbrev pub ofText : List ℕ → Bank → ℕ → Judgement → Request
+ofText code b i (accepted t) = stores b i t (codedBytes code (accepted t)) (length (codeOf t))
+ofText code b i (refused a p) = stops a p
 
-abbrev pub ofTarget : List ℕ → Named → Request
-ofTarget text (Named.Cell b i) = ofText b i (judge text)
-ofTarget text Named.Other = stops 2 0
+abbrev pub ofTarget : List ℕ → List ℕ → Named → Request
+ofTarget text code (Named.Cell b i) = ofText code b i (judge text)
+ofTarget text code Named.Other = stops 2 0
 
 abbrev pub request : List ℕ → List ℕ → List ℕ → List ℕ → Request
-request target text m code = cond (eqb (length m) imageSize) (cond (ltb (length code) 16384) (stops 10 0) (ofTarget text (targetRule target))) (stops 1 0)
+request target text m code = cond (eqb (length m) imageSize) (cond (ltb (length code) 16384) (stops 10 0) (ofTarget text code (targetRule target))) (stops 1 0)
 
--- "Its answer, or its fault, is the one that the written rules give" for the tree; the count is that of its code
+-- "Its answer, or its fault, is the one that the written rules give" for the tree; the count is that of a run of the code
 abbrev pub performed : List ℕ → Request → Answer
-performed m (stores b i t) = finished m b i (endOf (worth (memoryOf m) t)) (exec (memoryOf m) (codeOf t) 0 [] .count)
+performed m (stores b i t code n) = finished m b i (endOf (worth (memoryOf m) t)) (runs code n m .count)
 performed m (stops a p) = Refused a p
 
 abbrev pub performedMemory : List ℕ → Request → List ℕ
-performedMemory m (stores b i t) = memoryAfter m b i (endOf (worth (memoryOf m) t))
+performedMemory m (stores b i t code n) = memoryAfter m b i (endOf (worth (memoryOf m) t))
 performedMemory m (stops a p) = m
 
 -- "Compile-and-run writes the code on 0 and on 11 to 14"
 abbrev pub performedCode : List ℕ → Request → List ℕ
-performedCode code (stores b i t) = codedBytes code (accepted t)
+performedCode code (stores b i t written n) = written
 performedCode code (stops a p) = code

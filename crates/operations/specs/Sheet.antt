@@ -1,11 +1,13 @@
--- The sheet of sums of paper 01, "Proved: these twelve, as one list under one claim": each compiled and run on a memory of zeros. proofs/Sheet.antt proves `Sums sheet`.
+-- The sheet of sums of paper 01, "Proved: these twelve, as one list under one claim": each compiled and run on a memory whose cells hold something else,
+-- with the value that is returned, before the store, and what the cell reads after it. proofs/Sheet.antt proves `Sums sheet`.
 use mathlib.Core.Path.{_≡_}
 use mathlib.Core.List.{List, [], _∷_}
-use Prim.Native.Nat.{ℕ, zero, suc}
+use Prim.Native.Nat.{ℕ}
 use Prim.Native.Char.{code}
 use Prim.Native.String as Text
 use Prim.Native.String.{String}
 use lib.IntN.{pos, negsuc}
+use lib.ListN.{replicate}
 use lib.Ieee as Ieee
 use lib.Ieee.{binary32}
 use Rattle.values.specs.declared.Value.{Value}
@@ -15,6 +17,7 @@ use Rattle.values.specs.declared.Outcome.the-variants.{Done}
 use Rattle.memory.specs.declared.Bank.{Bank}
 use Rattle.memory.specs.declared.Bank.the-variants.{«V», N, D, R}
 use Rattle.memory.specs.Environment.{memoryOf}
+use Rattle.operations.specs.declared.Report.{Report}
 use Rattle.operations.specs.Operations.{reportOf, Request, request, performed, performedMemory}
 
 -- the bytes of a text
@@ -22,28 +25,29 @@ unfoldable pub ascii : String → List ℕ
 ascii Text.[] = []
 ascii (Text._∷_ c s) = code c ∷ ascii s
 
-unfoldable pub zeros : ℕ → List ℕ
-zeros zero = []
-zeros (suc n) = 0 ∷ zeros n
+-- every byte is 1, so that no cell holds beforehand what is stored to it
+abbrev pub ones : List ℕ
+ones = replicate 3204 1
 
--- a text, the cell it is stored to, and what that cell reads afterwards, or the answer that it gets
+-- a cell, the text that is stored to it, the value that is returned, and what the cell reads afterwards; or the answer that the text gets
 pub data Sum : Type 0 where
-  is : String → String → Bank → Value → Sum
+  is : String → String → Bank → Value → Value → Sum
   gets : String → String → ℕ → Sum
 
 abbrev pub asked : String → String → Request
-asked target text = request (ascii target) (ascii text) (zeros 3204) (zeros 16384)
+asked target text = request (ascii target) (ascii text) ones (replicate 16384 0)
 
 -- element 0 of the bank afterwards
 abbrev pub cellAfter : Bank → Request → Outcome
-cellAfter b q = memoryOf (performedMemory (zeros 3204) q) .cell b 0
+cellAfter b q = memoryOf (performedMemory ones q) .cell b 0
 
-abbrev pub answerTo : Request → ℕ
-answerTo q = reportOf (performed (zeros 3204) q) .answer
+abbrev pub reportOn : Request → Report
+reportOn q = reportOf (performed ones q)
 
 pub data Holds : Sum → Type 0 where
-  reads : {target text : String} {b : Bank} {v : Value} → answerTo (asked target text) ≡ 0 → cellAfter b (asked target text) ≡ Done v → Holds (is target text b v)
-  answers : {target text : String} {a : ℕ} → answerTo (asked target text) ≡ a → Holds (gets target text a)
+  reads : {target text : String} {b : Bank} {v w : Value} → reportOn (asked target text) .answer ≡ 0 → reportOn (asked target text) .value ≡ v
+      → cellAfter b (asked target text) ≡ Done w → Holds (is target text b v w)
+  answers : {target text : String} {a : ℕ} → reportOn (asked target text) .answer ≡ a → Holds (gets target text a)
 
 pub data Sums : List Sum → Type 0 where
   none : Sums []
@@ -52,19 +56,22 @@ pub data Sums : List Sum → Type 0 where
 abbrev int : ℕ → Value
 int n = Int (pos n)
 
--- A to L; 1080033280 is the pattern of 3.5
+abbrev real : ℕ → Value
+real pattern = Real (Ieee.ofBits binary32 pattern)
+
+-- A to L; the patterns are those of 3.5 and of the single nearest to 1002.51
 abbrev pub sheet : List Sum
 sheet =
-    is "D0" "1000 + 1024 + 251" D (int 2275)
-    ∷ is "R0" "(5 + 2) / 2.0" R (Real (Ieee.ofBits binary32 1080033280))
-    ∷ is "D0" "1000 + 2.51" D (int 1002)
-    ∷ is "V0" "1 + 65535" «V» (int 0)
-    ∷ is "N0" "1 + 32767" N (Int (negsuc 32767))
-    ∷ is "N0" "1 - 65535" N (int 2)
-    ∷ is "D0" "2**3**2" D (int 64)
-    ∷ is "D0" "-2**2" D (int 4)
-    ∷ is "D0" "6 & 2 == 2" D (int 0)
-    ∷ is "D0" "0xFFFFFFF8 >>> 28" D (int 15)
-    ∷ is "D0" "0 && 1/0" D (int 0)
+    is "D0" "1000 + 1024 + 251" D (int 2275) (int 2275)
+    ∷ is "R0" "(5 + 2) / 2.0" R (real 1080033280) (real 1080033280)
+    ∷ is "D0" "1000 + 2.51" D (real 1148887204) (int 1002)
+    ∷ is "V0" "1 + 65535" «V» (int 65536) (int 0)
+    ∷ is "N0" "1 + 32767" N (int 32768) (Int (negsuc 32767))
+    ∷ is "N0" "1 - 65535" N (Int (negsuc 65533)) (int 2)
+    ∷ is "D0" "2**3**2" D (int 64) (int 64)
+    ∷ is "D0" "-2**2" D (int 4) (int 4)
+    ∷ is "D0" "6 & 2 == 2" D (int 0) (int 0)
+    ∷ is "D0" "0xFFFFFFF8 >>> 28" D (int 15) (int 15)
+    ∷ is "D0" "0 && 1/0" D (int 0) (int 0)
     ∷ gets "D0" "2147483647 + 1" 12
     ∷ []

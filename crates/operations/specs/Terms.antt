@@ -2,13 +2,16 @@
 use mathlib.Core.Path.{_≡_}
 use mathlib.Core.Logic.{_⊎_}
 use mathlib.Core.List.{List}
-use Prim.Native.Nat.{ℕ, _≤_}
-use lib.ListN.{length, set}
+use Prim.Native.Nat.{ℕ, _*_, _≤_}
+use lib.IntN.{pos}
+use lib.ListN.{length, set, take}
 use lib.Seq.{sets}
 use Rattle.words.specs.Words.{bytesOf}
 use Rattle.values.specs.declared.Kind.{Kind}
 use Rattle.values.specs.declared.Value.{Value}
+use Rattle.values.specs.declared.Value.the-variants.{Int}
 use Rattle.values.specs.declared.Fault.{Fault as FaultName}
+use Rattle.operators.specs.Laws.{Proper}
 use Rattle.memory.specs.declared.Bank.{Bank}
 use Rattle.memory.specs.declared.names.Named.the-variants.{Cell}
 use Rattle.memory.specs.declared.store.Encoded.the-variants as Encoded
@@ -22,7 +25,7 @@ use Rattle.verifier.specs.Safety.{EndsWell}
 use Rattle.compiler.specs.Compile.{compiling, codedBytes}
 use Rattle.operations.specs.declared.Answer.{Answer}
 use Rattle.operations.specs.declared.Answer.the-variants.{Done, Fault}
-use Rattle.operations.specs.Operations.{reportOf, compileAnswer}
+use Rattle.operations.specs.Operations.{reportOf, compileAnswer, Request, performed, performedMemory, performedCode}
 
 -- compile's answer, and what it leaves in the buffer
 abbrev pub compiled : List ℕ → List ℕ → Answer
@@ -30,6 +33,10 @@ compiled text code = compileAnswer (compiling (length code) text)
 
 abbrev pub compiledCode : List ℕ → List ℕ → List ℕ
 compiledCode text code = codedBytes code (compiling (length code) text)
+
+-- "Compile alone returns integer 0 and the number of instructions; a check that accepts returns integer 0, count 0."
+abbrev pub doneWith : ℕ → Answer
+doneWith n = Done (Int (pos 0)) n
 
 -- the answer's number in paper 01's list
 abbrev pub number : Answer → ℕ
@@ -39,19 +46,35 @@ number r = reportOf r .answer
 abbrev pub Refusal : ℕ → Type 0
 Refusal a = (1 ≤ a) × ((a ≤ 10) ⊎ (a ≡ 15))
 
--- none of 1, 10 and 2 holds: the target is the element i of the bank b
-pub record Ready (target m code : List ℕ) (b : Bank) (i : ℕ) : Type 0 where
+-- neither 1 nor 2 holds: the target is the element i of the bank b
+pub record Ready (target m : List ℕ) (b : Bank) (i : ℕ) : Type 0 where
   pub memory : length m ≡ imageSize
-  pub room : 16384 ≤ length code
   pub cell : targetRule target ≡ Cell b i
 
--- what a run's end makes of the memory m, and its answer, with the count n: the value is in the target's bytes; or it does not fit there, or the run met a fault, and that flag is set
+-- 10 does not hold
+abbrev pub Room : List ℕ → Type 0
+Room code = 16384 ≤ length code
+
+-- what a run's end makes of the memory m, and its answer, with the count n: the value is in the target's bytes; or it does not fit there, or the run met
+-- a fault, and that flag is set
 pub data Gives (m : List ℕ) (b : Bank) (i n : ℕ) : Ended → Answer → List ℕ → Type 0 where
   stored : {v : Value} {p : ℕ} → encode b v ≡ Encoded.Pattern p → Gives m b i n (Ended.Done v) (Done v n) (sets m (cellAt b i) (bytesOf (layoutOf b .width) p))
   unstored : {v : Value} {f : FaultName} → encode b v ≡ Encoded.Stopped f → Gives m b i n (Ended.Done v) (Fault f n) (set m (flagAt f) 1)
   stopped : {f : FaultName} → Gives m b i n (Ended.Stopped f) (Fault f n) (set m (flagAt f) 1)
 
--- n instructions of the code, whatever the memory holds: they end with a value of the kind k or a fault, and so many are begun at most. Short of a value, or with more than 128 held, they would end `Stuck`.
+-- a value that is given is an integer of 32 bits or a finite single
+abbrev pub Finite : Ended → Type 0
+Finite e = (v : Value) → e ≡ Ended.Done v → Proper v
+
+-- a run of n instructions of the code, on the memory m, that answers r and leaves m′, is what compile-and-run does with another buffer, to which it writes
+-- the same instructions
+pub record AsPerformed (q : Request) (buffer m code : List ℕ) (n : ℕ) (r : Answer) (m′ : List ℕ) : Type 0 where
+  pub answer : r ≡ performed m q
+  pub memory : m′ ≡ performedMemory m q
+  pub bytes : take (8 * n) code ≡ take (8 * n) (performedCode buffer q)
+
+-- n instructions of the code, whatever the memory holds: they end with a value of the kind k or a fault, and so many are begun at most. Short of a value,
+-- or with more than 128 held, they would end `Stuck`.
 pub record Ends (code : List ℕ) (n most : ℕ) (k : Kind) : Type 0 where
   pub well : (m : List ℕ) → EndsWell k (runs code n m .end)
   pub quick : (m : List ℕ) → runs code n m .count ≤ most

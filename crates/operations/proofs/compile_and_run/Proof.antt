@@ -43,7 +43,7 @@ module _ (c : tie.After-known-told) where
   room : 16384 ≤ length (code start)
   room = omega arith
 
-  the-text : asked start ≡ ofText bank element (judge (text start))
+  the-text : asked start ≡ ofText (code start) bank element (judge (text start))
   the-text =
       named (target start) (text start) (memory start) (code start) (omega arith) room (sym (c .before .before .before .target-of .ensures) ∙ c .before .bank .given .1)
 

@@ -1,0 +1,120 @@
+-- Whatever bytes the code and the memory are, every value of a run is proper: an integer of 32 bits or a finite single. So are a decoded literal, a cell
+-- that is read and what a rule makes of proper values.
+use mathlib.Core.Path.{_≡_}
+use mathlib.Core.Logic.{_⊎_, inl, inr}
+use mathlib.Core.Bool.{Bool, true, false, cond, Bool·beq}
+use mathlib.Core.List.{List, [], _∷_}
+use Prim.Native.Nat.{ℕ, zero, suc}
+use lib.Dec.{ltb}
+use lib.IntN.{pos, negsuc}
+use lib.ListN.{length}
+use Rattle.words.specs.Laws.{Bytes}
+use Rattle.values.specs.declared.Value.{Value}
+use Rattle.values.specs.declared.Fault.{Fault}
+use Rattle.values.specs.declared.Fault.the-variants.{OutOfRange, IndexError}
+use Rattle.values.specs.declared.Cut.{Cut}
+use Rattle.values.specs.declared.Cut.the-variants.{Whole, Outside}
+use Rattle.values.specs.declared.Outcome.{Outcome}
+use Rattle.operators.specs.Operators.{truthRule, indexRule}
+use Rattle.operators.specs.Laws.{Proper, int, real, AllProper, done, stopped, wrong}
+use Rattle.operators.proofs.Laws.{rule-laws}
+use Rattle.memory.specs.declared.Bank.{Bank}
+use Rattle.memory.specs.Cells.{atIndex}
+use Rattle.memory.specs.Environment.{Environment, memoryOf}
+use Rattle.memory.proofs.Laws.{memory-laws}
+use Rattle.code.specs.declared.Instr.{Instr}
+use Rattle.code.specs.declared.Instr.the-variants.{Unknown}
+use Rattle.code.specs.Instructions.{decodeAt, decodeFrom}
+use Rattle.code.specs.Encode.{Encodable, push-int, push-real, load, load-indexed, unary, binary, jump, jump-if}
+use Rattle.code.proofs.Laws.{decode-encodable}
+use Rattle.machine.specs.declared.Ended.{Ended}
+use Rattle.machine.specs.declared.Ended.the-variants.{Done, Stopped, Stuck}
+use Rattle.machine.specs.Machine.{most, Next, goes, halts, pushed, given, act, finish, exec, runs}
+use Rattle.machine.proofs.Laws.{onward}
+
+data AllHeld : List Value → Type 0 where
+  none : AllHeld []
+  more : {v : Value} {st : List Value} → Proper v → AllHeld st → AllHeld (v ∷ st)
+
+pub data ProperEnd : Ended → Type 0 where
+  value : {v : Value} → Proper v → ProperEnd (Done v)
+  fault : {f : Fault} → ProperEnd (Stopped f)
+  stuck : ProperEnd Stuck
+
+data ProperNext : Next → Type 0 where
+  on : {k : ℕ} {st : List Value} → AllHeld st → ProperNext (goes k st)
+  end : {e : Ended} → ProperEnd e → ProperNext (halts e)
+
+-- ---- a memory
+
+at-index : {f : ℕ → Outcome} → ((i : ℕ) → AllProper (f i)) → (c : Cut) → AllProper (atIndex f c)
+at-index h (Whole (pos i)) = h i
+at-index h (Whole (negsuc i)) = stopped IndexError
+at-index h Outside = stopped OutOfRange
+
+-- ---- one instruction
+
+module _ {st : List Value} (held : AllHeld st) where
+  pushes : {v : Value} → Proper v → ProperNext (pushed v st)
+  pushes {v} p = by (ltb (length st) most)
+    where
+      by : (b : Bool) → ProperNext (cond b (goes 0 (v ∷ st)) (halts Stuck))
+      by true = on (more p held)
+      by false = end stuck
+
+  gives : {o : Outcome} → AllProper o → ProperNext (given o st)
+  gives (done v p) = pushes p
+  gives (stopped f) = end fault
+  gives wrong = end stuck
+
+  jumps : (b : Bool) (d : ℕ) → ProperNext (cond b (goes d st) (goes 0 st))
+  jumps true d = on held
+  jumps false d = on held
+
+module _ (m : List ℕ) (bytes : Bytes m) where
+  acts : {i : Instr} {st : List Value} → Encodable i → AllHeld st → ProperNext (act (memoryOf m) i st)
+  unfolding act
+  acts (push-int z h) s = pushes s (int z h)
+  acts (push-real x h) s = pushes s (real x h)
+  acts (load b i h) s = gives s (memory-laws .read-proper m b i bytes)
+  acts (load-indexed b) none = end stuck
+  acts (load-indexed b) (more {v} p s) = gives s (at-index (λ i. memory-laws .read-proper m b i bytes) (indexRule v))
+  acts (unary o) none = end stuck
+  acts (unary o) (more {v} p s) = gives s (rule-laws .unary-proper o v p)
+  acts (binary o) none = end stuck
+  acts (binary o) (more q none) = end stuck
+  acts (binary o) (more {v = w} q (more {v = v} p s)) = gives s (rule-laws .binary-proper o v w p q)
+  acts (jump d h) s = on s
+  acts (jump-if t d h) none = end stuck
+  acts (jump-if t d h) (more {v} p s) = jumps s (Bool·beq (truthRule v) t) d
+
+  decoded : (i : Instr) {st : List Value} → Encodable i ⊎ (i ≡ Unknown) → AllHeld st → ProperNext (act (memoryOf m) i st)
+  decoded i (inl e) s = acts e s
+  decoded i {st} (inr e) s = rw e unknown
+    where
+      unknown : ProperNext (act (memoryOf m) Unknown st)
+      unknown = unfold act in end stuck
+
+  -- ---- a run
+
+  goes-on : (c : List Instr) (x : Next) → ((k : ℕ) (st : List Value) → AllHeld st → ProperEnd (exec (memoryOf m) c k st .end))
+      → ProperNext x → ProperEnd (onward (memoryOf m) c x .end)
+  goes-on c (goes k st) h (on s) = h k st s
+  goes-on c (halts _) h (end e) = e
+
+  last : {st : List Value} → AllHeld st → ProperEnd (finish st)
+  last none = stuck
+  last (more p none) = value p
+  last (more p (more q s)) = stuck
+
+  from : (code : List ℕ) → Bytes code → (p n k : ℕ) (st : List Value) → AllHeld st → ProperEnd (exec (memoryOf m) (decodeFrom code p n) k st .end)
+  unfolding exec decodeFrom
+  from code b p zero zero st s = last s
+  from code b p zero (suc k) st s = stuck
+  from code b p (suc n) (suc k) st s = from code b (suc p) n k st s
+  from code b p (suc n) zero st s =
+      goes-on (decodeFrom code (suc p) n) (act (memoryOf m) (decodeAt code p) st) (from code b (suc p) n)
+      (decoded (decodeAt code p) (decode-encodable code p b) s)
+
+pub runs-proper : (code : List ℕ) (n : ℕ) (m : List ℕ) → Bytes code → Bytes m → ProperEnd (runs code n m .end)
+runs-proper code n m b h = from m h code b 0 n 0 [] none
