@@ -1,5 +1,5 @@
 -- Reading and storing obey `MemoryLaws`.
-use mathlib.Core.Path.{_≡_}
+use mathlib.Core.Path.{_≡_, _∙_}
 use mathlib.Core.List.{List}
 use Prim.Native.Nat.{ℕ, _%_, _^_}
 use native.Mathlib.Nat.{mod-eq-of-lt}
@@ -10,18 +10,21 @@ use lib.Seq.{sets}
 use Rattle.words.specs.Words.{bytesOf}
 use Rattle.words.proofs.Laws.{word-laws}
 use Rattle.values.specs.declared.Value.{Value}
+use Rattle.values.specs.declared.Outcome.the-variants.{Done}
 use Rattle.operators.specs.Laws.{Proper}
 use Rattle.memory.specs.declared.Bank.{Bank}
 use Rattle.memory.specs.declared.store.Encoded.the-variants.{Pattern}
 use Rattle.memory.specs.Layout.{layoutOf, cellAt, hasCell}
 use Rattle.memory.specs.Cells.{bytesAt, cellValue, readRule}
 use Rattle.memory.specs.Store.{encode, storeImage}
-use Rattle.memory.specs.Laws.{Within, MemoryLaws}
+use Rattle.memory.specs.Laws.{Within, Representable, MemoryLaws}
 use Rattle.memory.proofs.Places.{cell-within, no-flag, apart}
 use Rattle.memory.proofs.Runs.{run-written}
-use Rattle.memory.proofs.Kept.{same-length, cell-kept, read-other, read-flagged}
+use Rattle.memory.proofs.Kept.{same-length, cell-kept, flag-kept, read-other, read-flagged}
+use Rattle.memory.proofs.Flags.{flag-set, flag-other}
 use Rattle.memory.proofs.Readings.{read-proper, read-kind}
 use Rattle.memory.proofs.store.Encodings.{below, bit-stored}
+use Rattle.memory.proofs.Representations.{represents}
 
 -- ---- what was stored is read back
 module _ (s : List ℕ) (b : Bank) (i : ℕ) (v : Value) (p : ℕ) (h : T (hasCell s b i)) (e : encode b v ≡ Pattern p) where
@@ -42,6 +45,11 @@ module _ (s : List ℕ) (b : Bank) (i : ℕ) (v : Value) (p : ℕ) (h : T (hasCe
   others-kept : (k : ℕ) → (Within b i k → ⊥) → getD (storeImage s b i v) k 0 ≡ getD s k 0
   others-kept k w = rw stored (cell-kept s b i p k w)
 
+read-back : (s : List ℕ) (b : Bank) (i : ℕ) (v : Value) → T (hasCell s b i) → Representable b v → readRule (storeImage s b i v) b i ≡ Done v
+read-back s b i v h r =
+    let p = represents r in
+    read-stored s b i v (p .pattern) h (p .written) (p .proper) ∙ p .read
+
 pub memory-laws : MemoryLaws
 memory-laws =
     record {
@@ -55,4 +63,8 @@ memory-laws =
       bit-stored = bit-stored;
       read-proper = read-proper;
       read-kind = read-kind;
+      read-back = read-back;
+      flag-set = flag-set;
+      flag-other = flag-other;
+      flag-rest = flag-kept;
     }

@@ -4,3 +4,5 @@ pub mod Places
 pub mod Runs
 pub mod Kept
 pub mod Readings
+mod Flags
+mod Representations

@@ -9,14 +9,14 @@ use lib.Dec.{T, leb, lit≤, lit<}
 use lib.Ieee as Ieee
 use lib.Ieee.{Float, fin, binary32, fits}
 use lib.Ieee.Fits.{add-fits, sub-fits, mul-fits, div-fits, rem-fits, ofInt-fits, neg-fits}
-use lib.Ieee.Bits.{ofBits-fits}
+use lib.Ieee.Bits.{ofBits-fits, ofBits-toBits, toBits-lt}
 use Rattle.reals.specs.declared.ArithOp.{ArithOp}
 use Rattle.reals.specs.declared.ArithOp.the-variants.{Add, Sub, Mul, Div, Rem}
 use Rattle.reals.specs.Singles.{Single, negative, units, signed, count, Has}
 use Rattle.reals.specs.Rounding.{Rounds, end}
 use Rattle.reals.specs.Operations.{ieee, signOf, exact, divides}
 use Rattle.reals.specs.Laws.{RealLaws, patternUnits, decimal, integer}
-use Rattle.reals.proofs.Pattern.{bits-is}
+use Rattle.reals.proofs.Pattern.{bits-is, encode-decode, decode-special}
 use Rattle.reals.proofs.Ops.{add-rounded, sub-rounded, mul-rounded, div-rounded, neg-is}
 use Rattle.reals.proofs.Rem.{rem-is}
 use Rattle.reals.proofs.Promote.{ofInt-rounded, whole-is, literal-rounded}
@@ -113,4 +113,8 @@ real-laws = record {
   read = read;
   unit = unit;
   halves = halves;
+  encode-below = λ x S. toBits-lt binary32 x (S .fit);
+  decode-encode = λ x S. ofBits-toBits binary32 x (S .fit);
+  encode-decode = encode-decode binary32;
+  decode-special = decode-special binary32;
 }

@@ -1,13 +1,16 @@
 -- Bit patterns: a value's pattern is made from its sign and size alone, so there is one value of each; and what a pattern stands for.
 use mathlib.Core.Path.{_≡_, sym, ap, _∙_, subst}
-use mathlib.Core.Bool.{Bool, true, false, cond}
+use mathlib.Core.Bool.{Bool, true, false, not, cond}
 use Prim.Native.Nat.{ℕ, zero, suc, _+_, _-_, _*_, _/_, _%_, _^_, _<_}
 use native.Mathlib.Nat.{mul-one, lt-irrefl}
 use native.Mathlib.Numerals.{sub-one}
+use native.Mathlib.Omega.{arith}
 use lib.Dec.{T, leb, eqb, eqb→eq, eqb·suc-zero}
-use lib.Ieee.{Float, nan, inf, fin, Format, prec, low, up, down, size, fits, hid, ones, top, odd, ofFields, ofBits, toBits}
-use lib.Ieee.Bits.{ofBits-toBits}
+use lib.Ieee.{Float, nan, inf, fin, Format, prec, low, up, down, size, fits, hid, ones, top, odd, isNan, ofFields, ofBits, toBits}
+use lib.Ieee.Bits.{ofBits-toBits, toBits-ofBits}
 use lib.Ieee.Exact.{odd-sign}
+use lib.Ieee.Scale.{finite}
+use borrow.Author.Tests.{eq-eqb}
 use Rattle.reals.proofs.Near.{Is}
 use Rattle.reals.proofs.Values.{known}
 
@@ -41,3 +44,27 @@ fields-is f s (suc x) t h =
 pub bits-is : (f : Format) (b : ℕ) → b % top f / hid f < ones f → Is f (ofBits f b) (leb (top f) b) (fieldUnits f (b % top f / hid f) (b % hid f))
 unfolding ofBits
 bits-is f b h = fields-is f (leb (top f) b) (b % top f / hid f) (b % hid f) h
+
+-- ---- a pattern and the value that it stands for
+is-number : (f : Format) (x : Float) (s : Bool) (n : ℕ) → Is f x s n → T (not (isNan x))
+unfolding isNan
+is-number f nan s n h = absurd h
+is-number f (inf t) s n h = absurd h
+is-number f (fin t m e) s n h = tt
+
+pub encode-decode : (f : Format) (b : ℕ) → b < 2 * top f → b % top f / hid f < ones f → toBits f (ofBits f b) ≡ b
+encode-decode f b l h = toBits-ofBits f b l (is-number f (ofBits f b) _ _ (bits-is f b h))
+
+-- the exponent's field all ones
+special : (f : Format) (s : Bool) (x t : ℕ) → x ≡ ones f → T (finite (ofFields f s x t)) → ⊥
+unfolding ofFields
+special f s zero t e = absurd (omega arith)
+special f s (suc x) t e = rw (eq-eqb (suc x) (ones f) e) (go (eqb t 0))
+  where
+    go : (b : Bool) → T (finite (cond b (inf s) nan)) → ⊥
+    go true h = h
+    go false h = h
+
+pub decode-special : (f : Format) (b : ℕ) → b % top f / hid f ≡ ones f → T (finite (ofBits f b)) → ⊥
+unfolding ofBits
+decode-special f b e = special f (leb (top f) b) (b % top f / hid f) (b % hid f) e

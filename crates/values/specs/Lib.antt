@@ -3,3 +3,4 @@ pub mod Integers
 pub mod Patterns
 pub mod Singles
 pub mod Convert
+pub mod Laws

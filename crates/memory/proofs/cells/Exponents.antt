@@ -1,10 +1,10 @@
 -- A pattern whose exponent is all ones is an infinity or a NaN, and reads as 13; any other is a finite single. Assumes nothing.
 use mathlib.Core.Path.{_≡_, refl, _∙_}
-use mathlib.Core.Bool.{Bool, true, false, not, cond}
+use mathlib.Core.Bool.{not}
 use Prim.Native.Nat.{ℕ, _/_, _%_, _<_}
 use native.Mathlib.Omega.{arith}
-use lib.Dec.{T, eqb, leb}
-use lib.Ieee.{Float, nan, inf, fin, binary32, top, ofBits, ofFields, isNan, nanBits}
+use lib.Dec.{T}
+use lib.Ieee.{Float, nan, inf, fin, binary32, ofBits, isNan, nanBits}
 use lib.Ieee.Bits.{nanBits-is}
 use lib.Ieee.Scale.{finite}
 use Rattle.reals.specs.Singles.{Single}
@@ -22,23 +22,19 @@ field : (n : ℕ) → n % 2147483648 / 8388608 ≡ exponent n
 field n = omega arith
 
 -- ---- all ones
-no-single : (s : Bool) (t : ℕ) → finiteOr13 (ofFields binary32 s 255 t) ≡ Stopped OutOfRange
-unfolding ofFields
-no-single s t = by (eqb t 0)
-  where
-    by : (b : Bool) → finiteOr13 (cond b (inf s) nan) ≡ Stopped OutOfRange
-    by true = refl
-    by false = refl
+no-single : (x : Float) → (T (finite x) → ⊥) → finiteOr13 x ≡ Stopped OutOfRange
+no-single nan h = refl
+no-single (inf s) h = refl
+no-single (fin s m e) h = absurd (h tt)
 
 pub infinite-cell : (n : ℕ) → exponent n ≡ 255 → realCell n ≡ Stopped OutOfRange
-unfolding ofBits
-infinite-cell n h = rw (field n ∙ h) (no-single (leb (top binary32) n) (n % 8388608))
+infinite-cell n h = no-single (ofBits binary32 n) (real-laws .decode-special n (field n ∙ h))
 
 -- ---- any other
 pub single-cell : (n : ℕ) → (exponent n ≡ 255 → ⊥) → Single (ofBits binary32 n)
 single-cell n h = let e : n % 2147483648 / 8388608 < 255 = omega arith in real-laws .pattern n e .single
 
-single-reads : (x : Float) → T (finite x) → finiteOr13 x ≡ Done (Real x)
+pub single-reads : (x : Float) → T (finite x) → finiteOr13 x ≡ Done (Real x)
 single-reads nan h = absurd h
 single-reads (inf s) h = absurd h
 single-reads (fin s m e) h = refl

@@ -11,12 +11,12 @@ use Rattle.values.specs.declared.Value.the-variants.{Int}
 use Rattle.values.specs.declared.Outcome.the-variants.{Done}
 use Rattle.values.specs.Patterns.{signedOf}
 use Rattle.values.proofs.patterns.Readings.{signed-mag}
-use Rattle.memory.proofs.cells.Signs.{top-clear, top-set}
+use Rattle.values.proofs.Laws.{pattern-laws}
 use Rattle.memory.proofs.cells.signed_cell.Statement.{statement}
 use Rattle.memory.proofs.cells.signed_cell.Tie as tie
 
 less : (n : ℕ) → 32768 ≤ n → n < 65536 → toZ w32 n -ℤ pos 65536 ≡ signedOf 16 n
-less n h l = ap (λ (z : ℤ). z -ℤ pos 65536) (toZ-pos w32 n (omega arith)) ∙ sym (top-set 16 n h l)
+less n h l = ap (λ (z : ℤ). z -ℤ pos 65536) (toZ-pos w32 n (omega arith)) ∙ sym (pattern-laws .signed-set 16 n h l)
 
 less-fits : (n : ℕ) → 32768 ≤ n → n < 65536 → SFits w32 (toZ w32 n -ℤ pos 65536)
 less-fits n h l = subst (SFits w32) (sym (less n h l)) (record { sfits = omega (arith, signed-mag 16 n (omega arith) l) })
@@ -33,7 +33,7 @@ sub-t7 c = less-fits (c .before .args .n) (omega arith) (c .before .pre)
 returns : tie.Need-returns
 returns c =
     let n = c .before .args .n in
-    rw (toZ-pos w32 n (omega arith), top-clear 16 n (omega arith))
+    rw (toZ-pos w32 n (omega arith), pattern-laws .signed-clear 16 n (omega arith))
 
 returns-2 : tie.Need-returns-2
 returns-2 c =
