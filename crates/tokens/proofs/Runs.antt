@@ -7,12 +7,13 @@ use native.Mathlib.Nat.{zero-add}
 use native.Mathlib.Numerals.{add-one}
 use native.Mathlib.Omega.{arith}
 use lib.Dec.{leb, ltb, leb·zero, leb·suc-suc, leb·suc-zero}
-use lib.ListN.{length, getD, drop, drop-of-length-le}
+use lib.ListN.{length, getD, take, drop, drop-of-length-le}
 use lib.Seq.{drop-cons}
 use borrow.Author.Tests.{le-leb, lt-leb}
 use Rattle.tokens.specs.Bytes.{runLen, all}
-use Rattle.tokens.proofs.Tests.{by-test, both}
 use Rattle.tokens.specs.Numerals.{some}
+use Rattle.tokens.specs.Theorems.{Stops, nothing, other}
+use Rattle.tokens.proofs.Tests.{by-test, both}
 
 -- the run that has come to i ends at n
 pub record Reaches (p : ℕ → Bool) (s : List ℕ) (n i : ℕ) : Type 0 where
@@ -76,3 +77,29 @@ module _ (p : ℕ → Bool) where
   all-append [] t e f = f
   all-append (c ∷ cs) t e f =
       let h = both (p c) (all p cs) e in rw (h .0) (all-append cs t (h .1) f)
+
+-- ---- a run is the longest: every byte of it passes, and the next one does not
+module _ (p : ℕ → Bool) where
+  pub run-every : (s : List ℕ) → all p (take (runLen p s) s) ≡ true
+  run-every [] = refl
+  run-every (c ∷ cs) = go (p c) refl (run-every cs)
+    where
+      go : (t : Bool) → p c ≡ t → all p (take (runLen p cs) cs) ≡ true → all p (take (cond t (suc (runLen p cs)) 0) (c ∷ cs)) ≡ true
+      go true e h = rw e h
+      go false e h = refl
+
+  pub run-stops : (s : List ℕ) → Stops p (drop (runLen p s) s)
+  run-stops [] = nothing
+  run-stops (c ∷ cs) = go (p c) refl (run-stops cs)
+    where
+      go : (t : Bool) → p c ≡ t → Stops p (drop (runLen p cs) cs) → Stops p (drop (cond t (suc (runLen p cs)) 0) (c ∷ cs))
+      go true e h = h
+      go false e h = other e
+
+  run-none : (t : List ℕ) → Stops p t → runLen p t ≡ 0
+  run-none [] nothing = refl
+  run-none (c ∷ cs) (other e) = rw e
+
+  pub run-length : (s t : List ℕ) → all p s ≡ true → Stops p t → runLen p (s ++ t) ≡ length s
+  run-length [] t e h = run-none t h
+  run-length (c ∷ cs) t e h = let b = both (p c) (all p cs) e in rw (b .0) (ap suc (run-length cs t (b .1) h))

@@ -32,7 +32,7 @@ pub either : (a b : Bool) → (a || b) ≡ true → (a ≡ true) ⊎ (b ≡ true
 either true b e = inl refl
 either false b e = inr e
 
-within : (lo hi c : ℕ) → inside lo hi c ≡ true → (lo ≤ c) × (c ≤ hi)
+pub within : (lo hi c : ℕ) → inside lo hi c ≡ true → (lo ≤ c) × (c ≤ hi)
 within lo hi c e =
     let h = both (leb lo c) (leb c hi) e in (leb-true lo c (h .0), leb-true c hi (h .1))
 

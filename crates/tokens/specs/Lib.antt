@@ -3,3 +3,4 @@ pub mod Symbols
 pub mod Numerals
 pub mod Words
 pub mod Scan
+pub mod Theorems

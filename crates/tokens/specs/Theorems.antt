@@ -1,0 +1,67 @@
+-- What a reader of the tokens wants to know of `scan`, in the words of paper 01; proofs/Theorems.antt proves the record. So a reader believes the classes of bytes, the table of symbols, `wordOf` and
+-- `numeralOf`, and no position and no fuel.
+use mathlib.Core.Path.{_≡_}
+use mathlib.Core.Bool.{Bool, true, false}
+use mathlib.Core.List.{List, [], _∷_, _++_}
+use Prim.Native.Nat.{ℕ, _+_, _≤_, _<_}
+use lib.ListN.{length}
+use Rattle.memory.specs.Names.{isDigit}
+use Rattle.tokens.specs.declared.Token.{Token}
+use Rattle.tokens.specs.declared.Token.the-variants.{Symbol}
+use Rattle.tokens.specs.declared.Scanned.{Scanned}
+use Rattle.tokens.specs.declared.Scanned.the-variants.{Good, Bad}
+use Rattle.tokens.specs.Bytes.{isLetter, isSpace, isWord, isRun, all}
+use Rattle.tokens.specs.Symbols.{symbolCount, symbolBytes}
+use Rattle.tokens.specs.Numerals.{numeralOf}
+use Rattle.tokens.specs.Words.{wordOf}
+use Rattle.tokens.specs.Scan.{Scan, tokens, wrong, before, scanFrom, scan}
+
+-- the first byte is of the class
+pub data Starts (class : ℕ → Bool) : List ℕ → Type 0 where
+  first : {c : ℕ} {cs : List ℕ} → class c ≡ true → Starts class (c ∷ cs)
+
+-- there is no first byte, or it is not of the class
+pub data Stops (class : ℕ → Bool) : List ℕ → Type 0 where
+  nothing : Stops class []
+  other : {c : ℕ} {cs : List ℕ} → class c ≡ false → Stops class (c ∷ cs)
+
+-- "the longest run of .. that starts with .." at the front of a text is w, and r is left
+pub record LongestRun (start class : ℕ → Bool) (w r : List ℕ) : Type 0 where
+  pub starts : Starts start w
+  pub every : all class w ≡ true
+  pub stops : Stops class r
+
+-- the symbol n stands at the front of a text
+abbrev pub Matches : ℕ → List ℕ → Type 0
+Matches n s = (r : List ℕ) × (s ≡ symbolBytes n ++ r)
+
+-- "Operators take the longest match": the symbol n before r, and no longer one begins there
+pub record LongestMatch (n : ℕ) (r : List ℕ) : Type 0 where
+  pub known : n < symbolCount
+  pub most : (m : ℕ) → m < symbolCount → Matches m (symbolBytes n ++ r) → length (symbolBytes m) ≤ length (symbolBytes n)
+
+-- the bytes w, before r, are the longest that belong together, and what they are: a token, or none and its answer
+pub data LongestLexeme (w r : List ℕ) : Scanned → Type 0 where
+  word : LongestRun isLetter isWord w r → LongestLexeme w r (wordOf w)
+  numeral : LongestRun isDigit isRun w r → LongestLexeme w r (numeralOf w)
+  symbol : (n : ℕ) → w ≡ symbolBytes n → LongestMatch n r → LongestLexeme w r (Good (Symbol n))
+  -- 4: "bytes that form no token"
+  stray : (c : ℕ) → w ≡ c ∷ [] → isSpace c ≡ false → isLetter c ≡ false → isDigit c ≡ false → ((n : ℕ) → n < symbolCount → Matches n (c ∷ r) → ⊥) → LongestLexeme w r (Bad 4)
+
+-- "Spaces and tabs separate."
+abbrev pub Blank : List ℕ → Type 0
+Blank b = all isSpace b ≡ true
+
+-- The text from the place p on is blanks and tokens, in order, and nothing else; each token has the place of its first byte. Or it is so up to the first bytes that are no token: "4, 5, 6 over the
+-- whole text, the smallest place first".
+pub data Scans : ℕ → List ℕ → Scan → Type 0 where
+  end : {p : ℕ} {s : List ℕ} → Blank s → Scans p s (tokens [])
+  token : {p : ℕ} {s : List ℕ} {t : Token} {z : Scan} (b w r : List ℕ) → s ≡ b ++ (w ++ r) → Blank b → LongestLexeme w r (Good t) → Scans (p + length b + length w) r z → Scans p s (before (record { token = t; place = p + length b }) z)
+  stop : {p : ℕ} {s : List ℕ} {a : ℕ} (b w r : List ℕ) → s ≡ b ++ (w ++ r) → Blank b → LongestLexeme w r (Bad a) → Scans p s (wrong a (p + length b))
+
+pub record TokenTheorems : Type 0 where
+  -- every text scans so, to one list of tokens or to one answer and place
+  pub scans : (s : List ℕ) → Scans 0 s (scan s)
+  pub only : (s : List ℕ) (z : Scan) → Scans 0 s z → z ≡ scan s
+  -- the scan never runs out of fuel: more of it gives the same
+  pub enough : (f : ℕ) (s : List ℕ) → length s < f → scanFrom f s 0 ≡ scan s
