@@ -40,7 +40,7 @@ has s n x t h =
     let k = known binary32 x s n h in
     record { single = record { fit = t; real = real-of x s n h }; sign = k .0; size = sym (same-units x) ∙ k .1 }
 
-pub has-is : (s : Bool) (n : ℕ) (x : Float) → Has s n x → Is binary32 x s n
+has-is : (s : Bool) (n : ℕ) (x : Float) → Has s n x → Is binary32 x s n
 has-is s n x h = subst₂ (Is binary32 x) (h .sign) (h .size) (is x (h .single))
 
 -- a law of two values' signs and sizes, of two singles

@@ -2,7 +2,7 @@
 use mathlib.Core.Path.{_≡_, refl, sym, ap, ap₂, _∙_, subst, subst₂}
 use mathlib.Core.Bool.{Bool, true, false, cond, _&&_, not}
 use Prim.Native.Nat.{ℕ, _*_, _^_, _<_}
-use native.Mathlib.Nat.{mul-comm, mul-assoc, mul-right-comm, mul-mul-mul-comm, mul-pos, eq-of-mul-eq-mul-right, lt-irrefl}
+use native.Mathlib.Nat.{mul-comm, mul-assoc, mul-right-comm, mul-mul-mul-comm, mul-pos, lt-irrefl}
 use lib.IntN.{ℤ, natAbs, _+ℤ_, _-ℤ_}
 use lib.Dec.{T, eqb, eqb→eq}
 use lib.Pow.{pow-pos}
@@ -11,10 +11,9 @@ use lib.Ieee.Fits.{down-pos}
 use lib.Ieee.Positive.{first-pos}
 use Rattle.reals.specs.Singles.{signed}
 use Rattle.reals.specs.Operations.{signOf}
-use Rattle.reals.proofs.Near.{Held, Is, Rounded}
+use Rattle.reals.proofs.Near.{Is, Rounded}
 use Rattle.reals.proofs.Signed.{neg-signed}
 use Rattle.reals.proofs.Same.{rounded-at}
-use Rattle.reals.proofs.Values.{exact-is}
 use Rattle.reals.proofs.Sum.{sum-rounded}
 
 -- ---- a law of the signs and sizes of two finite values
@@ -101,26 +100,3 @@ div-rounded f = apiece f _
     rw (nonzero N (cond (eqb M 0) nan (inf (unlike s t))) (round f (unlike s t) (M * up e * down d) (N * up d * down e)) (first-pos N (up d) q))
     (rounded-at f (unlike s t) (M * up e * down d) (N * up d * down e) (m * 2 ^ low f) n (mul-pos q (down-pos e)) p
     (div-cross (M * up e) (N * up d) (down e) (down d) (2 ^ low f) m n h k)))
-
--- ---- a product or a quotient of c units is exact where c is a held size
-pub mul-is : (f : Format) → Law f (λ s m t n x y. (c : ℕ) → Held f c → m * n ≡ c * 2 ^ low f → Is f (mul f x y) (unlike s t) c)
-unfolding mul
-mul-is f = apiece f _
-    (λ s M e m t N d n h k c H g.
-    let X = M * up e * (N * up d) in
-    let D = down e * down d in
-    let L = 2 ^ low f in
-    exact-is f (unlike s t) X D c (denominator e d) H
-    (eq-of-mul-eq-mul-right L (pow-pos (low f)) (X * L) (c * D) (mul-cross (M * up e) (N * up d) (down e) (down d) L m n h k ∙ ap (λ (z : ℕ). z * D) g ∙ mul-right-comm c L D)))
-
-pub div-is : (f : Format) → Law f (λ s m t n x y. (c : ℕ) → 0 < n → Held f c → m * 2 ^ low f ≡ c * n → Is f (div f x y) (unlike s t) c)
-unfolding div
-div-is f = apiece f _
-    (λ s M e m t N d n h k c p H g.
-    let q : 0 < N * up d = some (N * up d) (2 ^ low f) n (down d) p (down-pos d) k in
-    let X = M * up e * down d in
-    let D = N * up d * down e in
-    let L = 2 ^ low f in
-    rw (nonzero N (cond (eqb M 0) nan (inf (unlike s t))) (round f (unlike s t) X D) (first-pos N (up d) q))
-    (exact-is f (unlike s t) X D c (mul-pos q (down-pos e)) H
-    (eq-of-mul-eq-mul-right n p (X * L) (c * D) (div-cross (M * up e) (N * up d) (down e) (down d) L m n h k ∙ ap (λ (z : ℕ). z * D) g ∙ mul-right-comm c n D))))

@@ -34,15 +34,15 @@ whole-is f z h =
     let r = round f s n 1 in
     rw (ofInt-is f z) (subst (HasValue r s (n * 2 ^ low f)) (one-mul (2 ^ low f)) (factor-in (2 ^ low f) r s n 1 (round-whole f s n h)))
 
-pub natural-is : (f : Format) (n : ℕ) → n ≤ 2 ^ prec f → Is f (ofInt f (pos n)) false (n * 2 ^ low f)
-natural-is f n h = rw (sign-kept false n) at (whole-is f (pos n) h)
-
 -- ---- a literal n / t
 pub literal-rounded : (f : Format) (n t : ℕ) → n ≤ 2 ^ prec f → t ≤ 2 ^ prec f → 0 < t → Rounded f false (n * 2 ^ low f) t (div f (ofInt f (pos n)) (ofInt f (pos t)))
 literal-rounded f n t h g p =
     let L = 2 ^ low f in
     rounded-same (n * L * L) (t * L) (n * L) t (mul-pos p (pow-pos (low f))) p (cross n t L) f false (div f (ofInt f (pos n)) (ofInt f (pos t)))
-    (div-rounded f (ofInt f (pos n)) (ofInt f (pos t)) false (n * L) false (t * L) (natural-is f n h) (natural-is f t g) (mul-pos p (pow-pos (low f))))
+    (div-rounded f (ofInt f (pos n)) (ofInt f (pos t)) false (n * L) false (t * L) (natural n h) (natural t g) (mul-pos p (pow-pos (low f))))
   where
+    natural : (n : ℕ) → n ≤ 2 ^ prec f → Is f (ofInt f (pos n)) false (n * 2 ^ low f)
+    natural n h = rw (sign-kept false n) at (whole-is f (pos n) h)
+
     cross : (n t L : ℕ) → n * L * L * t ≡ n * L * (t * L)
     cross n t L = mul-assoc (n * L) L t ∙ ap (λ (z : ℕ). n * L * z) (mul-comm L t)

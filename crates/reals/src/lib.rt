@@ -3,8 +3,6 @@
 ghost use mathlib.Core.Path.{_≡_};
 ghost use Rattle.reals.specs.Operations.{ieee};
 
-mod remainder;
-
 pub enum ArithOp {
     Add,
     Sub,
@@ -13,8 +11,7 @@ pub enum ArithOp {
     Rem,
 }
 
-// One IEEE operation, rounded once; Rem is C's fmod, of a dividend reduced first, so that its time does not grow with the distance
-// of the operands.
+// One IEEE operation, rounded once; Rem is C's fmod.
 pub fn operate(op: ArithOp, x: f32, y: f32) -> f32
     ensures { λ r. ⌜ r ≡ ieee op x y ⌝ }
 {
@@ -23,6 +20,6 @@ pub fn operate(op: ArithOp, x: f32, y: f32) -> f32
         ArithOp::Sub => x - y,
         ArithOp::Mul => x * y,
         ArithOp::Div => x / y,
-        ArithOp::Rem => remainder::reduced(x, y) % y,
+        ArithOp::Rem => x % y,
     }
 }

@@ -1,4 +1,4 @@
--- `reals::operate` meets its contract: in each arm the operator is that arm's, so `ieee` of it is what the arm computes; a reduced dividend has the same remainder.
+-- `reals::operate` meets its contract: in each arm the operator is that arm's, so `ieee` of it is what the arm computes.
 use borrow.Author.Needs.{needs}
 use Rattle.reals.proofs.operate.Statement.{statement}
 use Rattle.reals.proofs.operate.Tie as tie
@@ -18,9 +18,6 @@ enum-told-4 c = search needs
 enum-told-5 : tie.Need-enum-told-5
 enum-told-5 c = search needs
 
-reduced-requires : tie.Need-reduced-requires
-reduced-requires c κs = search needs
-
 returns : tie.Need-returns
 returns c = rw (c .enum-told .given .1)
 
@@ -34,7 +31,7 @@ returns-4 : tie.Need-returns-4
 returns-4 c = rw (c .enum-told4 .given .1)
 
 returns-5 : tie.Need-returns-5
-returns-5 c = rw (c .before .enum-told5 .given .1) (c .reduced .ensures)
+returns-5 c = rw (c .enum-told5 .given .1)
 
 pub operate-spec : {M : Type 1} → statement M
 operate-spec =
@@ -45,7 +42,6 @@ operate-spec =
     enum-told-3
     enum-told-4
     enum-told-5
-    reduced-requires
     returns
     returns-2
     returns-3

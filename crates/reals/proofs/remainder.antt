@@ -1,4 +1,0 @@
--- Laws for the proofs of remainder.
-mod Shifts
-mod Patterns
-mod Remainders
