@@ -3,12 +3,12 @@ pub mod Laws
 pub mod Bridge
 pub mod Cut
 pub mod Signed
+pub mod Grid
+pub mod Scaled
 mod Near
-mod Grid
 mod Closer
 mod Kept
 mod Round
-mod Scaled
 mod Same
 mod Rising
 mod Values

@@ -1,0 +1,6 @@
+-- Laws for the proofs of the functions.
+mod Shifts
+mod Patterns
+mod Encodings
+mod Specials
+mod Remainders
