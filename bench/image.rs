@@ -48,6 +48,10 @@ fn word(image: &[u8], at: usize) -> u32 {
 }
 
 pub fn read_indexed(image: &[u8], bank: u8, index: Value) -> Outcome {
+    // a real index below zero is refused before it is cut
+    if matches!(index, Real(x) if x < 0.0) {
+        return Err(Stop::IndexError);
+    }
     let index = index.cut()? as u32;
     // a negative index is beyond every bank
     if index < elements(bank) {

@@ -97,8 +97,11 @@ pub fn read(memory: &[u8], bank: Bank, element: usize) -> Result<Value, Fault> {
     }
 }
 
-/// Reads the cell whose number is worked out at run time.
+/// Reads the cell whose number is worked out at run time. A real below zero names none, however little it lies below.
 pub fn read_indexed(memory: &[u8], bank: Bank, index: Value) -> Result<Value, Fault> {
+    if matches!(index, Value::Real(r) if r < 0.0) {
+        return Err(Fault::IndexError);
+    }
     match usize::try_from(index.trunc()?) {
         Ok(element) if element < bank.cells() => read(memory, bank, element),
         _ => Err(Fault::IndexError),

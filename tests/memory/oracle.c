@@ -1,4 +1,5 @@
-// What crates/memory_cases has to print, worked out from paper 01 ("What the box takes", "Store", answer 2) by plain C on a little-endian machine.
+// What crates/memory_cases has to print, worked out from paper 01 ("What the box takes", "Store", answer 2) and paper 02, Ask 5, by plain C
+// on a little-endian machine.
 // From the root of the repository:
 //
 //   mkdir -p target
@@ -24,7 +25,10 @@ static const int elements[] = {64, 64, 256, 256, 256, 256};
 static const int width[] = {1, 1, 2, 2, 4, 4};
 
 static const int32_t integers[] = {0, 1, -1, 32768, 65535, 65536, INT32_MAX, INT32_MIN};
-static const uint32_t singles[] = {0x00000000, 0x80000000, 0x3f000000, 0xbf7fffff, 0x477fff80, 0x4effffff, 0x4f000000, 0xcf000001};
+static const uint32_t singles[] = {0x00000000, 0x80000000, 0x3f000000, 0xbf7fffff, 0x477fff80, 0x4effffff, 0x4f000000, 0xcf000001,
+                                   0x80000001, 0xbf000000, 0xbf800000, 0xcf000000, 0x427f999a, 0x42800000, 0x437fe666, 0x43800000};
+
+enum { INTEGERS = sizeof integers / sizeof *integers, OPERANDS = INTEGERS + sizeof singles / sizeof *singles };
 
 static float of_pattern(uint32_t p) {
     float x;
@@ -39,7 +43,7 @@ static uint32_t pattern_of(float x) {
 }
 
 static Value operand(int k) {
-    return k < 8 ? (Value){false, integers[k], 0} : (Value){true, 0, of_pattern(singles[k - 8])};
+    return k < INTEGERS ? (Value){false, integers[k], 0} : (Value){true, 0, of_pattern(singles[k - INTEGERS])};
 }
 
 static uint8_t filler(int image, int at) {
@@ -102,6 +106,17 @@ static bool cut(Value v, int64_t *z) {
     return true;
 }
 
+// Paper 02, Ask 5: "A real index below zero is now 14 before any truncation; -0.0 still reads element 0."
+static void read_index(const uint8_t *m, int b, Value v) {
+    int64_t z;
+    if (v.real && v.r < 0)
+        printf(" !%d", INDEX_ERROR);
+    else if (cut(v, &z))
+        read_cell(m, b, z);
+    else
+        printf(" !%d", OUT_OF_RANGE);
+}
+
 static void store_line(int image, int b, int i) {
     static uint8_t m[SIZE];
     for (int at = 0; at < SIZE; at++)
@@ -157,19 +172,14 @@ int main(void) {
             read_cell(m, b, elements[b] - 1);
             read_cell(m, b, elements[b]);
             printf("\n%c[]", letters[b]);
-            for (int i = 0; i < 16; i++) {
-                int64_t z;
-                if (cut(operand(i), &z))
-                    read_cell(m, b, z);
-                else
-                    printf(" !%d", OUT_OF_RANGE);
-            }
+            for (int i = 0; i < OPERANDS; i++)
+                read_index(m, b, operand(i));
             putchar('\n');
         }
     }
     static const int images[] = {0, 1, 0, 1, 2, 3};
     for (int b = 0; b < 6; b++)
-        for (int i = 0; i < 16; i++)
+        for (int i = 0; i < OPERANDS; i++)
             store_line(images[b], b, i);
     static const char *const targets[] = {"C0", "C63", "C64", "V255", "N0", "D42", "R255", "R256", "X0", "D01", "D00", "D", "d1", " D1", "D1 ", "D+1", "D1000000000000000000000", ""};
     for (size_t i = 0; i < sizeof targets / sizeof *targets; i++)

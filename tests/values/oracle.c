@@ -1,4 +1,4 @@
-// What crates/value_cases has to print, worked out from paper 01, "Values and kinds", on the machine's own floats.
+// What crates/value_cases has to print, worked out from paper 01, "Values and kinds", and paper 02, Ask 5, on the machine's own floats.
 // From the root of the repository, for a machine with SSE, where each float operation is one IEEE operation:
 //
 //   mkdir -p target
@@ -11,7 +11,7 @@
 #include <stdio.h>
 #include <string.h>
 
-enum { DIVIDED_BY_ZERO = 11, OVERFLOW = 12, OUT_OF_RANGE = 13 };
+enum { DIVIDED_BY_ZERO = 11, OVERFLOW = 12, OUT_OF_RANGE = 13, INDEX_ERROR = 14 };
 
 // A value, a fault, or an operand of the wrong kind.
 typedef struct {
@@ -86,6 +86,13 @@ static Result branch(Result v, bool other_is_real) {
     return other_is_real ? single(promoted(v)) : v;
 }
 
+// Paper 02, Ask 5: "A real index below zero is now 14 before any truncation; -0.0 still reads element 0."
+static Result element(Result v, int32_t elements) {
+    if (v.is == SINGLE && v.r < 0.0f) return fault(INDEX_ERROR);
+    Result z = v.is == SINGLE ? whole(trunc(v.r)) : v;
+    return z.is == INTEGER && (z.i < 0 || elements <= z.i) ? fault(INDEX_ERROR) : z;
+}
+
 static Result of_one(const char *name, Result v) {
     bool real = v.is == SINGLE;
     if (!strcmp(name, "branch of int")) return branch(v, false);
@@ -101,7 +108,9 @@ static Result of_one(const char *name, Result v) {
         return real ? single(of_pattern(pattern_of(v.r) & 0x7FFFFFFF)) : exact(v.i < 0 ? -(int64_t)v.i : v.i);
     }
     if (!strcmp(name, "ROUND")) return real ? whole(nearest(v.r)) : v;
-    // TRUNC and index.
+    if (!strcmp(name, "index of 64")) return element(v, 64);
+    if (!strcmp(name, "index of 256")) return element(v, 256);
+    // TRUNC.
     return real ? whole(trunc(v.r)) : v;
 }
 
@@ -206,7 +215,7 @@ static void print(Result v) {
 
 int main(void) {
     static const char *const ones[] = {
-        "branch of int", "branch of real", "truth", "index", "-", "~", "!", "ABS", "TOREAL", "TRUNC", "ROUND", "FRAC",
+        "branch of int", "branch of real", "truth", "index of 64", "index of 256", "-", "~", "!", "ABS", "TOREAL", "TRUNC", "ROUND", "FRAC",
     };
     static const char *const twos[] = {
         "+", "-", "*", "/", "%", "**", "<<", ">>", ">>>", "<", ">", "<=", ">=", "==", "!=", "&", "|", "^", "MAX", "MIN",

@@ -13,6 +13,7 @@ use Rattle.words.specs.Words.{little}
 use Rattle.words.specs.Laws.{Bytes}
 use Rattle.words.proofs.Laws.{word-laws}
 use Rattle.values.specs.declared.Kind.the-variants as K
+use Rattle.values.specs.declared.Value.{Value}
 use Rattle.values.specs.declared.Value.the-variants.{Int, Real}
 use Rattle.values.specs.declared.Fault.the-variants.{OutOfRange, IndexError}
 use Rattle.values.specs.declared.Outcome.{Outcome}
@@ -20,11 +21,13 @@ use Rattle.values.specs.declared.Outcome.the-variants.{Done, Stopped}
 use Rattle.values.specs.Integers.{inRange}
 use Rattle.values.specs.Patterns.{signedOf}
 use Rattle.values.proofs.Ranges.{sfits-range}
+use Rattle.operators.specs.declared.Position.{Position}
+use Rattle.operators.specs.declared.Position.the-variants as P
 use Rattle.operators.specs.Laws.{Proper, OfKind, AllProper}
 use Rattle.memory.specs.declared.Bank.{Bank}
 use Rattle.memory.specs.declared.Bank.the-variants.{X, C, «V», N, D, R}
 use Rattle.memory.specs.Layout.{layoutOf, cellAt, hasCell}
-use Rattle.memory.specs.Cells.{bankKind, bytesAt, bitOf, finiteOr13, cellValue, realCell, readRule}
+use Rattle.memory.specs.Cells.{bankKind, bytesAt, bitOf, finiteOr13, cellValue, realCell, readRule, positionRule, readAt, indexedRule}
 use Rattle.memory.proofs.Places.{cell-within}
 use Rattle.memory.proofs.Runs.{run-length, run-bytes}
 use Rattle.memory.proofs.cells.Signs.{signed-range}
@@ -55,6 +58,13 @@ cell-kind R n = real-kind (ofBits binary32 n)
 
 pub read-kind : (s : List ℕ) (b : Bank) (i : ℕ) → OfKind (bankKind b) (readRule s b i)
 read-kind s b i = read-has (OfKind (bankKind b)) (OfKind.stopped IndexError) s b i (λ h. cell-kind b (little (bytesAt s b i)))
+
+position-kind : (s : List ℕ) (b : Bank) (p : Position) → OfKind (bankKind b) (readAt s b p)
+position-kind s b (P.At i) = read-kind s b i
+position-kind s b (P.Stopped f) = OfKind.stopped f
+
+pub indexed-kind : (s : List ℕ) (b : Bank) (v : Value) → OfKind (bankKind b) (indexedRule s b v)
+indexed-kind s b v = position-kind s b (positionRule b v)
 
 -- ---- properness
 integer : (z : ℤ) → inRange z ≡ true → AllProper (Done (Int z))

@@ -4,7 +4,7 @@ use mathlib.Core.Bool.{Bool, cond}
 use mathlib.Core.List.{List}
 use Prim.Native.Nat.{ℕ}
 use lib.Dec.{eqb}
-use lib.IntN.{ℤ, pos, negsuc}
+use lib.IntN.{ℤ, pos}
 use lib.ListN.{take, drop}
 use lib.Ieee as Ieee
 use lib.Ieee.{Float, nan, inf, fin, binary32}
@@ -16,9 +16,9 @@ use Rattle.values.specs.declared.Value.the-variants.{Int, Real}
 use Rattle.values.specs.declared.Fault.the-variants.{OutOfRange, IndexError}
 use Rattle.values.specs.declared.Outcome.{Outcome}
 use Rattle.values.specs.declared.Outcome.the-variants.{Done, Stopped}
-use Rattle.values.specs.declared.Cut.{Cut}
-use Rattle.values.specs.declared.Cut.the-variants.{Whole, Outside}
 use Rattle.values.specs.Patterns.{signedOf}
+use Rattle.operators.specs.declared.Position.{Position}
+use Rattle.operators.specs.declared.Position.the-variants as P
 use Rattle.operators.specs.Operators.{indexRule}
 use Rattle.memory.specs.declared.Bank.{Bank}
 use Rattle.memory.specs.declared.Bank.the-variants.{X, C, «V», N, D, R}
@@ -61,11 +61,14 @@ cellValue R n = realCell n
 abbrev pub readRule : List ℕ → Bank → ℕ → Outcome
 readRule s b i = cond (hasCell s b i) (cellValue b (little (bytesAt s b i))) (Stopped IndexError)
 
--- "An index is truncated if real (13 outside 32 bits); then 14 if outside its bank."
-abbrev pub atIndex : (ℕ → Outcome) → Cut → Outcome
-atIndex f (Whole (pos i)) = f i
-atIndex f (Whole (negsuc i)) = Stopped IndexError
-atIndex f Outside = Stopped OutOfRange
+-- the element of a bank that an index names
+abbrev pub positionRule : Bank → Value → Position
+positionRule b v = indexRule (layoutOf b .elements) v
+
+-- the cell at a position; without one, the index's fault
+abbrev pub readAt : List ℕ → Bank → Position → Outcome
+readAt s b (P.At i) = readRule s b i
+readAt s b (P.Stopped f) = Stopped f
 
 abbrev pub indexedRule : List ℕ → Bank → Value → Outcome
-indexedRule s b v = atIndex (readRule s b) (indexRule v)
+indexedRule s b v = readAt s b (positionRule b v)

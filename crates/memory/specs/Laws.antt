@@ -21,7 +21,7 @@ use Rattle.memory.specs.declared.Bank.{Bank}
 use Rattle.memory.specs.declared.Bank.the-variants.{C, «V», N, D, R}
 use Rattle.memory.specs.declared.store.Encoded.the-variants.{Pattern}
 use Rattle.memory.specs.Layout.{imageSize, layoutOf, cellAt, hasCell, flagAt}
-use Rattle.memory.specs.Cells.{bankKind, cellValue, readRule}
+use Rattle.memory.specs.Cells.{bankKind, cellValue, readRule, indexedRule}
 use Rattle.memory.specs.Store.{encode, flagged, storeImage}
 
 -- two cells that are not the same
@@ -58,6 +58,8 @@ pub record MemoryLaws : Type 0 where
   -- a cell of bytes reads a proper value of its bank's kind, or a fault
   pub read-proper : (s : List ℕ) (b : Bank) (i : ℕ) → Bytes s → AllProper (readRule s b i)
   pub read-kind : (s : List ℕ) (b : Bank) (i : ℕ) → OfKind (bankKind b) (readRule s b i)
+  -- and so does an index
+  pub indexed-kind : (s : List ℕ) (b : Bank) (v : Value) → OfKind (bankKind b) (indexedRule s b v)
   -- so a value that the bank holds as it is reads back as itself: an integer from D, a real from R
   pub read-back : (s : List ℕ) (b : Bank) (i : ℕ) (v : Value) → T (hasCell s b i) → Representable b v → readRule (storeImage s b i v) b i ≡ Done v
   -- a set flag is 1; every other flag, and every other byte, is as before

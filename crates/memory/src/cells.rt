@@ -4,10 +4,10 @@ ghost use Prim.Native.Nat.{_+_, _≤_, _<_};
 ghost use lib.ListN.{length, take, drop};
 ghost use Rattle.words.specs.Words.{little};
 ghost use Rattle.memory.specs.Layout.{hasCell};
-ghost use Rattle.memory.specs.Cells.{bankKind, cellValue, readRule, indexedRule};
+ghost use Rattle.memory.specs.Cells.{bankKind, cellValue, readRule, positionRule, indexedRule};
 use crate::Bank;
 use crate::IMAGE_SIZE;
-use values::Cut;
+use operators::Position;
 use values::Fault;
 use values::Kind;
 use values::Outcome;
@@ -112,17 +112,18 @@ pub fn read(image: &[u8], bank: Bank, element: u32) -> Outcome
     }
 }
 
-// The index is cut first (13), then held against the bank (14), then the cell is read.
+// The element of a bank that an index names.
+pub fn position(bank: Bank, index: Value) -> Position
+    ensures { λ r. ⌜ r ≡ positionRule bank index ⌝ }
+{
+    operators::index(index, crate::layout_of(bank).elements)
+}
+
 pub fn read_indexed(image: &[u8], bank: Bank, index: Value) -> Outcome
     ensures { λ r. ⌜ r ≡ indexedRule (now (image .entry)) bank index ⌝ }
 {
-    match operators::index(index) {
-        Cut::Whole(i) => {
-            if i < 0 {
-                return Outcome::Stopped(Fault::IndexError);
-            }
-            read(image, bank, i as u32)
-        }
-        Cut::Outside => Outcome::Stopped(Fault::OutOfRange),
+    match position(bank, index) {
+        Position::At(i) => read(image, bank, i),
+        Position::Stopped(f) => Outcome::Stopped(f),
     }
 }

@@ -15,7 +15,7 @@ const LAST: [u32; 6] = [63, 63, 255, 255, 255, 255];
 
 const INTEGERS: [i32; 8] = [0, 1, -1, 32768, 65535, 65536, 2147483647, -2147483648];
 
-const SINGLES: [u32; 8] = [
+const SINGLES: [u32; 16] = [
     0x0000_0000, // 0.0
     0x8000_0000, // -0.0
     0x3f00_0000, // 0.5
@@ -24,14 +24,24 @@ const SINGLES: [u32; 8] = [
     0x4eff_ffff, // the single below 2 ^ 31
     0x4f00_0000, // 2 ^ 31
     0xcf00_0001, // the single below -(2 ^ 31)
+    0x8000_0001, // the subnormal just below zero
+    0xbf00_0000, // -0.5
+    0xbf80_0000, // -1.0
+    0xcf00_0000, // -(2 ^ 31)
+    0x427f_999a, // 63.9
+    0x4280_0000, // 64.0
+    0x437f_e666, // 255.9
+    0x4380_0000, // 256.0
 ];
+
+const OPERANDS: usize = 24;
 
 // The operand of a number: an integer, or a single.
 fn operand(k: usize) -> Value {
     if k < 8 {
         return Value::Int(INTEGERS[k]);
     }
-    if k < 16 {
+    if k < OPERANDS {
         return Value::Real(case_lines::single(SINGLES[k - 8]));
     }
     Value::Int(0)
@@ -88,7 +98,7 @@ fn indexed(image: &[u8; 3204], k: usize) {
     let mut end = case_lines::put(&mut line, 0, letter(k));
     end = case_lines::put_all(&mut line, end, b"[]");
     let mut i: usize = 0;
-    while i < 16 {
+    while i < OPERANDS {
         end = case_lines::put_outcome(
             &mut line,
             end,
@@ -176,7 +186,7 @@ fn image_lines(number: usize) {
 
 fn store_lines(number: usize, k: usize) {
     let mut i: usize = 0;
-    while i < 16 {
+    while i < OPERANDS {
         stores(number, k, i);
         i += 1;
     }

@@ -1,4 +1,4 @@
--- What holds of every rule, for the layers above: the kinds, and that values stay proper.
+-- What holds of every rule, for the layers above: the kinds, that values stay proper, and which element an index names.
 use mathlib.Core.Path.{_≡_, refl, sym, subst}
 use mathlib.Core.Bool.{Bool, true, false}
 use lib.Dec.{T}
@@ -16,6 +16,7 @@ use Rattle.operators.proofs.Gives.{Gives, int, real, stopped, Closed, r
 use Rattle.operators.proofs.Operators.{unary-gives, binary-gives}
 use Rattle.operators.proofs.Wrong.{unary-wrong, binary-wrong}
 use Rattle.operators.proofs.Properness.{proper-closed}
+use Rattle.operators.proofs.Positions.{index-below-zero, index-zero, index-element}
 
 -- ---- kinds: the property that says nothing
 abbrev Any : Value → Type 0
@@ -67,4 +68,7 @@ rule-laws = record {
   unary-proper = λ o v p. taken-or-not _ _ (unaryTakes o (kindOf v)) (λ t. unary-gives Proper proper-closed o v t p) (unary-wrong o v);
   binary-proper = λ o a b p q. taken-or-not _ _ (binaryTakes o (kindOf a) (kindOf b)) (λ t. binary-gives Proper proper-closed o a b t p q) (binary-wrong o a b);
   branch-proper = branch-proper;
+  index-below-zero = index-below-zero;
+  index-zero = index-zero;
+  index-element = λ n v i. index-element n i v;
 }

@@ -7,5 +7,6 @@ pub mod Classes
 pub mod Operators
 pub mod Wrong
 pub mod Properness
+pub mod Positions
 pub mod Laws
 mod Samples

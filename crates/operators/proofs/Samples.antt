@@ -1,5 +1,6 @@
--- The rules compute: paper 01's own examples on values, by `refl`. A real is compared by its pattern.
+-- The rules compute: examples of papers 01 and 02 on values, by `refl`. A real is compared by its pattern.
 use mathlib.Core.Path.{_≡_, refl}
+use mathlib.Core.Bool.{true, false}
 use Prim.Native.Nat.{ℕ}
 use lib.IntN.{pos, negsuc}
 use lib.Ieee as Ieee
@@ -7,16 +8,17 @@ use lib.Ieee.{binary32}
 use Rattle.reals.specs.declared.ArithOp.the-variants.{Div, Rem}
 use Rattle.values.specs.declared.Value.{Value}
 use Rattle.values.specs.declared.Value.the-variants.{Int, Real}
-use Rattle.values.specs.declared.Fault.the-variants.{DividedByZero, Overflow, OutOfRange}
+use Rattle.values.specs.declared.Fault.the-variants.{DividedByZero, Overflow, OutOfRange, IndexError}
 use Rattle.values.specs.declared.Outcome.{Outcome}
 use Rattle.values.specs.declared.Outcome.the-variants.{Done, Stopped, WrongKind}
 use Rattle.values.specs.declared.BitOp.the-variants.{And, Xor}
 use Rattle.values.specs.declared.ShiftOp.the-variants.{RightZero, Right}
 use Rattle.values.specs.declared.CompareOp.the-variants.{Eq}
 use Rattle.values.specs.declared.ChoiceOp.the-variants.{Max}
+use Rattle.operators.specs.declared.Position.the-variants as P
 use Rattle.operators.specs.declared.BinaryOp.the-variants.{Arith, Power, Shift, Compare, Bits, Choice}
 use Rattle.operators.specs.declared.UnaryOp.the-variants.{Neg, Complement, ToReal, Round, Frac}
-use Rattle.operators.specs.Operators.{unaryRule, binaryRule}
+use Rattle.operators.specs.Operators.{unaryRule, binaryRule, indexRule}
 
 abbrev real : ℕ → Value
 real b = Real (Ieee.ofBits binary32 b)
@@ -100,3 +102,37 @@ fraction = refl
 
 negates : unaryRule Neg (Int (negsuc 2147483647)) ≡ Stopped Overflow
 negates = refl
+
+-- D[-0.5] is 14, as is the single below -2147483648.0; D[-0.0] is D0; 2147483648.0 is 13, and 256.0 is past the last
+below-zero : indexRule 256 (real 0xBF00_0000) ≡ P.Stopped IndexError
+unfolding Ieee.ofBits Ieee.lt
+below-zero = refl
+
+far-below : indexRule 256 (real 0xCF00_0001) ≡ P.Stopped IndexError
+unfolding Ieee.ofBits Ieee.lt
+far-below = refl
+
+minus-nothing : indexRule 256 (real 0x8000_0000) ≡ P.At 0
+unfolding Ieee.ofBits Ieee.lt
+minus-nothing = refl
+
+far-above : indexRule 256 (real 0x4F00_0000) ≡ P.Stopped OutOfRange
+unfolding Ieee.ofBits Ieee.lt
+far-above = refl
+
+past-last : indexRule 256 (real 0x4380_0000) ≡ P.Stopped IndexError
+unfolding Ieee.ofBits Ieee.lt
+past-last = refl
+
+-- what no formula gives: minus infinity lies below zero, and the other infinity and a NaN outside 32 bits
+minus-infinity : indexRule 256 (Real (Ieee.inf true)) ≡ P.Stopped IndexError
+unfolding Ieee.lt
+minus-infinity = refl
+
+plus-infinity : indexRule 256 (Real (Ieee.inf false)) ≡ P.Stopped OutOfRange
+unfolding Ieee.lt
+plus-infinity = refl
+
+not-a-number : indexRule 256 (Real Ieee.nan) ≡ P.Stopped OutOfRange
+unfolding Ieee.lt
+not-a-number = refl

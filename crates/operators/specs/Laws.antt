@@ -1,21 +1,25 @@
 -- What holds of every rule, for the layers above: proofs/Laws.antt proves this record.
 use mathlib.Core.Path.{_≡_}
 use mathlib.Core.Bool.{Bool, true, false}
+use Prim.Native.Nat.{ℕ, _<_}
 use lib.Dec.{T}
-use lib.IntN.{ℤ}
+use lib.IntN.{ℤ, pos}
+use lib.Signed.{ltZ}
 use lib.Ieee.{Float}
-use Rattle.reals.specs.Singles.{Single}
+use Rattle.reals.specs.Singles.{Single, count}
 use Rattle.values.specs.declared.Kind.{Kind}
 use Rattle.values.specs.declared.Value.{Value}
 use Rattle.values.specs.declared.Value.the-variants.{Int, Real}
 use Rattle.values.specs.declared.Fault.{Fault}
+use Rattle.values.specs.declared.Fault.the-variants.{IndexError}
 use Rattle.values.specs.declared.Outcome.{Outcome}
 use Rattle.values.specs.declared.Outcome.the-variants.{Done, Stopped, WrongKind}
 use Rattle.values.specs.Values.{kindOf}
 use Rattle.values.specs.Integers.{inRange}
+use Rattle.operators.specs.declared.Position.the-variants as P
 use Rattle.operators.specs.declared.BinaryOp.{BinaryOp}
 use Rattle.operators.specs.declared.UnaryOp.{UnaryOp}
-use Rattle.operators.specs.Operators.{unaryRule, binaryRule, branchRule}
+use Rattle.operators.specs.Operators.{unaryRule, binaryRule, branchRule, indexRule}
 use Rattle.operators.specs.Kinds.{join, unaryKind, unaryTakes, binaryKind, binaryTakes}
 
 -- a value that a memory or a formula can hold: an integer of 32 bits or a finite single
@@ -45,3 +49,7 @@ pub record RuleLaws : Type 0 where
   pub unary-proper : (o : UnaryOp) (v : Value) → Proper v → AllProper (unaryRule o v)
   pub binary-proper : (o : BinaryOp) (a b : Value) → Proper a → Proper b → AllProper (binaryRule o a b)
   pub branch-proper : (v : Value) (k : Kind) → Proper v → Proper (branchRule v k)
+  -- of n elements, a single below zero names none, both zeros name the first, and an element that is named is one of them
+  pub index-below-zero : (n : ℕ) (x : Float) → Single x → T (ltZ (count x) (pos 0)) → indexRule n (Real x) ≡ P.Stopped IndexError
+  pub index-zero : (n : ℕ) (x : Float) → Single x → count x ≡ pos 0 → 0 < n → indexRule n (Real x) ≡ P.At 0
+  pub index-element : (n : ℕ) (v : Value) (i : ℕ) → indexRule n v ≡ P.At i → i < n

@@ -2,7 +2,8 @@
 -- the operator does not take (answer 9, told from the text alone). The numbers themselves are the crate values'.
 use mathlib.Core.Bool.{Bool, true, false, not, cond}
 use Prim.Native.Nat.{ℕ}
-use lib.IntN.{ℤ, pos, negℤ, natAbs}
+use lib.Dec.{ltb}
+use lib.IntN.{ℤ, pos, negsuc, negℤ, natAbs}
 use lib.Ieee.{Float}
 use Rattle.reals.specs.declared.ArithOp.{ArithOp}
 use Rattle.reals.specs.declared.ArithOp.the-variants.{Rem}
@@ -10,7 +11,7 @@ use Rattle.values.specs.declared.Kind.{Kind}
 use Rattle.values.specs.declared.Kind.the-variants as K
 use Rattle.values.specs.declared.Value.{Value}
 use Rattle.values.specs.declared.Value.the-variants.{Int, Real}
-use Rattle.values.specs.declared.Fault.the-variants.{OutOfRange}
+use Rattle.values.specs.declared.Fault.the-variants.{OutOfRange, IndexError}
 use Rattle.values.specs.declared.Outcome.{Outcome}
 use Rattle.values.specs.declared.Outcome.the-variants.{Done, Stopped, WrongKind}
 use Rattle.values.specs.declared.Cut.{Cut}
@@ -18,7 +19,7 @@ use Rattle.values.specs.declared.Cut.the-variants.{Whole, Outside}
 use Rattle.values.specs.declared.BitOp.{BitOp}
 use Rattle.values.specs.declared.ShiftOp.{ShiftOp}
 use Rattle.values.specs.declared.CompareOp.{CompareOp}
-use Rattle.values.specs.declared.CompareOp.the-variants.{Ne}
+use Rattle.values.specs.declared.CompareOp.the-variants.{Lt, Ne}
 use Rattle.values.specs.declared.ChoiceOp.{ChoiceOp}
 use Rattle.values.specs.Integers.{exactInt, intArith, compareInt, choiceInt, intPower}
 use Rattle.values.specs.Patterns.{bitwiseInt, complementInt, shiftInt}
@@ -26,6 +27,8 @@ use Rattle.values.specs.Singles.{zeroReal, oneReal, realArith, compareReal, cho
 use Rattle.values.specs.Convert.{promoted, truncated, rounded}
 use Rattle.operators.specs.declared.Pair.{Pair}
 use Rattle.operators.specs.declared.Pair.the-variants.{Ints, Reals}
+use Rattle.operators.specs.declared.Position.{Position}
+use Rattle.operators.specs.declared.Position.the-variants as P
 use Rattle.operators.specs.declared.BinaryOp.{BinaryOp}
 use Rattle.operators.specs.declared.BinaryOp.the-variants.{Arith, Power, Shift, Compare, Bits, Choice}
 use Rattle.operators.specs.declared.UnaryOp.{UnaryOp}
@@ -126,7 +129,17 @@ abbrev pub branchRule : Value → Kind → Value
 branchRule v K.Int = v
 branchRule v K.Real = Real (asReal v)
 
+-- "then 14 if outside its bank": the element of a number, among n
+abbrev pub elementBelow : ℕ → ℤ → Position
+elementBelow n (pos i) = cond (ltb i n) (P.At i) (P.Stopped IndexError)
+elementBelow n (negsuc i) = P.Stopped IndexError
+
 -- "An index is truncated if real (13 outside 32 bits)"
-abbrev pub indexRule : Value → Cut
-indexRule (Int z) = Whole z
-indexRule (Real x) = truncated x
+abbrev pub cutBelow : ℕ → Cut → Position
+cutBelow n (Whole z) = elementBelow n z
+cutBelow n Outside = P.Stopped OutOfRange
+
+-- "A real index below zero is now 14 before any truncation; -0.0 still reads element 0." (paper 02, Ask 5): the element that an index names, among n
+abbrev pub indexRule : ℕ → Value → Position
+indexRule n (Int z) = elementBelow n z
+indexRule n (Real x) = cond (compareReal Lt x zeroReal) (P.Stopped IndexError) (cutBelow n (truncated x))

@@ -1,7 +1,7 @@
-// Every operator of paper 01 on values: mixed kinds, truth, the branches of IF, and the value of an index. Kinds are in kinds.rt.
+// Every operator of paper 01 on values: mixed kinds, truth, the branches of IF, and the element that an index names. Kinds are in kinds.rt.
 ghost use mathlib.Core.Path.{_≡_};
 ghost use Rattle.operators.specs.Operators.{asReal, pairOf, arithRule, compareRule, choiceRule, powerRule, bitsRule, shiftRule};
-ghost use Rattle.operators.specs.Operators.{fromBool, cutOutcome, truthRule, unaryRule, binaryRule, branchRule, indexRule};
+ghost use Rattle.operators.specs.Operators.{fromBool, cutOutcome, truthRule, unaryRule, binaryRule, branchRule, elementBelow, cutBelow, indexRule};
 use reals::ArithOp;
 use values::BitOp;
 use values::ChoiceOp;
@@ -42,6 +42,12 @@ pub enum UnaryOp {
 pub enum Pair {
     Ints(i32, i32),
     Reals(f32, f32),
+}
+
+// What an index names: an element of its bank, or none.
+pub enum Position {
+    At(u32),
+    Stopped(Fault),
 }
 
 // A real as it is, an integer promoted.
@@ -239,11 +245,41 @@ pub fn branch(v: Value, other: Kind) -> Value
     }
 }
 
-pub fn index(v: Value) -> Cut
-    ensures { λ r. ⌜ r ≡ indexRule v ⌝ }
+// The element of a number: one that lies outside the bank names none.
+fn element_below(z: i32, elements: u32) -> Position
+    ensures { λ r. ⌜ r ≡ elementBelow elements z ⌝ }
+{
+    if z < 0 {
+        return Position::Stopped(Fault::IndexError);
+    }
+    let i = z as u32;
+    if i < elements {
+        Position::At(i)
+    } else {
+        Position::Stopped(Fault::IndexError)
+    }
+}
+
+fn cut_below(c: Cut, elements: u32) -> Position
+    ensures { λ r. ⌜ r ≡ cutBelow elements c ⌝ }
+{
+    match c {
+        Cut::Whole(z) => element_below(z, elements),
+        Cut::Outside => Position::Stopped(Fault::OutOfRange),
+    }
+}
+
+// The element that an index names, of a bank with so many. A real below zero names none, which a cut would hide; -0.0 is not below zero.
+pub fn index(v: Value, elements: u32) -> Position
+    ensures { λ r. ⌜ r ≡ indexRule elements v ⌝ }
 {
     match v {
-        Value::Int(z) => Cut::Whole(z),
-        Value::Real(x) => values::convert::truncate(x),
+        Value::Int(z) => element_below(z, elements),
+        Value::Real(x) => {
+            if x < 0.0 {
+                return Position::Stopped(Fault::IndexError);
+            }
+            cut_below(values::convert::truncate(x), elements)
+        }
     }
 }

@@ -2,12 +2,12 @@
 // A line has a name and the results for every operand of the table; for two operands the left one stands after the name.
 // A result is i and a signed decimal, r and a pattern, ! and a fault's number, or ? for an operand of the wrong kind.
 use operators::BinaryOp;
+use operators::Position;
 use operators::UnaryOp;
 use reals::ArithOp;
 use values::BitOp;
 use values::ChoiceOp;
 use values::CompareOp;
-use values::Cut;
 use values::Fault;
 use values::Kind;
 use values::Outcome;
@@ -63,7 +63,7 @@ const SINGLES: [u32; 22] = [
 enum Function {
     Unary(UnaryOp),
     Truth,
-    Index,
+    Index(u32),
     Branch(Kind),
     Binary(BinaryOp, Value),
 }
@@ -87,11 +87,11 @@ fn truth(v: Value) -> Value {
     }
 }
 
-// An index outside 32 bits is OutOfRange.
-fn index(v: Value) -> Outcome {
-    match operators::index(v) {
-        Cut::Whole(z) => Outcome::Done(Value::Int(z)),
-        Cut::Outside => Outcome::Stopped(Fault::OutOfRange),
+// The element that an index names, as an integer.
+fn index(v: Value, elements: u32) -> Outcome {
+    match operators::index(v, elements) {
+        Position::At(i) => Outcome::Done(Value::Int(values::patterns::from_pattern(i))),
+        Position::Stopped(f) => Outcome::Stopped(f),
     }
 }
 
@@ -99,7 +99,7 @@ fn apply(f: Function, v: Value) -> Outcome {
     match f {
         Function::Unary(op) => operators::unary(op, v),
         Function::Truth => Outcome::Done(truth(v)),
-        Function::Index => index(v),
+        Function::Index(elements) => index(v, elements),
         Function::Branch(other) => Outcome::Done(operators::branch(v, other)),
         Function::Binary(op, a) => operators::binary(op, a, v),
     }
@@ -151,7 +151,8 @@ fn ones() {
     one(b"branch of int", Function::Branch(Kind::Int));
     one(b"branch of real", Function::Branch(Kind::Real));
     one(b"truth", Function::Truth);
-    one(b"index", Function::Index);
+    one(b"index of 64", Function::Index(64));
+    one(b"index of 256", Function::Index(256));
     one(b"-", Function::Unary(UnaryOp::Neg));
     one(b"~", Function::Unary(UnaryOp::Complement));
     one(b"!", Function::Unary(UnaryOp::Not));

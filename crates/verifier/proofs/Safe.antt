@@ -7,22 +7,17 @@ use Prim.Native.Nat.{ℕ, zero, suc, _+_, _≤_, _<_}
 use native.Mathlib.Nat.{add-zero}
 use native.Mathlib.Omega.{arith}
 use lib.Dec.{T, ltb}
-use lib.IntN.{pos, negsuc}
 use lib.ListN.{length, drop, length-drop, length-map}
 use borrow.Author.Tests.{lt-ltb}
 use Rattle.values.specs.declared.Kind.{Kind}
 use Rattle.values.specs.declared.Value.{Value}
 use Rattle.values.specs.declared.Fault.{Fault}
-use Rattle.values.specs.declared.Fault.the-variants.{OutOfRange, IndexError}
-use Rattle.values.specs.declared.Cut.{Cut}
-use Rattle.values.specs.declared.Cut.the-variants.{Whole, Outside}
 use Rattle.values.specs.declared.Outcome.{Outcome}
 use Rattle.values.specs.Values.{kindOf}
-use Rattle.operators.specs.Operators.{truthRule, indexRule}
+use Rattle.operators.specs.Operators.{truthRule}
 use Rattle.operators.specs.Kinds.{unaryTakes, binaryTakes}
 use Rattle.operators.specs.Laws.{OfKind, done, stopped}
 use Rattle.operators.proofs.Laws.{rule-laws}
-use Rattle.memory.specs.Cells.{atIndex}
 use Rattle.memory.specs.Environment.{Environment, memoryOf}
 use Rattle.memory.proofs.Laws.{memory-laws}
 use Rattle.code.specs.declared.Instr.{Instr}
@@ -212,13 +207,8 @@ safe = record {
 
 -- ---- an actual memory
 
-at-index : {k : Kind} {f : ℕ → Outcome} → ((i : ℕ) → OfKind k (f i)) → (c : Cut) → OfKind k (atIndex f c)
-at-index w (Whole (pos i)) = w i
-at-index w (Whole (negsuc i)) = stopped IndexError
-at-index w Outside = stopped OutOfRange
-
 pub memory-kinded : (s : List ℕ) → Kinded (memoryOf s)
 memory-kinded s = record {
   cell = memory-laws .read-kind s;
-  indexed = λ b v. at-index (memory-laws .read-kind s b) (indexRule v);
+  indexed = memory-laws .indexed-kind s;
 }

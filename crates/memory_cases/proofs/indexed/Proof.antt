@@ -8,7 +8,7 @@ abbrev Inv-loop : tie.InvT-loop
 Inv-loop image k line₀ end₀ i₀ line end i = Unit {0}
 
 abbrev μ-loop : tie.MeasureT-loop
-μ-loop image k line₀ end₀ i₀ line end i = 16 - i
+μ-loop image k line₀ end₀ i₀ line end i = 24 - i
 
 letter-requires : tie.Need-letter-requires Inv-loop μ-loop
 letter-requires c κs = search needs
