@@ -3,4 +3,5 @@ pub mod Equality
 pub mod Counts
 pub mod Results
 pub mod Powers
-pub mod Units
+pub mod Products
+pub mod Squaring

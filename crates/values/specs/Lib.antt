@@ -1,5 +1,6 @@
 pub mod Values
 pub mod Integers
+pub mod Multiplications
 pub mod Patterns
 pub mod Singles
 pub mod Convert

@@ -7,6 +7,7 @@ ghost use lib.Signed.{quotZ, remZ};
 ghost use lib.Ieee.Nearest.{closest};
 ghost use Rattle.values.specs.Convert.{promoted, cut, truncated, rounded};
 use crate::Cut;
+use crate::integers::in_range;
 
 // The weight of the lowest bit that is kept: the number of leading zeros says how many low bits are rounded away.
 fn unit_of(m: u32) -> u32
@@ -54,16 +55,14 @@ pub fn promote(z: i32) -> f32
     -nearest(((-1 - z) as u32) + 1)
 }
 
-fn in_range(z: i64) -> Cut
+// The integer, or Outside 32 bits.
+fn whole(z: i64) -> Cut
     ensures { λ r. ⌜ r ≡ cut z ⌝ }
 {
-    if z < -2147483648 {
-        return Cut::Outside;
+    if in_range(z) {
+        return Cut::Whole(z as i32);
     }
-    if 2147483647 < z {
-        return Cut::Outside;
-    }
-    Cut::Whole(z as i32)
+    Cut::Outside
 }
 
 // Toward zero. The tests leave what 64 bits hold, and no infinity or NaN.
@@ -72,7 +71,7 @@ pub fn truncate(x: f32) -> Cut
 {
     if -9223372036854775808.0 <= x {
         if x < 9223372036854775808.0 {
-            return in_range(std::num::truncating_f32_to_i64(x));
+            return whole(std::num::truncating_f32_to_i64(x));
         }
     }
     Cut::Outside
@@ -82,7 +81,7 @@ pub fn truncate(x: f32) -> Cut
 fn halved(h: i64) -> Cut
     ensures { λ r. ⌜ r ≡ cut (quotZ h (pos 2) +ℤ remZ h (pos 2)) ⌝ }
 {
-    in_range(h / 2 + h % 2)
+    whole(h / 2 + h % 2)
 }
 
 // To the nearest integer, halves away from zero. Twice x is exact, and its cut keeps the half; x + 0.5 would be rounded.

@@ -1,8 +1,9 @@
 // 32-bit integers: the exact value, or a fault. Sums and products are worked out at 64 bits, which hold them.
 ghost use mathlib.Core.Path.{_≡_};
-ghost use Prim.Native.Nat.{_≤_};
-ghost use lib.IntN.{pos, negℤ, natAbs};
-ghost use Rattle.values.specs.Integers.{exactInt, intArith, compareInt, choiceInt, powZ, intPower};
+ghost use Prim.Native.Nat.{_+_, _≤_, _<_};
+ghost use lib.IntN.{pos, negℤ, natAbs, _*ℤ_};
+ghost use Rattle.values.specs.Integers.{inRange, exactInt, intArith, compareInt, choiceInt, intPower};
+ghost use Rattle.values.specs.Multiplications.{PowerCount};
 use crate::ChoiceOp;
 use crate::CompareOp;
 use crate::Fault;
@@ -10,17 +11,24 @@ use crate::Outcome;
 use crate::Value;
 use reals::ArithOp;
 
+// 32 bits hold z.
+pub fn in_range(z: i64) -> bool
+    ensures { λ r. ⌜ r ≡ inRange z ⌝ }
+{
+    if z < -2147483648 {
+        return false;
+    }
+    z <= 2147483647
+}
+
 // The integer, or Overflow outside 32 bits.
 pub fn exact(z: i64) -> Outcome
     ensures { λ r. ⌜ r ≡ exactInt z ⌝ }
 {
-    if z < -2147483648 {
-        return Outcome::Stopped(Fault::Overflow);
+    if in_range(z) {
+        return Outcome::Done(Value::Int(z as i32));
     }
-    if 2147483647 < z {
-        return Outcome::Stopped(Fault::Overflow);
-    }
-    Outcome::Done(Value::Int(z as i32))
+    Outcome::Stopped(Fault::Overflow)
 }
 
 // The least integer by -1 leaves 32 bits as a quotient, which is exact at 64, and has remainder 0.
@@ -83,57 +91,96 @@ pub fn absolute(a: i32) -> Outcome
     Outcome::Done(Value::Int(a))
 }
 
-// -1, 0 and 1 are their own third powers, so a power of one of them is 1, the base or its square.
-fn unit_power(a: i32, n: u32) -> i32
-    requires { ⌜ natAbs a ≤ 1 ⌝ }
-    ensures { λ r. ⌜ r ≡ powZ a n ⌝ }
-{
-    if n == 0 {
-        return 1;
-    }
-    if n % 2 == 0 { a * a } else { a }
+// A product, and how many multiplications were made up to it.
+struct Product {
+    value: i64,
+    count: u32,
 }
 
-// a to the power n, left early where it leaves 32 bits: it does not come back.
-fn multiplied(a: i32, n: u32) -> Outcome
-    ensures { λ r. ⌜ r ≡ exactInt (powZ a n) ⌝ }
-{
-    let base = a as i64;
-    let mut p: i64 = 1;
-    let mut k: u32 = 0;
-    while k < n {
-        p = p * base;
-        if p < -2147483648 {
-            return Outcome::Stopped(Fault::Overflow);
-        }
-        if 2147483647 < p {
-            return Outcome::Stopped(Fault::Overflow);
-        }
-        k += 1;
-    }
-    Outcome::Done(Value::Int(p as i32))
+// The outcome of a power, and how many multiplications it took.
+pub struct CountedPower {
+    pub outcome: Outcome,
+    pub count: u32,
 }
 
-// Only -1, 0 and 1 stay within 32 bits however many factors there are, so these need no loop.
-fn product(a: i32, n: u32) -> Outcome
-    ensures { λ r. ⌜ r ≡ exactInt (powZ a n) ⌝ }
+// The one multiplication of a whole power.
+fn times(x: i32, y: i32, count: u32) -> Product
+    requires { ⌜ count < 12 ⌝ }
+    ensures { λ r. ⌜ (r .value ≡ x *ℤ y) × (r .count ≡ count + 1) ⌝ }
 {
-    if -2 < a {
-        if a < 2 {
-            return Outcome::Done(Value::Int(unit_power(a, n)));
+    Product {
+        value: (x as i64) * (y as i64),
+        count: count + 1,
+    }
+}
+
+// By the binary digits of n from the highest down: a square for each digit after the first, and the base once more for a one. What is
+// held is always a power of a with an exponent of at most n, so a product that leaves 32 bits is one that the power needs, and it
+// does not come back.
+fn binary_power(a: i32, n: u32) -> CountedPower
+    requires { ⌜ (0 < n) × (n ≤ 64) ⌝ }
+    ensures { λ r. ⌜ PowerCount a (pos n) (r .outcome) (r .count) ⌝ }
+{
+    let mut left = 31 - u32::leading_zeros(n);
+    let mut p = a;
+    let mut count: u32 = 0;
+    while 0 < left {
+        left -= 1;
+        let square = times(p, p, count);
+        if !in_range(square.value) {
+            return CountedPower {
+                outcome: Outcome::Stopped(Fault::Overflow),
+                count: square.count,
+            };
+        }
+        p = square.value as i32;
+        count = square.count;
+        if (n >> left) % 2 == 1 {
+            let product = times(p, a, count);
+            if !in_range(product.value) {
+                return CountedPower {
+                    outcome: Outcome::Stopped(Fault::Overflow),
+                    count: product.count,
+                };
+            }
+            p = product.value as i32;
+            count = product.count;
         }
     }
-    multiplied(a, n)
+    CountedPower {
+        outcome: Outcome::Done(Value::Int(p)),
+        count: count,
+    }
+}
+
+pub fn counted_power(a: i32, n: i32) -> CountedPower
+    ensures { λ r. ⌜ PowerCount a n (r .outcome) (r .count) ⌝ }
+{
+    if n < 0 {
+        return CountedPower {
+            outcome: Outcome::Stopped(Fault::OutOfRange),
+            count: 0,
+        };
+    }
+    if 64 < n {
+        return CountedPower {
+            outcome: Outcome::Stopped(Fault::OutOfRange),
+            count: 0,
+        };
+    }
+    let exponent = n as u32;
+    if exponent == 0 {
+        return CountedPower {
+            outcome: Outcome::Done(Value::Int(1)),
+            count: 0,
+        };
+    }
+    binary_power(a, exponent)
 }
 
 pub fn power(a: i32, n: i32) -> Outcome
     ensures { λ r. ⌜ r ≡ intPower a n ⌝ }
 {
-    if n < 0 {
-        return Outcome::Stopped(Fault::OutOfRange);
-    }
-    if 64 < n {
-        return Outcome::Stopped(Fault::OutOfRange);
-    }
-    product(a, n as u32)
+    let power = counted_power(a, n);
+    power.outcome
 }

@@ -16,6 +16,10 @@ pub not-negative : (z : ℤ) → ltZ z (pos 0) ≡ false → T (nonNeg z)
 not-negative (pos n) e = tt
 not-negative (negsuc n) e = absurd (true≢false e)
 
+pub natural : (z : ℤ) → T (nonNeg z) → pos (natAbs z) ≡ z
+natural (pos n) t = refl
+natural (negsuc n) t = absurd t
+
 module _ (m : ℕ) where
   pub below-count : (z : ℤ) → ltZ z (pos 0) ≡ true → between (pos 0) (pos m) z ≡ false
   below-count (pos n) e = absurd (false≢true (sym (leb·suc-zero n) ∙ e))

@@ -1,4 +1,4 @@
--- Powers of an integer: one that leaves 32 bits does not come back, and a loop that multiplies holds the power reached so far.
+-- Powers of an integer: one that leaves 32 bits does not come back.
 use mathlib.Core.Path.{_≡_, refl, sym, ap, _∙_, subst}
 use mathlib.Core.Logic.{⊎-elim}
 use mathlib.Core.Bool.{true, false, and-true}
@@ -56,25 +56,3 @@ stays-outside a j n l e =
     (λ q. subst (λ (m : ℕ). inRange (powZ a m) ≡ false) q e)
     (λ k. size-outside (powZ a n) (rw (pow-size a n) (grows (natAbs a) j n k (rw (pow-size a j) at (outside-size (powZ a j) e)))))
     (eq-or-lt-of-le l)
-
--- ---- the loop: after k of n turns it holds p
-pub record Reached (a : ℤ) (n k : ℕ) (p : ℤ) : Type 0 where
-  pub power : p ≡ powZ a k
-  pub fits : SFits w32 p
-  pub count : k ≤ n
-
-pub reached-none : (a : ℤ) (n : ℕ) → Reached a n 0 (pos 1)
-reached-none a n = record { power = refl; fits = record { sfits = lit< tt }; count = zero-le }
-
-module _ (a : ℤ) (n k : ℕ) (p : ℤ) (R : Reached a n k p) where
-  power-next : p *ℤ a ≡ powZ a (suc k)
-  power-next = ap (λ (z : ℤ). z *ℤ a) (R .power)
-
-  pub reached-next : k < n → inRange (p *ℤ a) ≡ true → Reached a n (k + 1) (p *ℤ a)
-  reached-next l e = rw (add-one k) (record { power = power-next; fits = range-sfits (p *ℤ a) e; count = l })
-
-  pub reached-outside : k < n → inRange (p *ℤ a) ≡ false → Stopped Overflow ≡ exactInt (powZ a n)
-  reached-outside l e = rw (stays-outside a (suc k) n l (rw power-next at e))
-
-  pub reached-all : n ≤ k → Done (Int p) ≡ exactInt (powZ a n)
-  reached-all l = exact-within p (R .fits) ∙ ap exactInt (R .power ∙ ap (powZ a) (le-antisymm (R .count) l))

@@ -16,8 +16,8 @@ truncating-f32-to-i64-requires : tie.Need-truncating-f32-to-i64-requires
 unfolding ofBits neg
 truncating-f32-to-i64-requires c κs = (rw (c .before .if1 .taken) tt, rw (c .if2 .taken) tt)
 
-in-range-requires : tie.Need-in-range-requires
-in-range-requires c κs = search needs
+whole-requires : tie.Need-whole-requires
+whole-requires c κs = search needs
 
 returns : tie.Need-returns
 unfolding ofBits neg
@@ -25,7 +25,7 @@ returns c =
     let b = c .before .before in
     let F : SFits w64 (c .before .truncating-f32-to-i64 .result) = search needs in
     let e = toZ-ofZ w64 _ F ∙ c .before .truncating-f32-to-i64 .ensures in
-    c .in-range .ensures ∙ ap cut e ∙ truncated-is _ (b .before .if1 .taken) (b .if2 .taken)
+    c .whole .ensures ∙ ap cut e ∙ truncated-is _ (b .before .if1 .taken) (b .if2 .taken)
 
 returns-2 : tie.Need-returns-2
 unfolding ofBits neg
@@ -38,4 +38,4 @@ returns-3 c = truncated-outside _ (inl (not-less _ _ (c .if1 .left)))
 pub truncate-spec : {M : Type 1} → statement M
 truncate-spec =
     tie.close
-    (tie.spec truncating-f32-to-i64-requires in-range-requires returns returns-2 returns-3)
+    (tie.spec truncating-f32-to-i64-requires whole-requires returns returns-2 returns-3)

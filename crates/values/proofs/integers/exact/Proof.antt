@@ -1,38 +1,37 @@
--- `values::integers::exact` meets its contract: its two comparisons find whether 32 bits hold z.
-use mathlib.Core.Path.{_≡_}
+-- `values::integers::exact` meets its contract: `in_range` decides.
+use borrow.Author.Needs.{needs}
+use mathlib.Core.Path.{_≡_, sym, _∙_}
 use mathlib.Core.Bool.{true}
 use mir.Syntax.{w32, w64}
 use mir.ValLaws.{toZ-ofZ}
 use Rattle.values.specs.Integers.{inRange}
-use Rattle.values.proofs.Ranges.{below-range, above-range, within-range, range-sfits}
+use Rattle.values.proofs.Ranges.{range-sfits}
+use Rattle.values.proofs.integers.Results.{exact-within}
 use Rattle.values.proofs.integers.exact.Statement.{statement}
 use Rattle.values.proofs.integers.exact.Tie as tie
 
-within : (c : tie.Else2) → inRange (c .before .before .args .z) ≡ true
-within c =
-    let z = c .before .before .args .z in
-    let e = toZ-ofZ w64 z (c .before .before .fits .z) in
-    within-range z (rw e at (c .before .if1 .left)) (rw e at (c .if2 .left))
+tested : (c : tie.After-in-range) → c .in-range .result ≡ inRange (c .before .args .z)
+tested c = rw (toZ-ofZ w64 (c .before .args .z) (c .before .fits .z)) at (c .in-range .ensures)
 
-returns : tie.Need-returns
-returns c =
-    let z = c .before .args .z in
-    rw (below-range z (rw (toZ-ofZ w64 z (c .before .fits .z)) at (c .if1 .taken)))
+within : (c : tie.Then1) → inRange (c .before .before .args .z) ≡ true
+within c = sym (tested (c .before)) ∙ c .if1 .taken
 
-returns-2 : tie.Need-returns-2
-returns-2 c =
-    let z = c .before .before .args .z in
-    rw (above-range z (rw (toZ-ofZ w64 z (c .before .before .fits .z)) at (c .if2 .taken)))
+in-range-requires : tie.Need-in-range-requires
+in-range-requires c κs = search needs
 
-cast-t5 : tie.Need-cast-t5
-cast-t5 c =
+cast-t3 : tie.Need-cast-t3
+cast-t3 c =
     let z = c .before .before .args .z in
     rw (toZ-ofZ w64 z (c .before .before .fits .z)) (range-sfits z (within c))
 
-returns-3 : tie.Need-returns-3
-returns-3 c =
+returns : tie.Need-returns
+returns c =
     let z = c .before .before .args .z in
-    rw (toZ-ofZ w64 z (c .before .before .fits .z), toZ-ofZ w32 z (range-sfits z (within c)), within c)
+    let F = range-sfits z (within c) in
+    rw (toZ-ofZ w64 z (c .before .before .fits .z), toZ-ofZ w32 z F) (exact-within z F)
+
+returns-2 : tie.Need-returns-2
+returns-2 c = rw (sym (tested (c .before)) ∙ c .if1 .left)
 
 pub exact-spec : {M : Type 1} → statement M
-exact-spec = tie.close (tie.spec returns returns-2 cast-t5 returns-3)
+exact-spec = tie.close (tie.spec in-range-requires cast-t3 returns returns-2)
