@@ -11,15 +11,11 @@ use lib.ListN.{length}
 use Rattle.words.specs.Laws.{Bytes}
 use Rattle.values.specs.declared.Value.{Value}
 use Rattle.values.specs.declared.Fault.{Fault}
-use Rattle.values.specs.declared.Fault.the-variants.{OutOfRange, IndexError}
-use Rattle.values.specs.declared.Cut.{Cut}
-use Rattle.values.specs.declared.Cut.the-variants.{Whole, Outside}
 use Rattle.values.specs.declared.Outcome.{Outcome}
-use Rattle.operators.specs.Operators.{truthRule, indexRule}
+use Rattle.operators.specs.Operators.{truthRule}
 use Rattle.operators.specs.Laws.{Proper, int, real, AllProper, done, stopped, wrong}
 use Rattle.operators.proofs.Laws.{rule-laws}
 use Rattle.memory.specs.declared.Bank.{Bank}
-use Rattle.memory.specs.Cells.{atIndex}
 use Rattle.memory.specs.Environment.{Environment, memoryOf}
 use Rattle.memory.proofs.Laws.{memory-laws}
 use Rattle.code.specs.declared.Instr.{Instr}
@@ -44,13 +40,6 @@ pub data ProperEnd : Ended → Type 0 where
 data ProperNext : Next → Type 0 where
   on : {k : ℕ} {st : List Value} → AllHeld st → ProperNext (goes k st)
   end : {e : Ended} → ProperEnd e → ProperNext (halts e)
-
--- ---- a memory
-
-at-index : {f : ℕ → Outcome} → ((i : ℕ) → AllProper (f i)) → (c : Cut) → AllProper (atIndex f c)
-at-index h (Whole (pos i)) = h i
-at-index h (Whole (negsuc i)) = stopped IndexError
-at-index h Outside = stopped OutOfRange
 
 -- ---- one instruction
 
@@ -78,7 +67,7 @@ module _ (m : List ℕ) (bytes : Bytes m) where
   acts (push-real x h) s = pushes s (real x h)
   acts (load b i h) s = gives s (memory-laws .read-proper m b i bytes)
   acts (load-indexed b) none = end stuck
-  acts (load-indexed b) (more {v} p s) = gives s (at-index (λ i. memory-laws .read-proper m b i bytes) (indexRule v))
+  acts (load-indexed b) (more {v} p s) = gives s (memory-laws .indexed-proper m b v bytes)
   acts (unary o) none = end stuck
   acts (unary o) (more {v} p s) = gives s (rule-laws .unary-proper o v p)
   acts (binary o) none = end stuck

@@ -22,7 +22,7 @@ use Rattle.memory.proofs.Places.{cell-within, no-flag, apart}
 use Rattle.memory.proofs.Runs.{run-written}
 use Rattle.memory.proofs.Kept.{same-length, cell-kept, flag-kept, read-other, read-flagged}
 use Rattle.memory.proofs.Flags.{flag-set, flag-other}
-use Rattle.memory.proofs.Readings.{read-proper, read-kind, indexed-kind}
+use Rattle.memory.proofs.Readings.{read-proper, read-kind, indexed-proper, indexed-kind}
 use Rattle.memory.proofs.store.Encodings.{below, bit-stored}
 use Rattle.memory.proofs.Representations.{represents}
 
@@ -63,6 +63,7 @@ memory-laws =
       bit-stored = bit-stored;
       read-proper = read-proper;
       read-kind = read-kind;
+      indexed-proper = indexed-proper;
       indexed-kind = indexed-kind;
       read-back = read-back;
       flag-set = flag-set;

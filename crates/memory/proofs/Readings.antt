@@ -100,3 +100,11 @@ cell-below s b i h g =
 
 pub read-proper : (s : List ℕ) (b : Bank) (i : ℕ) → Bytes s → AllProper (readRule s b i)
 read-proper s b i h = read-has AllProper (AllProper.stopped IndexError) s b i (λ g. cell-proper b (little (bytesAt s b i)) (cell-below s b i h g))
+
+position-proper : (s : List ℕ) (b : Bank) (p : Position) → Bytes s → AllProper (readAt s b p)
+position-proper s b (P.At i) h = read-proper s b i h
+position-proper s b (P.Stopped f) h = AllProper.stopped f
+
+pub indexed-proper : (s : List ℕ) (b : Bank) (v : Value) → Bytes s → AllProper (indexedRule s b v)
+indexed-proper s b v h = position-proper s b (positionRule b v) h
+

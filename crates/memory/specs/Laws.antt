@@ -59,6 +59,7 @@ pub record MemoryLaws : Type 0 where
   pub read-proper : (s : List ℕ) (b : Bank) (i : ℕ) → Bytes s → AllProper (readRule s b i)
   pub read-kind : (s : List ℕ) (b : Bank) (i : ℕ) → OfKind (bankKind b) (readRule s b i)
   -- and so does an index
+  pub indexed-proper : (s : List ℕ) (b : Bank) (v : Value) → Bytes s → AllProper (indexedRule s b v)
   pub indexed-kind : (s : List ℕ) (b : Bank) (v : Value) → OfKind (bankKind b) (indexedRule s b v)
   -- so a value that the bank holds as it is reads back as itself: an integer from D, a real from R
   pub read-back : (s : List ℕ) (b : Bank) (i : ℕ) (v : Value) → T (hasCell s b i) → Representable b v → readRule (storeImage s b i v) b i ≡ Done v
