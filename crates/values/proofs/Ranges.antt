@@ -43,5 +43,8 @@ pub read-wide : (z : ℤ) → SFits w32 z → toZ w64 (ofZ w64 (toZ w32 (ofZ w32
 read-wide z F = rw (toZ-ofZ w32 z F) (toZ-ofZ w64 z (widen z F))
 
 -- cast from i64 to i32, and read there
-pub read-narrow : (z : ℤ) → SFits w32 z → toZ w32 (ofZ w32 (toZ w64 (ofZ w64 z))) ≡ z
+abbrev pub narrow : ℤ → ℤ
+narrow z = toZ w32 (ofZ w32 (toZ w64 (ofZ w64 z)))
+
+pub read-narrow : (z : ℤ) → SFits w32 z → narrow z ≡ z
 read-narrow z F = rw (toZ-ofZ w64 z (widen z F)) (toZ-ofZ w32 z F)

@@ -9,14 +9,14 @@ use Rattle.values.specs.declared.Outcome.{Outcome}
 use Rattle.values.specs.declared.Outcome.the-variants.{Stopped}
 use Rattle.values.specs.Integers.{exactInt, exponent, intPower}
 
--- what k multiplications make of a: none of them 1 or a, and each further one the square of what was made, or a times it
+-- z is made of a by k multiplications: 1 and a take none, and each further one is what was made times itself or times a
 pub data Chain (a : ℤ) : ℕ → ℤ → Type 0 where
   one : Chain a zero (pos 1)
   base : Chain a zero a
   square : {k : ℕ} {z : ℤ} → Chain a k z → Chain a (suc k) (z *ℤ z)
   factor : {k : ℕ} {z : ℤ} → Chain a k z → Chain a (suc k) (z *ℤ a)
 
--- o is the power, and the outcome of a product that k multiplications make; k is at most twelve
+-- o is a to the power n and the outcome of a product that k multiplications made, at most twelve
 pub record PowerCount (a n : ℤ) (o : Outcome) (k : ℕ) : Type 0 where
   pub power : o ≡ intPower a n
   pub product : ℤ

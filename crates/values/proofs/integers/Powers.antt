@@ -1,23 +1,15 @@
 -- Powers of an integer: one that leaves 32 bits does not come back.
 use mathlib.Core.Path.{_≡_, refl, sym, ap, _∙_, subst}
 use mathlib.Core.Logic.{⊎-elim}
-use mathlib.Core.Bool.{true, false, and-true}
-use Prim.Native.Nat.{ℕ, zero, suc, _+_, _*_, _^_, _≤_, _<_, zero-le}
-use native.Mathlib.Nat.{eq-or-lt-of-le, le-antisymm, mul-le-mul, pow-zero, pow-suc, pow-le-pow-left, pow-le-pow-right}
-use native.Mathlib.Numerals.{add-one}
+use mathlib.Core.Bool.{false, and-true}
+use Prim.Native.Nat.{ℕ, zero, suc, _*_, _^_, _≤_, _<_, zero-le}
+use native.Mathlib.Nat.{eq-or-lt-of-le, mul-le-mul, pow-zero, pow-suc, pow-le-pow-left, pow-le-pow-right}
 use native.Mathlib.Omega.{arith}
-use lib.Dec.{leb, lit<}
-use lib.IntN.{ℤ, pos, negsuc, natAbs, _*ℤ_}
+use lib.Dec.{leb}
+use lib.IntN.{ℤ, pos, negsuc, natAbs}
 use borrow.Author.Tests.{leb-false, lt-leb}
-use mir.Syntax.{w32}
-use mir.Val.{SFits}
-use Rattle.values.specs.declared.Value.the-variants.{Int}
-use Rattle.values.specs.declared.Fault.the-variants.{Overflow}
-use Rattle.values.specs.declared.Outcome.the-variants.{Done, Stopped}
-use Rattle.values.specs.Integers.{inRange, exactInt, powZ}
-use Rattle.values.proofs.Ranges.{range-sfits}
+use Rattle.values.specs.Integers.{inRange, powZ}
 use Rattle.values.proofs.integers.Sizes.{mul-size}
-use Rattle.values.proofs.integers.Results.{exact-within}
 
 -- ---- the size of a power
 pow-size : (a : ℤ) (n : ℕ) → natAbs (powZ a n) ≡ natAbs a ^ n

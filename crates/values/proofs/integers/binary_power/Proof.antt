@@ -2,17 +2,18 @@
 -- 32 bits, and the multiplications made and two for each digit left are at most twelve. The measure is the number of digits left.
 use mathlib.Core.Path.{_≡_, sym, ap₂, _∙_, subst}
 use mathlib.Core.Bool.{true}
-use Prim.Native.Nat.{suc, _+_, _-_, _/_, _%_, _^_}
+use Prim.Native.Nat.{suc, _+_, _-_}
 use native.Mathlib.Omega.{arith}
-use lib.IntN.{ℤ, _*ℤ_}
+use lib.IntN.{_*ℤ_}
 use borrow.Author.Needs.{needs}
 use borrow.Author.Tests.{not-true, not-false}
 use mir.Syntax.{w32, w64}
 use mir.Val.{SFits, toZ, ofZ}
 use mir.ValLaws.{toZ-ofZ}
 use Rattle.values.specs.Integers.{inRange}
-use Rattle.values.proofs.Ranges.{range-sfits, widen, read-narrow}
-use Rattle.values.proofs.integers.Squaring.{Reached, zeros-le, reached-first, square-few, square-outside, reached-even, factor-outside, reached-odd, reached-all}
+use Rattle.values.proofs.Ranges.{range-sfits, widen, narrow, read-narrow}
+use Rattle.values.proofs.integers.Squaring.{Reached, zeros-le, reached-first, reached-even, reached-odd, reached-all}
+use Rattle.values.proofs.integers.Squaring.{square-few, square-outside, factor-outside}
 use Rattle.values.proofs.integers.binary_power.Statement.{statement}
 use Rattle.values.proofs.integers.binary_power.Tie as tie
 
@@ -22,10 +23,10 @@ Inv-loop a n left₀ p₀ count₀ left p count = Reached (toZ w32 a) n left (to
 abbrev μ-loop : tie.MeasureT-loop
 μ-loop a n left₀ p₀ count₀ left p count = left
 
--- ---- what a turn knows
--- one digit more is left
+-- ---- what a turn knows: one digit more is left, and what each of the two multiplications gave
 turn : (c : tie.In-loop Inv-loop μ-loop)
-    → Reached (c .before .before .args .a) (c .before .before .args .n) (suc (c .before .loop .left - 1)) (toZ w32 (c .before .loop .p)) (c .before .loop .count)
+    → Reached (c .before .before .args .a) (c .before .before .args .n) (suc (c .before .loop .left - 1)) (toZ w32 (c .before .loop .p))
+    (c .before .loop .count)
 turn c =
     let s = c .before .before in
     let l = c .before .loop in
@@ -41,13 +42,18 @@ square-tested c =
 square-within : (c : tie.Else1 Inv-loop μ-loop) → inRange (c .before .before .before .times .result .value) ≡ true
 square-within c = sym (square-tested (c .before)) ∙ not-false _ (c .if1 .left)
 
+abbrev squareAt : tie.After-times2 Inv-loop μ-loop → tie.After-times Inv-loop μ-loop
+squareAt c = c .before .before .before .before .before .before .before
+
 factor-given : (c : tie.After-times2 Inv-loop μ-loop)
-    → (c .times2 .result .value ≡ c .before .before .before .before .before .before .before .times .result .value *ℤ c .before .before .before .before .before .before .before .before .before .before .args .a) × (c .times2 .result .count ≡ c .before .before .before .before .before .before .before .times .result .count + 1)
+    → (c .times2 .result .value ≡ squareAt c .times .result .value *ℤ squareAt c .before .before .before .args .a)
+    × (c .times2 .result .count ≡ squareAt c .times .result .count + 1)
 factor-given c =
-    let s = c .before .before .before .before .before .before .before .before .before .before in
-    let v = c .before .before .before .before .before .before .before .times .result .value in
+    let v = squareAt c .times .result .value in
+    let s = squareAt c .before .before .before in
+    let e : c .times2 .result .value ≡ narrow v *ℤ toZ w32 (ofZ w32 (s .args .a)) = c .times2 .ensures .0 in
     let F = range-sfits v (square-within (c .before .before .before .before)) in
-    (c .times2 .ensures .0 ∙ ap₂ (λ x y. x *ℤ y) (read-narrow v F) (toZ-ofZ w32 (s .args .a) (s .fits .a)), c .times2 .ensures .1)
+    (e ∙ ap₂ (λ x y. x *ℤ y) (read-narrow v F) (toZ-ofZ w32 (s .args .a) (s .fits .a)), c .times2 .ensures .1)
 
 factor-tested : (c : tie.After-in-range2 Inv-loop μ-loop) → c .in-range2 .result ≡ inRange (c .before .before .times2 .result .value)
 factor-tested c =
@@ -83,7 +89,8 @@ returns : tie.Need-returns Inv-loop μ-loop
 returns c =
     let t = c .before .before .before in
     let s = t .before .before .before in
-    square-outside _ _ _ _ _ (turn (t .before)) (s .pre .1) _ _ (t .times .ensures) (sym (square-tested (c .before)) ∙ not-true _ (c .if1 .taken))
+    square-outside _ _ _ _ _ (turn (t .before)) (s .pre .1) _ _ (t .times .ensures)
+    (sym (square-tested (c .before)) ∙ not-true _ (c .if1 .taken))
 
 cast-p : tie.Need-cast-p Inv-loop μ-loop
 cast-p c =
@@ -105,7 +112,7 @@ in-range-requires-2 c κs = tt
 returns-2 : tie.Need-returns-2 Inv-loop μ-loop
 returns-2 c =
     let f = c .before .before .before in
-    let t = f .before .before .before .before .before .before .before in
+    let t = squareAt f in
     factor-outside _ _ _ _ _ (turn (t .before)) (t .before .before .before .pre .1) _ _ (t .times .ensures) _ _ (factor-given f) (f .before .if2 .taken)
     (sym (factor-tested (c .before)) ∙ not-true _ (c .if3 .taken))
 
@@ -121,7 +128,7 @@ loop-less c = omega (arith, c .before .before .before .before .before .before .b
 loop-again : tie.Need-loop-again Inv-loop μ-loop
 loop-again c =
     let f = c .before .before .before .before .before in
-    let t = f .before .before .before .before .before .before .before in
+    let t = squareAt f in
     let s = t .before .before .before in
     let within = factor-within (c .before .before) in
     rw (toZ-ofZ w32 (s .args .a) (s .fits .a), read-narrow _ (range-sfits _ within))

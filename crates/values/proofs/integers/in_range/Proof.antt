@@ -1,5 +1,5 @@
 -- `values::integers::in_range` meets its contract: its two comparisons are the range test.
-use mathlib.Core.Path.{_≡_, sym}
+use mathlib.Core.Path.{sym}
 use mir.Syntax.{w64}
 use mir.ValLaws.{toZ-ofZ}
 use Rattle.values.proofs.Ranges.{below-range, upper-range}
