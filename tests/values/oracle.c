@@ -33,7 +33,13 @@ static const uint32_t singles[] = {
     0x4EFFFFFF, 0x4F000000, 0xCF000000, 0xCF000001, 0x7F7FFFFF, 0xFF7FFFFF,
 };
 
+// Bases and exponents of whole powers.
+static const int32_t bases[] = {INT32_MIN, -46341, -46340, -3, -2, -1, 0, 1, 2, 3, 46340, 46341, INT32_MAX};
+static const int32_t exponents[] = {0, 1, 2, 3, 4, 5, 6, 7, 15, 16, 30, 31, 32, 33, 62, 63, 64, 65, -1};
+
 enum {
+    BASES = sizeof bases / sizeof *bases,
+    EXPONENTS = sizeof exponents / sizeof *exponents,
     INTEGERS = sizeof integers / sizeof *integers,
     OPERANDS = INTEGERS + sizeof singles / sizeof *singles,
 };
@@ -213,6 +219,39 @@ static void print(Result v) {
     }
 }
 
+// Squaring from the highest binary digit down: a multiplication for each digit after the first, and one more for each of them that is
+// a one, up to the product that leaves 32 bits.
+static int multiplications(int32_t base, int32_t exponent) {
+    if (exponent < 1 || exponent > 64) return 0;
+    int left = 0, count = 0;
+    while (exponent >> left > 1) left++;
+    for (int64_t p = base; left > 0 && exact(p).is == INTEGER; left--) {
+        p *= p;
+        count++;
+        if (exponent >> (left - 1) & 1 && exact(p).is == INTEGER) {
+            p *= base;
+            count++;
+        }
+    }
+    return count;
+}
+
+static void print_powers(void) {
+    int most = 0;
+    for (int m = 0; m < BASES; m++) {
+        printf("powers of");
+        print(integer(bases[m]));
+        putchar(':');
+        for (int n = 0; n < EXPONENTS; n++) {
+            int count = multiplications(bases[m], exponents[n]);
+            print(power(integer(bases[m]), integer(exponents[n])));
+            if (most < count) most = count;
+        }
+        putchar('\n');
+    }
+    printf("most multiplications %d\n", most);
+}
+
 int main(void) {
     static const char *const ones[] = {
         "branch of int", "branch of real", "truth", "index of 64", "index of 256", "-", "~", "!", "ABS", "TOREAL", "TRUNC", "ROUND", "FRAC",
@@ -235,5 +274,6 @@ int main(void) {
             putchar('\n');
         }
     }
+    print_powers();
     return 0;
 }

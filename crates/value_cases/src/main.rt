@@ -1,6 +1,7 @@
 // Every operator on a table of edge cases, to compare with an oracle on hardware floats: tests/values/oracle.c.
 // A line has a name and the results for every operand of the table; for two operands the left one stands after the name.
 // A result is i and a signed decimal, r and a pattern, ! and a fault's number, or ? for an operand of the wrong kind.
+// The last lines have whole powers, and the most multiplications that one of them takes.
 use operators::BinaryOp;
 use operators::Position;
 use operators::UnaryOp;
@@ -57,6 +58,45 @@ const SINGLES: [u32; 22] = [
     0xcf00_0001, // the single below that
     0x7f7f_ffff, // the largest single
     0xff7f_ffff, // the least single
+];
+
+// Bases and exponents of whole powers. 46340 is the largest integer whose square 32 bits hold.
+const BASES: [i32; 13] = [
+    -2147483648,
+    -46341,
+    -46340,
+    -3,
+    -2,
+    -1,
+    0,
+    1,
+    2,
+    3,
+    46340,
+    46341,
+    2147483647,
+];
+
+const EXPONENTS: [i32; 19] = [
+    0,
+    1,
+    2,
+    3,
+    4,
+    5,
+    6,
+    7,
+    15,
+    16,
+    30,
+    31,
+    32,
+    33,
+    62,
+    63,
+    64,
+    65,
+    -1,
 ];
 
 // What takes one operand. An operator with its left operand is among these: it takes the right one.
@@ -186,8 +226,46 @@ fn twos() {
     two(b"MIN", BinaryOp::Choice(ChoiceOp::Min));
 }
 
+// Writes a line of the powers of one base, and gives the most multiplications that one of them takes.
+fn powers_of(a: i32) -> u32 {
+    let mut line = [0u8; 512];
+    let mut end = case_lines::put_all(&mut line, 0, b"powers of");
+    end = case_lines::put_outcome(&mut line, end, Outcome::Done(Value::Int(a)));
+    end = case_lines::put(&mut line, end, b':');
+    let mut most = 0;
+    for n in 0usize..19 {
+        let power = values::integers::counted_power(a, EXPONENTS[n]);
+        let outcome = power.outcome;
+        end = case_lines::put_outcome(&mut line, end, outcome);
+        if most < power.count {
+            most = power.count;
+        }
+    }
+    case_lines::write(&mut line, end);
+    most
+}
+
+fn most_multiplications(most: u32) {
+    let mut line = [0u8; 512];
+    let mut end = case_lines::put_all(&mut line, 0, b"most multiplications ");
+    end = case_lines::put_decimal(&mut line, end, most as u64);
+    case_lines::write(&mut line, end);
+}
+
+fn powers() {
+    let mut most = 0;
+    for n in 0usize..13 {
+        let count = powers_of(BASES[n]);
+        if most < count {
+            most = count;
+        }
+    }
+    most_multiplications(most);
+}
+
 fn main() {
     faults();
     ones();
     twos();
+    powers();
 }
