@@ -1,7 +1,4 @@
 -- Laws for the proofs of lines.
 mod Runs
-mod Words
-mod Splits
 mod Settings
-mod Effects
-mod Readings
+pub mod Effects

@@ -1,10 +1,10 @@
--- For the contracts of private functions: the case as it is kept while the lines are read, and what has been printed so far.
+-- For the contracts of private functions: numerals as forms, and what has been printed so far.
 use mathlib.Core.Path.{_≡_}
 use mathlib.Core.Bool.{cond}
 use mathlib.Core.List.{List, _∷_}
-use Prim.Native.Nat.{ℕ, _+_, _-_, _*_, _≤_}
+use Prim.Native.Nat.{ℕ, _+_, _-_, _*_}
 use lib.Dec.{ltb}
-use lib.ListN.{length, take, drop}
+use lib.ListN.{length}
 use lib.Seq.{sets}
 use Rattle.values.specs.declared.Value.{Value}
 use Rattle.values.specs.declared.Value.the-variants as Value
@@ -15,23 +15,7 @@ use Rattle.tokens.specs.declared.Scanned.{Scanned}
 use Rattle.tokens.specs.declared.Scanned.the-variants as Scanned
 use Rattle.program.specs.declared.forms.Form.{Form}
 use Rattle.program.specs.declared.forms.Form.the-variants.{Pattern, Other}
-use Rattle.program.specs.declared.lines.Span.{Span}
-use Rattle.program.specs.declared.lines.Places.{Places}
-use Rattle.program.specs.Lines.{Case}
 use Rattle.program.specs.Printing.{decimalText}
-
--- the bytes of a span of s
-abbrev pub part : List ℕ → Span → List ℕ
-part s x = take (x .end - x .at) (drop (x .at) s)
-
--- a span in order, within n bytes
-pub record Within (n : ℕ) (x : Span) : Type 0 where
-  pub ordered : x .at ≤ x .end
-  pub ends : x .end ≤ n
-
--- the case of an image and of places in the input
-abbrev pub held : List ℕ → Places → List ℕ → Case
-held s p m = record { memory = m; target = part s (p .target); text = part s (p .text) }
 
 -- the pattern of a numeral that is an integer
 abbrev pub valueForm : Value → Form

@@ -4,24 +4,28 @@ ghost use Prim.Native.Nat.{_≤_};
 ghost use lib.ListN.{length};
 ghost use Rattle.program.specs.Lines.{zeros};
 ghost use Rattle.program.specs.Reply.{reply, handed, handedCount, Lies};
+ghost use Rattle.program.specs.Stream.{Sends};
+use crate::lines::Lengths;
+use crate::stream::Receipt;
 
 mod cells;
 mod forms;
 mod lines;
 mod printing;
 mod reply;
+mod stream;
 
-// The zero bytes come from functions: their contracts name the lists, which a literal would write out in every step of the proof below.
+// The zero bytes come from functions: their contracts name the lists, which a literal would write out in every step of the proofs below.
 fn blank_image() -> [u8; 3204]
     ensures { λ r. ⌜ (3204 ≡ length r) × (r ≡ zeros 3204) ⌝ }
 {
     [0; 3204]
 }
 
-fn blank_code() -> [u8; 16384]
-    ensures { λ r. ⌜ (16384 ≡ length r) × (r ≡ zeros 16384) ⌝ }
+fn blank_text() -> [u8; 1030]
+    ensures { λ r. ⌜ 1030 ≡ length r ⌝ }
 {
-    [0; 16384]
+    [0; 1030]
 }
 
 // The whole input is one case. An output of 64 bytes has room for every reply; in one that is too short nothing is written, and 0 is returned.
@@ -32,15 +36,29 @@ pub fn respond(input: &[u8], output: &mut [u8]) -> usize
     ensures { λ r. ⌜ Lies r (now (output .exit)) ⌝ }
 {
     let mut memory = blank_image();
-    let mut code = blank_code();
-    let places = lines::read(input, &mut memory);
-    let a = places.target.at;
-    let b = places.target.end;
-    let c = places.text.at;
-    let d = places.text.end;
-    let target = &input[a..b];
-    let answer = operations::compile_and_run(target, &input[c..d], &mut memory, &mut code);
-    let mut text = [0u8; 64];
-    let n = reply::put_reply(&mut text, answer, target, &memory);
-    reply::hand_over(&text[..n], output)
+    let mut target = blank_text();
+    let mut text = blank_text();
+    let mut line = blank_text();
+    let none = Lengths {
+        target: 0,
+        text: 0,
+        line: 0,
+    };
+    let n = stream::feed(input, &mut memory, &mut target, &mut text, &mut line, none);
+    stream::finish(&mut memory, &mut target, &mut text, &line, n, output)
+}
+
+// The same of an input that is read to its end. If a read fails there is no answer, and the one line `error=read` says so.
+pub fn respond_from(fd: i32, output: &mut [u8]) -> usize
+    ensures { λ r. ⌜ Sends (now (output .entry)) r (now (output .exit)) ⌝ }
+    ensures { λ r. ⌜ Lies r (now (output .exit)) ⌝ }
+{
+    let mut memory = blank_image();
+    let mut target = blank_text();
+    let mut text = blank_text();
+    let mut line = blank_text();
+    match stream::receive(fd, &mut memory, &mut target, &mut text, &mut line) {
+        Receipt::All(n) => stream::finish(&mut memory, &mut target, &mut text, &line, n, output),
+        Receipt::Unread => reply::hand_over(b"error=read\n", output),
+    }
 }

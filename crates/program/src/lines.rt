@@ -1,27 +1,23 @@
-// The lines of a case: cells, the target and the expression.
+// A line of a case: a cell, the target or the expression.
 ghost use mathlib.Core.Path.{_≡_};
 ghost use Prim.Native.Nat.{_≤_};
 ghost use lib.ListN.{length};
 ghost use Rattle.memory.specs.Names.{namedRule};
 ghost use Rattle.tokens.specs.Bytes.{runLen};
-ghost use Rattle.program.specs.Lines.{except, lines, setCell, opened, afterLine, afterLines};
-ghost use Rattle.program.specs.Steps.{part, Within, held};
+ghost use Rattle.program.specs.Lines.{except, setCell, afterLine};
+ghost use Rattle.program.specs.Stream.{caseIn, Inside};
 use crate::cells;
 use crate::forms;
 use crate::forms::Form;
+use crate::printing;
 use memory::names::Named;
 use tokens::identifiers;
 
-// The bytes of the input from one place to another.
-pub struct Span {
-    pub at: usize,
-    pub end: usize,
-}
-
-// Where the target's text and the expression stand.
-pub struct Places {
-    pub target: Span,
-    pub text: Span,
+// How many bytes of their buffers the target, the expression and the line in progress take.
+pub struct Lengths {
+    pub target: usize,
+    pub text: usize,
+    pub line: usize,
 }
 
 // The place of the first byte b, or the end.
@@ -52,56 +48,49 @@ fn set_cell(memory: &mut [u8], key: &[u8], value: &[u8])
     cells::put_pattern(memory, bank, element, n);
 }
 
-// One line. Any but the target's and the expression's can only set a cell.
-fn take_line(input: &[u8], line: Span, memory: &mut [u8], p: Places) -> Places
-    requires { ⌜ Within (length (now input)) line ⌝ }
-    requires { ⌜ Within (length (now input)) (p .target) × Within (length (now input)) (p .text) ⌝ }
+// A line has ended. Any but the target's and the expression's can only set a cell.
+pub fn take_line(
+    line: &[u8],
+    memory: &mut [u8],
+    target: &mut [u8],
+    text: &mut [u8],
+    n: Lengths,
+) -> Lengths
     requires { ⌜ length (now memory) ≡ 3204 ⌝ }
-    ensures { λ r. ⌜ Within (length (now (input .entry))) (r .target) × Within (length (now (input .entry))) (r .text) ⌝ }
-    ensures { λ r. ⌜ held (now (input .entry)) r (now (memory .exit)) ≡ afterLine (held (now (input .entry)) p (now (memory .entry))) (part (now (input .entry)) line) ⌝ }
+    requires { ⌜ (length (now line) ≤ length (now target)) × (length (now line) ≤ length (now text)) ⌝ }
+    requires { ⌜ Inside (now target) (now text) n ⌝ }
+    ensures { λ r. ⌜ Inside (now (target .exit)) (now (text .exit)) r ⌝ }
+    ensures { λ r. ⌜ caseIn (now (memory .exit)) (now (target .exit)) (now (text .exit)) r ≡ afterLine (caseIn (now (memory .entry)) (now (target .entry)) (now (text .entry)) n) (now (line .entry)) ⌝ }
+    ensures { λ r. ⌜ r .line ≡ 0 ⌝ }
 {
-    let at = line.at;
-    let end = line.end;
-    let bytes = &input[at..end];
-    let k = until(bytes, b'=');
-    if k == bytes.len() {
-        return p;
+    let skipped = Lengths {
+        target: n.target,
+        text: n.text,
+        line: 0,
+    };
+    let k = until(line, b'=');
+    if k == line.len() {
+        return skipped;
     }
-    let key = &bytes[..k];
-    let from = at + k + 1;
+    let key = &line[..k];
+    let from = k + 1;
+    let value = &line[from..];
     if identifiers::same_bytes(key, b"target") {
-        let text = p.text;
-        return Places {
-            target: Span { at: from, end },
-            text,
+        let end = printing::put_all(target, 0, value);
+        return Lengths {
+            target: end,
+            text: n.text,
+            line: 0,
         };
     }
     if identifiers::same_bytes(key, b"expr") {
-        let target = p.target;
-        return Places {
-            target,
-            text: Span { at: from, end },
+        let end = printing::put_all(text, 0, value);
+        return Lengths {
+            target: n.target,
+            text: end,
+            line: 0,
         };
     }
-    set_cell(memory, key, &input[from..end]);
-    p
-}
-
-// Every line in turn; later lines win.
-pub fn read(input: &[u8], memory: &mut [u8]) -> Places
-    requires { ⌜ length (now memory) ≡ 3204 ⌝ }
-    ensures { λ r. ⌜ Within (length (now (input .entry))) (r .target) × Within (length (now (input .entry))) (r .text) ⌝ }
-    ensures { λ r. ⌜ held (now (input .entry)) r (now (memory .exit)) ≡ afterLines (opened (now (memory .entry))) (lines (now (input .entry))) ⌝ }
-{
-    let mut p = Places {
-        target: Span { at: 0, end: 0 },
-        text: Span { at: 0, end: 0 },
-    };
-    let mut at = 0;
-    while at < input.len() {
-        let end = at + until(&input[at..], b'\n');
-        p = take_line(input, Span { at, end }, memory, p);
-        at = end + 1;
-    }
-    p
+    set_cell(memory, key, value);
+    skipped
 }

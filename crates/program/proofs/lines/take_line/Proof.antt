@@ -1,39 +1,30 @@
 -- `lines::take_line` meets its contract: one law for each kind of line.
 use mathlib.Core.Path.{sym, _∙_}
-use Prim.Native.Nat.{_-_}
 use borrow.Author.Needs.{needs}
-use Rattle.program.specs.Steps.{part}
-use Rattle.program.proofs.lines.Effects.{skipped, target-line, expr-line, cell-line, key-long}
+use Rattle.program.proofs.lines.Effects.{key-long, value-of, skipped, target-line, expr-line, cell-line}
 use Rattle.program.proofs.lines.take_line.Statement.{statement}
 use Rattle.program.proofs.lines.take_line.Tie as tie
-
-sub-bytes : tie.Need-sub-bytes
-sub-bytes c = search needs
-
-part-bytes-start : tie.Need-part-bytes-start
-part-bytes-start c = search needs
-
-part-bytes-end : tie.Need-part-bytes-end
-part-bytes-end c = search needs
 
 until-requires : tie.Need-until-requires
 until-requires c κs = search needs
 
 returns : tie.Need-returns
-returns c =
-    let a = c .before .before .before .before .before in
-    skipped (a .args .input .now) (a .args .line) (a .args .p) (a .args .memory .now) (a .pre) (c .before .until .ensures) (c .if1 .taken)
+returns c = skipped (c .before .before .before .before .before .before .args .memory .now) (c .before .before .before .before .before .before .args .target .now) (c .before .before .before .before .before .before .args .text .now) (c .before .before .before .before .before .before .args .n) (c .before .before .before .before .before .before .args .line .now) (c .before .before .before .before .before .before .pre .1 .0 .0) (c .before .before .before .before .before .before .pre .1 .0 .1) (c .before .before .before .before .before .before .pre .1 .1) (c .before .until .ensures) (c .if1 .taken)
 
 slice-aggregate-key : tie.Need-slice-aggregate-key
-slice-aggregate-key c =
-    let a = c .before .before .before .before .before .before in
-    key-long (part (a .args .input .now) (a .args .line)) (c .before .before .until .result) (c .before .before .until .ensures .1)
+slice-aggregate-key c = key-long (c .before .before .before .before .before .before .before .args .line .now) (c .before .before .until .result) (c .before .before .until .ensures .1)
 
 add-from : tie.Need-add-from
 add-from c = search needs
 
-add-from-2 : tie.Need-add-from-2
-add-from-2 c = search needs
+sub-value : tie.Need-sub-value
+sub-value c = search needs
+
+part-value-start : tie.Need-part-value-start
+part-value-start c = search needs
+
+part-value-end : tie.Need-part-value-end
+part-value-end c = search needs
 
 slice-aggregate-same-bytes : tie.Need-slice-aggregate-same-bytes
 slice-aggregate-same-bytes c = search needs
@@ -41,11 +32,14 @@ slice-aggregate-same-bytes c = search needs
 same-bytes-requires : tie.Need-same-bytes-requires
 same-bytes-requires c κs = search needs
 
+put-all-requires : tie.Need-put-all-requires
+put-all-requires c κs = search needs
+
+same-length : tie.Need-same-length
+same-length c = search needs
+
 returns-2 : tie.Need-returns-2
-returns-2 c =
-    let a = c .before .before .before .before .before .before .before .before .before .before in
-    let key = c .before .before .before .before .before .before .until .ensures in
-    target-line (a .args .input .now) (a .args .line) (a .args .p) (a .args .memory .now) (a .pre) key (c .before .before .before .before .before .if1 .left) (sym (c .before .if2 .taken) ∙ c .before .before .same-bytes .ensures)
+returns-2 c = target-line (c .before .before .before .before .before .before .before .before .before .before .before .before .before .before .before .args .memory .now) (c .before .before .before .before .before .before .before .before .before .before .before .before .before .before .before .args .target .now) (c .before .before .before .before .before .before .before .before .before .before .before .before .before .before .before .args .text .now) (c .before .before .before .before .before .before .before .before .before .before .before .before .before .before .before .args .n) (c .before .before .before .before .before .before .before .before .before .before .before .before .before .before .before .args .line .now) (c .before .before .before .before .before .before .before .before .before .before .before .before .before .before .before .pre .1 .0 .0) (c .before .before .before .before .before .before .before .before .before .before .before .before .before .before .before .pre .1 .0 .1) (c .before .before .before .before .before .before .before .before .before .before .before .before .before .before .before .pre .1 .1) (c .before .before .before .before .before .before .before .before .before .before .until .ensures) (c .before .before .before .before .before .before .before .before .before .if1 .left) (value-of (c .before .before .before .before .before .before .before .before .before .before .before .before .before .before .before .args .line .now) (c .before .before .before .before .before .before .before .before .before .before .until .result)) (sym (c .before .before .before .before .if2 .taken) ∙ c .before .before .before .before .before .same-bytes .ensures) (c .before .before .put-all .ensures)
 
 slice-aggregate-same-bytes-2 : tie.Need-slice-aggregate-same-bytes-2
 slice-aggregate-same-bytes-2 c = search needs
@@ -53,57 +47,45 @@ slice-aggregate-same-bytes-2 c = search needs
 same-bytes-requires-2 : tie.Need-same-bytes-requires-2
 same-bytes-requires-2 c κs = search needs
 
+put-all-requires-2 : tie.Need-put-all-requires-2
+put-all-requires-2 c κs = search needs
+
+same-length-2 : tie.Need-same-length-2
+same-length-2 c = search needs
+
 returns-3 : tie.Need-returns-3
-returns-3 c =
-    let a = c .before .before .before .before .before .before .before .before .before .before .before .before .before in
-    let key = c .before .before .before .before .before .before .before .before .before .until .ensures in
-    let no-target = sym (c .before .before .before .before .if2 .left) ∙ c .before .before .before .before .before .same-bytes .ensures in
-    expr-line (a .args .input .now) (a .args .line) (a .args .p) (a .args .memory .now) (a .pre) key (c .before .before .before .before .before .before .before .before .if1 .left) no-target (sym (c .before .if3 .taken) ∙ c .before .before .same-bytes2 .ensures)
-
-sub-set-cell : tie.Need-sub-set-cell
-sub-set-cell c = search needs
-
-part-set-cell-start : tie.Need-part-set-cell-start
-part-set-cell-start c = search needs
-
-part-set-cell-end : tie.Need-part-set-cell-end
-part-set-cell-end c = search needs
+returns-3 c = expr-line (c .before .before .before .before .before .before .before .before .before .before .before .before .before .before .before .before .before .before .args .memory .now) (c .before .before .before .before .before .before .before .before .before .before .before .before .before .before .before .before .before .before .args .target .now) (c .before .before .before .before .before .before .before .before .before .before .before .before .before .before .before .before .before .before .args .text .now) (c .before .before .before .before .before .before .before .before .before .before .before .before .before .before .before .before .before .before .args .n) (c .before .before .before .before .before .before .before .before .before .before .before .before .before .before .before .before .before .before .args .line .now) (c .before .before .before .before .before .before .before .before .before .before .before .before .before .before .before .before .before .before .pre .1 .0 .0) (c .before .before .before .before .before .before .before .before .before .before .before .before .before .before .before .before .before .before .pre .1 .0 .1) (c .before .before .before .before .before .before .before .before .before .before .before .before .before .before .before .before .before .before .pre .1 .1) (c .before .before .before .before .before .before .before .before .before .before .before .before .before .until .ensures) (c .before .before .before .before .before .before .before .before .before .before .before .before .if1 .left) (value-of (c .before .before .before .before .before .before .before .before .before .before .before .before .before .before .before .before .before .before .args .line .now) (c .before .before .before .before .before .before .before .before .before .before .before .before .before .until .result)) (sym (c .before .before .before .before .before .before .before .if2 .left) ∙ c .before .before .before .before .before .before .before .before .same-bytes .ensures) (sym (c .before .before .before .before .if3 .taken) ∙ c .before .before .before .before .before .same-bytes2 .ensures) (c .before .before .put-all2 .ensures)
 
 set-cell-requires : tie.Need-set-cell-requires
 set-cell-requires c κs = search needs
 
-same-length : tie.Need-same-length
-same-length c = search needs
+same-length-3 : tie.Need-same-length-3
+same-length-3 c = search needs
 
 returns-4 : tie.Need-returns-4
-returns-4 c =
-    let a = c .before .before .before .before .before .before .before .before .before .before .before .before .before .before .before .before .before in
-    let key = c .before .before .before .before .before .before .before .before .before .before .before .before .before .until .ensures in
-    let no-target = sym (c .before .before .before .before .before .before .before .before .if2 .left) ∙ c .before .before .before .before .before .before .before .before .before .same-bytes .ensures in
-    let no-expr = sym (c .before .before .before .before .before .if3 .left) ∙ c .before .before .before .before .before .before .same-bytes2 .ensures in
-    cell-line (a .args .input .now) (a .args .line) (a .args .p) (a .args .memory .now) (a .pre) key (c .before .before .before .before .before .before .before .before .before .before .before .before .if1 .left) no-target no-expr (c .before .before .set-cell .ensures)
+returns-4 c = cell-line (c .before .before .before .before .before .before .before .before .before .before .before .before .before .before .before .before .before .before .args .memory .now) (c .before .before .before .before .before .before .before .before .before .before .before .before .before .before .before .before .before .before .args .target .now) (c .before .before .before .before .before .before .before .before .before .before .before .before .before .before .before .before .before .before .args .text .now) (c .before .before .before .before .before .before .before .before .before .before .before .before .before .before .before .before .before .before .args .n) (c .before .before .before .before .before .before .before .before .before .before .before .before .before .before .before .before .before .before .args .line .now) (c .before .before .before .before .before .before .before .before .before .before .before .before .before .before .before .before .before .before .pre .1 .0 .0) (c .before .before .before .before .before .before .before .before .before .before .before .before .before .before .before .before .before .before .pre .1 .0 .1) (c .before .before .before .before .before .before .before .before .before .before .before .before .before .before .before .before .before .before .pre .1 .1) (c .before .before .before .before .before .before .before .before .before .before .before .before .before .until .ensures) (c .before .before .before .before .before .before .before .before .before .before .before .before .if1 .left) (value-of (c .before .before .before .before .before .before .before .before .before .before .before .before .before .before .before .before .before .before .args .line .now) (c .before .before .before .before .before .before .before .before .before .before .before .before .before .until .result)) (sym (c .before .before .before .before .before .before .before .if2 .left) ∙ c .before .before .before .before .before .before .before .before .same-bytes .ensures) (sym (c .before .before .before .before .if3 .left) ∙ c .before .before .before .before .before .same-bytes2 .ensures) (c .before .before .set-cell .ensures)
 
 pub take-line-spec : {M : Type 1} → statement M
 take-line-spec =
     tie.close
     (tie.spec
-    sub-bytes
-    part-bytes-start
-    part-bytes-end
     until-requires
     returns
     slice-aggregate-key
     add-from
-    add-from-2
+    sub-value
+    part-value-start
+    part-value-end
     slice-aggregate-same-bytes
     same-bytes-requires
+    put-all-requires
+    same-length
     returns-2
     slice-aggregate-same-bytes-2
     same-bytes-requires-2
+    put-all-requires-2
+    same-length-2
     returns-3
-    sub-set-cell
-    part-set-cell-start
-    part-set-cell-end
     set-cell-requires
-    same-length
+    same-length-3
     returns-4)

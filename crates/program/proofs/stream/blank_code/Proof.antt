@@ -1,8 +1,8 @@
--- `program::blank_code` meets its contract: the array and the definition compute to one list.
+-- `stream::blank_code` meets its contract: the array and the definition compute to one list.
 use mathlib.Core.Path.{refl}
 use Rattle.program.specs.Lines.{zeros}
-use Rattle.program.proofs.blank_code.Statement.{statement}
-use Rattle.program.proofs.blank_code.Tie as tie
+use Rattle.program.proofs.stream.blank_code.Statement.{statement}
+use Rattle.program.proofs.stream.blank_code.Tie as tie
 
 returns : tie.Need-returns
 unfolding zeros

@@ -1,0 +1,90 @@
+-- For the contracts of private functions: an input that comes in pieces, and what is kept of it. `StreamLaws` says that however it is cut, the reply is that to the whole input.
+use mathlib.Core.Path.{_≡_}
+use mathlib.Core.Bool.{cond}
+use mathlib.Core.List.{List, [], _∷_, _++_}
+use Prim.Native.Nat.{ℕ, _≤_}
+use lib.Dec.{eqb}
+use lib.ListN.{length, take}
+use Rattle.memory.specs.Layout.{imageSize}
+use Rattle.program.specs.declared.lines.Lengths.{Lengths}
+use Rattle.program.specs.declared.stream.Receipt.{Receipt}
+use Rattle.program.specs.declared.stream.Receipt.the-variants.{All, Unread}
+use Rattle.program.specs.Lines.{Case, opened, zeros, afterLine}
+use Rattle.program.specs.Reply.{replyTo, reply, handed, handedCount}
+
+-- how much of a line is kept: `expr=` and 1,025 bytes, by which an expression is known to be over 1,024. A longer line that sets a cell or a good target there is not.
+abbrev pub keptBytes : ℕ
+keptBytes = 1030
+
+-- what is kept: the case of the lines that have ended, and the line in progress
+pub record Progress : Type 0 where
+  pub case : Case
+  pub line : List ℕ
+
+abbrev pub noProgress : Progress
+noProgress = record { case = opened (zeros imageSize); line = [] }
+
+-- byte 10 ends the line; any other belongs to it
+abbrev pub afterByte : Progress → ℕ → Progress
+afterByte p c =
+    cond (eqb c 10) (record { case = afterLine (p .case) (p .line); line = [] })
+    (record { case = p .case; line = take keptBytes (p .line ++ (c ∷ [])) })
+
+abbrev pub afterBytes : Progress → List ℕ → Progress
+afterBytes p [] = p
+afterBytes p (c ∷ cs) = afterBytes (afterByte p c) cs
+
+-- at the input's end a last line without its byte 10 counts
+abbrev pub caseAtEnd : Progress → Case
+caseAtEnd p = afterLine (p .case) (p .line)
+
+pub record StreamLaws : Type 0 where
+  -- pieces one after the other do what they do in one
+  pub pieces : (p : Progress) (a b : List ℕ) → afterBytes p (a ++ b) ≡ afterBytes (afterBytes p a) b
+  -- and what is kept is enough for the reply
+  pub whole : (input : List ℕ) → replyTo (caseAtEnd (afterBytes noProgress input)) ≡ reply input
+
+-- ---- in the buffers
+abbrev pub noLengths : Lengths
+noLengths = record { target = 0; text = 0; line = 0 }
+
+abbrev pub caseIn : List ℕ → List ℕ → List ℕ → Lengths → Case
+caseIn m t x n = record { memory = m; target = take (n .target) t; text = take (n .text) x }
+
+abbrev pub progressIn : List ℕ → List ℕ → List ℕ → List ℕ → Lengths → Progress
+progressIn m t x l n = record { case = caseIn m t x n; line = take (n .line) l }
+
+-- the lengths lie within the buffers
+pub record Inside (t x : List ℕ) (n : Lengths) : Type 0 where
+  pub target : n .target ≤ length t
+  pub text : n .text ≤ length x
+
+-- the buffers have their sizes, and the lengths lie within them
+pub record Ready (m t x l : List ℕ) (n : Lengths) : Type 0 where
+  pub image : length m ≡ imageSize
+  pub targets : length t ≡ keptBytes
+  pub texts : length x ≡ keptBytes
+  pub lines : length l ≡ keptBytes
+  pub inside : Inside t x n
+  pub line : n .line ≤ keptBytes
+
+-- the buffers keep what a whole input leaves, or the input was not read
+pub data Receives (m t x l : List ℕ) : Receipt → Type 0 where
+  all : {n : Lengths} → Ready m t x l n → (input : List ℕ) → progressIn m t x l n ≡ afterBytes noProgress input → Receives m t x l (All n)
+  unread : Receives m t x l Unread
+
+-- `error=read` and byte 10
+abbrev pub unreadLine : List ℕ
+unreadLine = 101 ∷ 114 ∷ 114 ∷ 111 ∷ 114 ∷ 61 ∷ 114 ∷ 101 ∷ 97 ∷ 100 ∷ 10 ∷ []
+
+-- a text that the program may print: the reply to an input that was read whole, or the line that says that a read failed
+pub data Printed : List ℕ → Type 0 where
+  answered : (input : List ℕ) → Printed (reply input)
+  failed : Printed unreadLine
+
+-- such a text was handed over
+pub record Sends (out : List ℕ) (n : ℕ) (new : List ℕ) : Type 0 where
+  pub text : List ℕ
+  pub printed : Printed text
+  pub count : n ≡ handedCount out text
+  pub bytes : new ≡ handed out text
