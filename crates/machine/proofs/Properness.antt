@@ -6,7 +6,6 @@ use mathlib.Core.Bool.{Bool, true, false, cond, Bool·beq}
 use mathlib.Core.List.{List, [], _∷_}
 use Prim.Native.Nat.{ℕ, zero, suc}
 use lib.Dec.{ltb}
-use lib.IntN.{pos, negsuc}
 use lib.ListN.{length}
 use Rattle.words.specs.Laws.{Bytes}
 use Rattle.values.specs.declared.Value.{Value}
