@@ -20,11 +20,10 @@ use Rattle.tree_code.specs.Code.{codeOf}
 use Rattle.compiler.specs.Compile.{compiling, codedBytes, encoded}
 use Rattle.compiler.proofs.Bytes.{encoded-length}
 use Rattle.compiler.proofs.Theorems.{compile-theorems}
-use Rattle.operations.specs.declared.Answer.{Answer}
-use Rattle.operations.specs.Operations.{compileAnswer, Checks, accepts}
-use Rattle.operations.specs.Terms.{compiled, compiledCode, doneWith, number, Ends}
+use Rattle.operations.specs.Operations.{compileAnswer, checkAnswer}
+use Rattle.operations.specs.Terms.{compiled, compiledCode, doneWith, Ends}
 use Rattle.operations.specs.Promises.{Faithful}
-use Rattle.operations.proofs.Verdicts.{accepted-by}
+use Rattle.operations.proofs.Verdicts.{accepted-by, passes}
 use Rattle.operations.proofs.Requests.{run-code, run-tree, written}
 use Rattle.operations.proofs.Texts.{is-formula}
 
@@ -43,11 +42,15 @@ only-code text code n k = beyond code n k (compiling (length code) text)
 
 module _ (code : List ℕ) (n : ℕ) where
   well : {k : Kind} → Verifier.Accepts (instructions code n) k → (most : ℕ) → ((m : List ℕ) → runs code n m .count ≤ most) → Ends code n most k
-  well {k} a most h = record { well = λ m. safe .ends (memoryOf m) (instructions code n) k (memory-kinded m) a; quick = h }
+  well {k} a most h = record {
+    well = λ m. safe .ends (memoryOf m) (instructions code n) k (memory-kinded m) a;
+    quick = h;
+    stack = λ m. safe .stack (memoryOf m) (instructions code n) k (memory-kinded m) a;
+  }
 
-  pub ends : {r : Answer} → Checks code n r → number r ≡ 0 → (k : Kind) × Ends code n n k
-  ends w e =
-      let a = accepted-by w e in
+  pub ends : checkAnswer code n ≡ doneWith 0 → (k : Kind) × Ends code n n k
+  ends e =
+      let a = accepted-by code n e in
       (a .0, well (a .1) n (λ m. omega (arith, safe .counts (memoryOf m) (instructions code n), decode-length code 0 n)))
 
 -- ---- compiled code
@@ -61,7 +64,7 @@ module _ {text : List ℕ} {t : Tree} (code : List ℕ) (a : Accepts text t) whe
       let good = subst (λ c. Verifier.Accepts c (treeKind t)) (sym there) (demand .accepted) in
       record {
         same = λ m. run-tree text t q m code room;
-        accepted = accepts good;
+        accepted = passes _ _ good;
         ends = well _ _ good _ (λ m. rw (run-code text t q m code room) (demand .quick (memoryOf m)));
         short = demand .short;
       }

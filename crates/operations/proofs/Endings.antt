@@ -1,9 +1,8 @@
 -- Where a run ends well, what is stored or flagged: `Gives`. The target's element is one of its bank, so the store finds its cell.
-use mathlib.Core.Path.{_≡_, refl, sym, _∙_}
+use mathlib.Core.Path.{_≡_, refl}
 use mathlib.Core.Bool.{Bool, true, false, _&&_, cond, and-eq-true-iff}
 use mathlib.Core.List.{List, [], _∷_}
 use Prim.Native.Nat.{ℕ, _<_}
-use native.Mathlib.Decide.{ℕ-discrete}
 use native.Mathlib.Omega.{arith}
 use lib.ListN.{length, set}
 use borrow.Author.Tests.{eq-eqb, ltb-true, lt-ltb}
@@ -27,10 +26,9 @@ use Rattle.machine.specs.declared.Ended.{Ended}
 use Rattle.machine.specs.declared.Ended.the-variants as Ended
 use Rattle.verifier.specs.Safety.{EndsWell, value, fault}
 use Rattle.tree_code.specs.Demand.{endOf}
-use Rattle.operations.specs.Operations.{afterStore, finished, memoryAfter, to, goalOf, goal}
+use Rattle.operations.specs.Operations.{afterStore, finished, memoryAfter}
 use Rattle.operations.specs.Terms as Term
 use Rattle.operations.specs.Terms.{Gives}
-use Rattle.operations.proofs.Verdicts.{no-memory, named}
 
 -- ---- the target
 
@@ -70,19 +68,6 @@ in-bank x other e = let z : _≡_ {A = ℕ} 0 1 = cc in absurd (omega arith)
 
 pub target-element : {b : Bank} {i : ℕ} (target : List ℕ) → targetRule target ≡ Cell b i → i < layoutOf b .elements
 target-element target e = in-bank (targetRule target) (stored (words target)) e
-
--- ---- the goal of a run
-
-goal-cell : {b : Bank} {i : ℕ} (x : Named) → goalOf x ≡ to b i → x ≡ Cell b i
-goal-cell (Cell b i) e = cc
-goal-cell Other e = let z : _≡_ {A = ℕ} 0 1 = cc in absurd (omega arith)
-
-pub goes-to : {b : Bank} {i : ℕ} (target m : List ℕ) → goal target m ≡ to b i → (length m ≡ imageSize) × (targetRule target ≡ Cell b i)
-goes-to {b} {i} target m e = by (ℕ-discrete (length m) imageSize)
-  where
-    by : Dec (length m ≡ imageSize) → (length m ≡ imageSize) × (targetRule target ≡ Cell b i)
-    by (yes h) = (h, goal-cell (targetRule target) (sym (named target m h refl) ∙ e))
-    by (no h) = let z : _≡_ {A = ℕ} 0 1 = cc (no-memory target m h) in absurd (omega arith)
 
 -- ---- the end
 

@@ -1,5 +1,5 @@
 -- A value that is given is an integer of 32 bits or a finite single: of any code, and so of a formula, whose code is bytes like any other.
-use mathlib.Core.Path.{_≡_, sym, subst, _∙_}
+use mathlib.Core.Path.{_≡_, subst}
 use mathlib.Core.List.{List, [], _∷_, _++_}
 use Prim.Native.Nat.{ℕ, zero, suc, _≤_, _<_}
 use native.Mathlib.Omega.{arith}
@@ -9,16 +9,13 @@ use lib.Seq.{sets}
 use Rattle.words.specs.Words.{bytesOf}
 use Rattle.words.specs.Laws.{Bytes}
 use Rattle.words.proofs.Laws.{word-laws}
-use Rattle.values.specs.declared.Value.{Value}
 use Rattle.operators.specs.Laws.{Proper}
 use Rattle.memory.specs.Environment.{memoryOf}
 use Rattle.grammar.specs.Tree.{Tree}
 use Rattle.grammar.specs.Worth.{worth}
 use Rattle.text.specs.Judge.{accepted}
 use Rattle.text.specs.Theorems.{Accepts}
-use Rattle.code.specs.declared.Instr.{Instr}
 use Rattle.machine.specs.declared.Ended.{Ended}
-use Rattle.machine.specs.declared.Ended.the-variants.{Done}
 use Rattle.machine.specs.Machine.{runs}
 use Rattle.machine.proofs.Properness.{ProperEnd, value, fault, stuck, runs-proper}
 use Rattle.tree_code.specs.Code.{codeOf}

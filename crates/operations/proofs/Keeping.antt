@@ -1,5 +1,5 @@
 -- Demand 1: every answer of every operation is one of three sorts, and what each sort leaves.
-use mathlib.Core.Path.{_≡_, refl, sym, ap, subst, subst⁻¹, _∙_}
+use mathlib.Core.Path.{_≡_, refl, ap, subst, subst⁻¹}
 use mathlib.Core.Logic.{_⊎_, inl, inr, ⊎-elim}
 use mathlib.Core.List.{List}
 use Prim.Native.Nat.{ℕ, _≤_, _<_}
@@ -23,20 +23,24 @@ use Rattle.text.specs.Judge.{Judgement, accepted, refused, judge}
 use Rattle.text.proofs.Theorems.{text-theorems}
 use Rattle.code.specs.Instructions.{instructions}
 use Rattle.machine.specs.declared.Ended.{Ended}
+use Rattle.machine.specs.Machine.{runs}
+use Rattle.verifier.specs.declared.Verdict.{Verdict}
+use Rattle.verifier.specs.declared.Verdict.the-variants as Verdict
+use Rattle.verifier.specs.Verdicts.{verdict}
 use Rattle.verifier.proofs.Safe.{safe, memory-kinded}
 use Rattle.compiler.specs.Compile.{codedBytes, encoded}
 use Rattle.compiler.proofs.Theorems.{compile-theorems}
 use Rattle.tree_code.specs.Code.{codeOf}
 use Rattle.operations.specs.declared.Answer.{Answer}
 use Rattle.operations.specs.declared.Answer.the-variants.{Done, Fault, Refused}
-use Rattle.operations.specs.Operations.{compileAnswer, Checks, accepts, refuses, Runs, unready, unaccepted, ran, none, goalOf, goal}
+use Rattle.operations.specs.Operations.{compileAnswer, verdictAnswer, checkAnswer, Goal, to, none, goal, ranAnswer, ranMemory, runAnswer, runMemory}
 use Rattle.operations.specs.Operations.{Request, ofTarget, ofText, request, performed, performedMemory, performedCode}
 use Rattle.operations.specs.Terms.{compiled, compiledCode, Refusal, Gives, stored, unstored, stopped}
-use Rattle.operations.specs.Promises.{Operation, Does, compile-does, check-does, run-does, compile-and-run-does, Keeps}
+use Rattle.operations.specs.Promises.{Operation, compile, check, run, compile-and-run, resultOf, Keeps}
 use Rattle.operations.proofs.Numbers.{either, Numbered, formula, three-to-nine, numbered, fault-range, no-fault, own-number}
-use Rattle.operations.proofs.Verdicts as Run
+use Rattle.operations.proofs.Verdicts.{Aims, at-cell, at-none, aims}
 use Rattle.operations.proofs.Requests.{no-memory, no-room, named}
-use Rattle.operations.proofs.Endings.{target-element, goes-to, ends-well, gives}
+use Rattle.operations.proofs.Endings.{target-element, ends-well, gives}
 
 -- the byte k is none of the target's cell
 abbrev Elsewhere : List ℕ → ℕ → Type 0
@@ -53,7 +57,7 @@ data Sorted (target m code : List ℕ) : Answer → List ℕ → List ℕ → Ty
 small : (a : ℕ) → Refusal a → a ≤ 15
 small a (l, h) = ⊎-elim (λ l. omega arith) (λ l. omega arith) h
 
-keeps : {target m code m′ code′ : List ℕ} {r : Answer} → Sorted target m code r m′ code′ → Keeps target m code r m′ code′
+keeps : {target m code m′ code′ : List ℕ} {r : Answer} → Sorted target m code r m′ code′ → Keeps target m code (record { answer = r; memory = m′; code = code′ })
 keeps (done h l w) = record {
   listed = omega arith;
   refused = λ x. absurd (omega arith);
@@ -82,9 +86,6 @@ module _ (target m code : List ℕ) where
   low : (a p : ℕ) → 1 ≤ a → a ≤ 10 → Sorted target m code (Refused a p) m code
   low a p l h = refusal a p (l, inl h)
 
-  fifteen : Sorted target m code (Refused 15 0) m code
-  fifteen = refusal 15 0 (omega arith, inr refl)
-
   -- after a run that ends well
   sorted-end : {b : Bank} {i n : ℕ} {e : Ended} {r : Answer} {m′ code′ : List ℕ} → targetRule target ≡ Cell b i → length code′ ≡ length code → Gives m b i n e r m′
       → Sorted target m code r m′ code′
@@ -106,30 +107,20 @@ module _ (target m code : List ℕ) where
       (low 10 0 (omega arith) (omega arith))
       (sorted-judged (numbered (text-theorems .outcome text)))
 
-  sorted-check : {n : ℕ} {r : Answer} → Checks code n r → Sorted target m code r m code
-  sorted-check (accepts a) = done (λ k h. refl) refl refl
-  sorted-check (refuses h) = fifteen
-
-  no-goal : {a : ℕ} → goal target m ≡ none a → Refusal a
-  no-goal {a} e = by (ℕ-discrete (length m) imageSize)
+  sorted-check : (n : ℕ) → Sorted target m code (checkAnswer code n) m code
+  sorted-check n = by (verdict (instructions code n))
     where
-      is : (d : ℕ) → 1 ≤ d → d ≤ 10 → none d ≡ none a → Refusal a
-      is d l h e = let q : d ≡ a = cc in (omega arith, inl (omega arith))
+      by : (v : Verdict) → Sorted target m code (verdictAnswer v) m code
+      by (Verdict.Accepted k) = done (λ k h. refl) refl refl
+      by Verdict.Refused = refusal 15 0 (omega arith, inr refl)
 
-      of-name : (x : Named) → goalOf x ≡ none a → Refusal a
-      of-name (Cell b i) e = let z : _≡_ {A = ℕ} 0 1 = cc in absurd (omega arith)
-      of-name Other e = is 2 (omega arith) (omega arith) e
-
-      by : Dec (length m ≡ imageSize) → Refusal a
-      by (yes h) = of-name (targetRule target) (sym (Run.named target m h refl) ∙ e)
-      by (no h) = is 1 (omega arith) (omega arith) (sym (Run.no-memory target m h) ∙ e)
-
-  sorted-run : {n : ℕ} {m′ : List ℕ} {r : Answer} → Runs code n target m m′ r → Sorted target m code r m′ code
-  sorted-run (unready {a} e) = refusal a 0 (no-goal e)
-  sorted-run (unaccepted e h) = fifteen
-  sorted-run {n} (ran {b} {i} {k} e a) =
-      let g = goes-to target m e in
-      sorted-end (g .1) refl (gives m b i _ (g .0) (target-element target (g .1)) (safe .ends (memoryOf m) (instructions code n) k (memory-kinded m) a))
+  sorted-run : (n : ℕ) → Sorted target m code (runAnswer code n target m) (runMemory code n target m) code
+  sorted-run n = by (goal code n target m) (aims code n target m)
+    where
+      by : (g : Goal) → Aims code n target m g → Sorted target m code (ranAnswer m (runs code n m) g) (ranMemory m (runs code n m) g) code
+      by (to b i) (at-cell {k = k} l t a) =
+          sorted-end t refl (gives m b i _ l (target-element target t) (safe .ends (memoryOf m) (instructions code n) k (memory-kinded m) a))
+      by (none _) (at-none a h) = refusal a 0 h
 
   -- ---- compile and run
 
@@ -154,11 +145,8 @@ module _ (target m code : List ℕ) where
       by (yes h) (yes l) = subst⁻¹ Performs (no-room target text m code h l) (low 10 0 (omega arith) (omega arith))
       by (yes h) (no l) = subst⁻¹ Performs (named target text m code h (omega arith) refl) (sorted-target text h (targetRule target) refl)
 
-sorted : {target m code m′ code′ : List ℕ} {o : Operation} {r : Answer} → Does target m code o r m′ code′ → Sorted target m code r m′ code′
-sorted {target} {m} {code} (compile-does text) = sorted-compile target m code text
-sorted {target} {m} {code} (check-does n w) = sorted-check target m code w
-sorted {target} {m} {code} (run-does n w) = sorted-run target m code w
-sorted {target} {m} {code} (compile-and-run-does text e) = subst⁻¹ (λ q. Performs target m code q) e (sorted-request target m code text)
-
-pub kept : {target m code m′ code′ : List ℕ} {o : Operation} {r : Answer} → Does target m code o r m′ code′ → Keeps target m code r m′ code′
-kept w = keeps (sorted w)
+pub kept : (o : Operation) (target m code : List ℕ) → Keeps target m code (resultOf o target m code)
+kept (compile text) target m code = keeps (sorted-compile target m code text)
+kept (check n) target m code = keeps (sorted-check target m code n)
+kept (run n) target m code = keeps (sorted-run target m code n)
+kept (compile-and-run text) target m code = keeps (sorted-request target m code text)

@@ -4,7 +4,6 @@ mod Keeping
 mod Texts
 mod Codes
 mod Running
-mod Determined
 mod Finite
 mod Endings
 mod Numbers

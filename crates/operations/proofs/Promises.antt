@@ -1,9 +1,8 @@
 -- The promises, each by the law that keeps it.
-use mathlib.Core.Path.{refl}
 use Rattle.text.proofs.Theorems.{text-theorems}
 use Rattle.operations.specs.Promises.{Promises}
 use Rattle.operations.proofs.Keeping.{kept}
-use Rattle.operations.proofs.Determined.{determined}
+use Rattle.operations.proofs.Verdicts.{accepted-by, passes}
 use Rattle.operations.proofs.Texts.{compiles, performs, answers, same-code, same-refusal}
 use Rattle.operations.proofs.Codes.{only-code, faithful, ends}
 use Rattle.operations.proofs.Running.{runs-code, desk-and-box}
@@ -13,7 +12,6 @@ pub promises : Promises
 promises = record {
   keeps = kept;
   only-code = only-code;
-  determined = λ v w. determined v w;
   compiles = compiles;
   performs = λ text code ready room. performs ready text code room;
   judged = text-theorems .outcome;
@@ -21,9 +19,10 @@ promises = record {
   finite = λ m a h. finite m a h;
   finite-code = finite-code;
   faithful = λ code a e. faithful code a e;
-  desk-and-box = λ text desk box ready room e run. desk-and-box ready text desk box room e run;
+  desk-and-box = λ text desk box ready room e. desk-and-box ready text desk box room e;
   same-refusal = λ text desk box ready here there e. same-refusal ready text desk box here there e;
   same-code = λ text code ready room. same-code ready text code room;
-  safe = λ code n w. ends code n w refl;
-  runs-code = λ ready w run. runs-code ready w refl run;
+  checks = λ code n. (accepted-by code n, λ x. passes code n (x .1));
+  safe = ends;
+  runs-code = λ code n ready e. runs-code ready code n e;
 }

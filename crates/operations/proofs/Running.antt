@@ -1,5 +1,5 @@
 -- What run gives for accepted code, and that compiling, then running, is compile-and-run.
-use mathlib.Core.Path.{_≡_, refl, sym, ap, ap₂, _∙_}
+use mathlib.Core.Path.{_≡_, sym, ap, ap₂, subst⁻¹, _∙_}
 use mathlib.Core.List.{List}
 use Prim.Native.Nat.{ℕ, _*_}
 use native.Mathlib.Omega.{arith}
@@ -13,14 +13,16 @@ use Rattle.text.specs.Theorems.{Accepts}
 use Rattle.code.specs.Instructions.{instructions}
 use Rattle.machine.specs.Machine.{runs}
 use Rattle.verifier.proofs.Safe.{safe, memory-kinded}
+use Rattle.verifier.proofs.Verdicts.{verdict-laws}
 use Rattle.tree_code.specs.Code.{codeOf}
 use Rattle.compiler.specs.Compile.{codedBytes, encoded}
 use Rattle.compiler.proofs.Bytes.{encoded-length}
 use Rattle.compiler.proofs.Theorems as Compile
-use Rattle.operations.specs.declared.Answer.{Answer}
-use Rattle.operations.specs.Operations.{Checks, to, goal, finished, memoryAfter, Runs, request}
-use Rattle.operations.specs.Terms.{compiled, compiledCode, doneWith, number, Ready, Room, Gives, AsPerformed}
-use Rattle.operations.proofs.Verdicts.{accepted-by, named, only-run}
+use Rattle.operations.specs.Operations.{checkAnswer, to, goal, finished, memoryAfter, ranAnswer, ranMemory}
+use Rattle.operations.specs.Operations.{runAnswer, runMemory, performed, performedMemory}
+use Rattle.operations.specs.Terms.{compiled, compiledCode, doneWith, Ready, Room, Gives}
+use Rattle.operations.specs.Promises.{run, compile-and-run, resultOf, Agree}
+use Rattle.operations.proofs.Verdicts.{accepted-by, named, Finishes}
 use Rattle.operations.proofs.Requests.{run-code, written}
 use Rattle.operations.proofs.Endings.{target-element, gives}
 use Rattle.operations.proofs.Texts.{is-formula, formula, the-tree}
@@ -33,34 +35,40 @@ front text code t q room =
     rw (← size) (run-written code 0 (encoded (codeOf t)) (omega (arith, size, Compile.short text t q)))
 
 module _ {target m : List ℕ} {b : Bank} {i : ℕ} (ready : Ready target m b i) where
-  the-goal : goal target m ≡ to b i
-  the-goal = named target m (ready .memory) (ready .cell)
+  -- accepted code is run, and its value goes to the target
+  the-goal : (code : List ℕ) (n : ℕ) → checkAnswer code n ≡ doneWith 0 → goal code n target m ≡ to b i
+  the-goal code n e =
+      let a = accepted-by code n e in
+      named code n target m (ready .memory) (ready .cell) (verdict-laws .exact (instructions code n) (a .0) .1 (a .1))
 
-  pub runs-code : {code m′ : List ℕ} {n : ℕ} {r s : Answer} → Checks code n s → number s ≡ 0 → Runs code n target m m′ r
-      → Gives m b i (runs code n m .count) (runs code n m .end) r m′
-  runs-code {code} {n = n} w e run =
-      let a = accepted-by w e in
-      let f = only-run the-goal (a .1) run in
-      let e = safe .ends (memoryOf m) (instructions code n) (a .0) (memory-kinded m) (a .1) in
-      rw (f .0, f .1) (gives m b i (runs code n m .count) (ready .memory) (target-element target (ready .cell)) e)
+  module _ (code : List ℕ) (n : ℕ) (e : checkAnswer code n ≡ doneWith 0) where
+    finishes : Finishes m b i (runs code n m) (runAnswer code n target m) (runMemory code n target m)
+    finishes = let g = the-goal code n e in (ap (ranAnswer m (runs code n m)) g, ap (ranMemory m (runs code n m)) g)
 
-  as-performed : {text : List ℕ} {t : Tree} (desk box : List ℕ) {m′ : List ℕ} {n : ℕ} {r : Answer} → Accepts text t → Room box → compiled text desk ≡ doneWith n
-      → Runs (compiledCode text desk) n target m m′ r → AsPerformed (request target text m box) box m (compiledCode text desk) n r m′
-  as-performed {text} {t} desk box {n = n} a room e run =
+    pub runs-code : Gives m b i (runs code n m .count) (runs code n m .end) (runAnswer code n target m) (runMemory code n target m)
+    runs-code =
+        let a = accepted-by code n e in
+        let w = safe .ends (memoryOf m) (instructions code n) (a .0) (memory-kinded m) (a .1) in
+        let x = runs code n m in
+        subst⁻¹ (λ g. Gives m b i (x .count) (x .end) (ranAnswer m x g) (ranMemory m x g)) (the-goal code n e)
+        (gives m b i (x .count) (ready .memory) (target-element target (ready .cell)) w)
+
+  agree : {text : List ℕ} {t : Tree} (desk box : List ℕ) {n : ℕ} → Accepts text t → Room box → compiled text desk ≡ doneWith n
+      → Agree n (resultOf (run n) target m (compiledCode text desk)) (resultOf (compile-and-run text) target m box)
+  agree {text} {t} desk box {n} a room e =
       let q = is-formula a in
       let w = written text desk q e in
       let kept = faithful desk a e in
-      let f = only-run the-goal (accepted-by (kept .accepted) refl .1) run in
+      let f = finishes (compiledCode text desk) n (kept .accepted) in
       let there = the-tree ready box room a in
       let same : runs (compiledCode text desk) n m ≡ runs (codedBytes box (accepted t)) (length (codeOf t)) m =
       rw (w .bytes, ← w .count) (run-code text t q m desk (w .room) ∙ sym (run-code text t q m box room)) in
       record {
-        answer = rw there (f .0 ∙ ap₂ (finished m b i) (kept .same m) (ap (λ x. x .count) same));
-        memory = rw there (f .1 ∙ ap (memoryAfter m b i) (kept .same m));
-        bytes = rw (there, w .bytes, ← w .count) (front text desk t q (w .room) ∙ sym (front text box t q room));
+        answer = f .0 ∙ ap₂ (finished m b i) (kept .same m) (ap (λ x. x .count) same) ∙ ap (performed m) (sym there);
+        memory = f .1 ∙ ap (memoryAfter m b i) (kept .same m) ∙ ap (performedMemory m) (sym there);
+        code = rw (there, w .bytes, ← w .count) (front text desk t q (w .room) ∙ sym (front text box t q room));
       }
 
-  pub desk-and-box : (text desk box : List ℕ) {m′ : List ℕ} {n : ℕ} {r : Answer} → Room box → compiled text desk ≡ doneWith n
-      → Runs (compiledCode text desk) n target m m′ r
-      → AsPerformed (request target text m box) box m (compiledCode text desk) n r m′
-  desk-and-box text desk box room e run = as-performed desk box (formula text desk e .1) room e run
+  pub desk-and-box : (text desk box : List ℕ) {n : ℕ} → Room box → compiled text desk ≡ doneWith n
+      → Agree n (resultOf (run n) target m (compiledCode text desk)) (resultOf (compile-and-run text) target m box)
+  desk-and-box text desk box room e = agree desk box (formula text desk e .1) room e

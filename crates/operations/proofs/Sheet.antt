@@ -11,21 +11,8 @@ use Rattle.grammar.specs.Worth.{worth}
 use Rattle.text.specs.Judge.{ofParse, ofScan, judge}
 use Rattle.machine.specs.Machine.{exec, act}
 use Rattle.tree_code.specs.Code.{codeOf}
-use Rattle.operations.specs.Sheet.{Sums, none, more, reads, answers, sheet, ascii}
+use Rattle.operations.specs.Sheet.{Sums, sheet, ascii}
 
 pub sums : Sums sheet
 unfolding Ieee.ofBits Ieee.toBits Ieee.ofInt Ieee.add Ieee.div Ieee.eq ascii bankOf namedRule otherWord wordOf lexemeOf scanFrom groupNumber treeKind wrongKind expression parse worth ofParse ofScan judge exec act codeOf
-sums =
-    more (reads refl refl refl)
-    (more (reads refl refl refl)
-    (more (reads refl refl refl)
-    (more (reads refl refl refl)
-    (more (reads refl refl refl)
-    (more (reads refl refl refl)
-    (more (reads refl refl refl)
-    (more (reads refl refl refl)
-    (more (reads refl refl refl)
-    (more (reads refl refl refl)
-    (more (reads refl refl refl)
-    (more (answers refl)
-    none)))))))))))
+sums = (refl, (refl, (refl, (refl, (refl, (refl, (refl, (refl, (refl, (refl, (refl, (refl, tt))))))))))))

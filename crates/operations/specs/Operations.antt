@@ -6,7 +6,6 @@ use Prim.Native.Nat.{ℕ}
 use lib.Dec.{eqb, ltb}
 use lib.IntN.{pos}
 use lib.ListN.{length}
-use Rattle.values.specs.declared.Kind.{Kind}
 use Rattle.values.specs.declared.Value.{Value}
 use Rattle.values.specs.declared.Value.the-variants.{Int}
 use Rattle.values.specs.Values.{faultNumber}
@@ -25,8 +24,11 @@ use Rattle.text.specs.Judge.{Judgement, accepted, refused, judge}
 use Rattle.code.specs.Instructions.{instructions}
 use Rattle.machine.specs.declared.Ended.{Ended}
 use Rattle.machine.specs.declared.Ended.the-variants as Ended
+use Rattle.machine.specs.declared.Ran.{Ran}
 use Rattle.machine.specs.Machine.{runs}
-use Rattle.verifier.specs.Accepts.{Accepts}
+use Rattle.verifier.specs.declared.Verdict.{Verdict}
+use Rattle.verifier.specs.declared.Verdict.the-variants as Verdict
+use Rattle.verifier.specs.Verdicts.{verdict}
 use Rattle.tree_code.specs.Code.{codeOf}
 use Rattle.tree_code.specs.Demand.{endOf}
 use Rattle.compiler.specs.Compile.{codedBytes}
@@ -46,11 +48,13 @@ abbrev pub compileAnswer : Judgement → Answer
 compileAnswer (accepted t) = Done (Int (pos 0)) (length (codeOf t))
 compileAnswer (refused a p) = Refused a p
 
--- "a check that accepts returns integer 0, count 0"; 15: "the given number of instructions reaches beyond the buffer, or the check does not accept them".
--- Either case shuts out the other.
-pub data Checks (code : List ℕ) (n : ℕ) : Answer → Type 0 where
-  accepts : {k : Kind} → Accepts (instructions code n) k → Checks code n (Done (Int (pos 0)) 0)
-  refuses : ((k : Kind) → Accepts (instructions code n) k → ⊥) → Checks code n (Refused 15 0)
+-- "a check that accepts returns integer 0, count 0"; 15: "the given number of instructions reaches beyond the buffer, or the check does not accept them"
+abbrev pub verdictAnswer : Verdict → Answer
+verdictAnswer (Verdict.Accepted k) = Done (Int (pos 0)) 0
+verdictAnswer Verdict.Refused = Refused 15 0
+
+abbrev pub checkAnswer : List ℕ → ℕ → Answer
+checkAnswer code n = verdictAnswer (verdict (instructions code n))
 
 -- "0 returns the value before the store"; "where it faults (13), the count is of all instructions executed"
 abbrev pub afterStore : Value → ℕ → Stored → Answer
@@ -72,24 +76,44 @@ memoryAfter m b i (Ended.Done v) = storeImage m b i v
 memoryAfter m b i (Ended.Stopped f) = flagged m f
 memoryAfter m b i Ended.Stuck = m
 
--- where a run's value goes: 1 "memory not 3,204 bytes", then 2 "target is not exactly one word that is a C, V, N, D or R cell, no spaces"
+-- where a run's value goes, or the first refusal in the order 1 "memory not 3,204 bytes", 2 "target is not exactly one word that is a C, V, N, D or R cell, no
+-- spaces", 15
 pub data Goal : Type 0 where
   to : Bank → ℕ → Goal
   none : ℕ → Goal
 
-abbrev pub goalOf : Named → Goal
-goalOf (Named.Cell b i) = to b i
-goalOf Named.Other = none 2
+abbrev pub ifAccepted : Verdict → Goal → Goal
+ifAccepted (Verdict.Accepted k) g = g
+ifAccepted Verdict.Refused g = none 15
 
-abbrev pub goal : List ℕ → List ℕ → Goal
-goal target m = cond (eqb (length m) imageSize) (goalOf (targetRule target)) (none 1)
+abbrev pub goalOf : Verdict → Named → Goal
+goalOf v (Named.Cell b i) = ifAccepted v (to b i)
+goalOf v Named.Other = none 2
 
--- running n instructions of the code: what the memory m becomes, and the answer; again one case shuts out the others
-pub data Runs (code : List ℕ) (n : ℕ) (target m : List ℕ) : List ℕ → Answer → Type 0 where
-  unready : {a : ℕ} → goal target m ≡ none a → Runs code n target m m (Refused a 0)
-  unaccepted : {b : Bank} {i : ℕ} → goal target m ≡ to b i → ((k : Kind) → Accepts (instructions code n) k → ⊥) → Runs code n target m m (Refused 15 0)
-  ran : {b : Bank} {i : ℕ} {k : Kind} → goal target m ≡ to b i → Accepts (instructions code n) k
-      → Runs code n target m (memoryAfter m b i (runs code n m .end)) (finished m b i (runs code n m .end) (runs code n m .count))
+abbrev pub goal : List ℕ → ℕ → List ℕ → List ℕ → Goal
+goal code n target m = cond (eqb (length m) imageSize) (goalOf (verdict (instructions code n)) (targetRule target)) (none 1)
+
+-- the run x on the memory m, for such a goal
+abbrev pub ranAnswer : List ℕ → Ran → Goal → Answer
+ranAnswer m x (to b i) = finished m b i (x .end) (x .count)
+ranAnswer m x (none a) = Refused a 0
+
+abbrev pub ranMemory : List ℕ → Ran → Goal → List ℕ
+ranMemory m x (to b i) = memoryAfter m b i (x .end)
+ranMemory m x (none a) = m
+
+abbrev pub runAnswer : List ℕ → ℕ → List ℕ → List ℕ → Answer
+runAnswer code n target m = ranAnswer m (runs code n m) (goal code n target m)
+
+abbrev pub runMemory : List ℕ → ℕ → List ℕ → List ℕ → List ℕ
+runMemory code n target m = ranMemory m (runs code n m) (goal code n target m)
+
+-- the two contracts as relations, for the words of the C report
+abbrev pub Checks : List ℕ → ℕ → Answer → Type 0
+Checks code n r = r ≡ checkAnswer code n
+
+abbrev pub Runs : List ℕ → ℕ → List ℕ → List ℕ → List ℕ → Answer → Type 0
+Runs code n target m m′ r = (r ≡ runAnswer code n target m) × (m′ ≡ runMemory code n target m)
 
 -- compile and run: the cell, the formula's tree and its code, the buffer as written and the number of instructions; or the first refusal in the order
 -- 1, 10, 2, 3 to 9

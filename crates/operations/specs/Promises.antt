@@ -1,11 +1,11 @@
--- The user's three demands, as theorems about the four operations: read this first. `Does` gathers the operations' contracts of src/lib.rt; that each of them
--- ends, whatever it is given, is part of every function's proof. What is written, the demands' word, is `Accepts` and `Outcome` for texts and `worth` for
--- trees. proofs/Promises.antt proves `Promises`.
+-- The user's three demands, as theorems about the four operations: read this first. `resultOf` gathers the operations' contracts of src/lib.rt; that each of
+-- them ends, whatever it is given, is part of every function's proof. What is written, the demands' word, is `Accepts` and `Outcome` for texts, `worth` for
+-- trees and `Code.Accepts` for code. proofs/Promises.antt proves `Promises`.
 use mathlib.Core.Path.{_≡_}
 use mathlib.Core.Logic.{_↔_}
 use mathlib.Core.List.{List}
 use Prim.Native.Nat.{ℕ, _*_, _≤_}
-use lib.ListN.{length, getD, set}
+use lib.ListN.{length, getD, set, take}
 use Rattle.words.specs.Laws.{Bytes}
 use Rattle.values.specs.declared.Kind.{Kind}
 use Rattle.values.specs.declared.Fault.{Fault}
@@ -20,12 +20,14 @@ use Rattle.grammar.specs.Tree.{Tree, treeKind}
 use Rattle.grammar.specs.Worth.{worth}
 use Rattle.text.specs.Judge.{judge}
 use Rattle.text.specs.Theorems.{Accepts, Outcome}
+use Rattle.code.specs.Instructions.{instructions}
 use Rattle.machine.specs.Machine.{runs}
+use Rattle.verifier.specs.Accepts as Code
 use Rattle.tree_code.specs.Demand.{endOf}
 use Rattle.operations.specs.declared.Answer.{Answer}
 use Rattle.operations.specs.declared.Answer.the-variants.{Refused}
-use Rattle.operations.specs.Operations.{Checks, Runs, Request, request, performed, performedMemory, performedCode}
-use Rattle.operations.specs.Terms.{compiled, compiledCode, doneWith, number, Refusal, Ready, Room, Gives, Finite, AsPerformed, Ends}
+use Rattle.operations.specs.Operations.{checkAnswer, runAnswer, runMemory, request, performed, performedMemory, performedCode}
+use Rattle.operations.specs.Terms.{compiled, compiledCode, doneWith, number, Refusal, Ready, Room, Gives, Finite, Ends}
 
 -- "compile alone (expression, code buffer), check (code buffer, number of instructions), run (those, memory, target), and compile-and-run (all but the number)"
 pub data Operation : Type 0 where
@@ -34,56 +36,67 @@ pub data Operation : Type 0 where
   run : ℕ → Operation
   compile-and-run : List ℕ → Operation
 
--- an operation's answer, and what the memory m and the code become; one that is lent no memory leaves any as it was
-pub data Does (target m code : List ℕ) : Operation → Answer → List ℕ → List ℕ → Type 0 where
-  compile-does : (text : List ℕ) → Does target m code (compile text) (compiled text code) m (compiledCode text code)
-  check-does : {r : Answer} (n : ℕ) → Checks code n r → Does target m code (check n) r m code
-  run-does : {r : Answer} {m′ : List ℕ} (n : ℕ) → Runs code n target m m′ r → Does target m code (run n) r m′ code
-  compile-and-run-does : (text : List ℕ) {q : Request} → q ≡ request target text m code
-      → Does target m code (compile-and-run text) (performed m q) (performedMemory m q) (performedCode code q)
+-- an operation's answer, and what the memory and the code buffer have become
+pub record OperationResult : Type 0 where
+  pub answer : Answer
+  pub memory : List ℕ
+  pub code : List ℕ
 
--- demand 1, of an operation that answers r and leaves m′ and code′
-pub record Keeps (target m code : List ℕ) (r : Answer) (m′ code′ : List ℕ) : Type 0 where
+-- "For every input .. each public operation's contract determines the result and every byte of memory and code buffer, by an equation": with the target, the
+-- memory m and the code; one that is lent no memory leaves any as it was
+abbrev pub resultOf : Operation → List ℕ → List ℕ → List ℕ → OperationResult
+resultOf (compile text) target m code = record { answer = compiled text code; memory = m; code = compiledCode text code }
+resultOf (check n) target m code = record { answer = checkAnswer code n; memory = m; code = code }
+resultOf (run n) target m code = record { answer = runAnswer code n target m; memory = runMemory code n target m; code = code }
+resultOf (compile-and-run text) target m code =
+    let q = request target text m code in
+    record { answer = performed m q; memory = performedMemory m q; code = performedCode code q }
+
+-- demand 1, of an operation's result
+pub record Keeps (target m code : List ℕ) (x : OperationResult) : Type 0 where
   -- "each operation ends with an answer from the numbered list"
-  pub listed : number r ≤ 15
+  pub listed : number (x .answer) ≤ 15
   -- "A refusal of the request writes nothing."
-  pub refused : Refusal (number r) → (m′ ≡ m) × (code′ ≡ code)
+  pub refused : Refusal (number (x .answer)) → (x .memory ≡ m) × (x .code ≡ code)
   -- "In the memory, a fault of a run, its store included, turns on its one flag and writes nothing else,"
-  pub fault : (f : Fault) → number r ≡ faultNumber f → m′ ≡ set m (flagAt f) 1
+  pub fault : (f : Fault) → number (x .answer) ≡ faultNumber f → x .memory ≡ set m (flagAt f) 1
   -- "and a successful run writes the target cell only."
-  pub done : number r ≡ 0 → (k : ℕ) → ((b : Bank) (i : ℕ) → targetRule target ≡ Cell b i → Within b i k → ⊥) → getD m′ k 0 ≡ getD m k 0
+  pub done : number (x .answer) ≡ 0 → (k : ℕ) → ((b : Bank) (i : ℕ) → targetRule target ≡ Cell b i → Within b i k → ⊥) → getD (x .memory) k 0 ≡ getD m k 0
   -- neither grows nor shrinks
-  pub sizes : (length m′ ≡ length m) × (length code′ ≡ length code)
+  pub sizes : (length (x .memory) ≡ length m) × (length (x .code) ≡ length code)
 
 -- demand 3, of n instructions compiled from a text whose tree is t
 pub record Faithful (text : List ℕ) (t : Tree) (code : List ℕ) (n : ℕ) : Type 0 where
   -- "its compiled code gives what the written rules give for the formula's tree on that memory"
   pub same : (m : List ℕ) → runs code n m .end ≡ endOf (worth (memoryOf m) t)
   -- "The code check accepts that code,"
-  pub accepted : Checks code n (doneWith 0)
+  pub accepted : checkAnswer code n ≡ doneWith 0
   -- "which executes at most two instructions for each character and never holds more than 128 values."
   pub ends : Ends code n (2 * length text) (treeKind t)
   -- "A compiled formula has at most two instructions a byte."
   pub short : n ≤ 2 * length text
 
+-- two operations answer the same, value and count included, and leave the same memory and the same n instructions
+pub record Agree (n : ℕ) (x y : OperationResult) : Type 0 where
+  pub answer : x .answer ≡ y .answer
+  pub memory : x .memory ≡ y .memory
+  pub code : take (8 * n) (x .code) ≡ take (8 * n) (y .code)
+
 pub record Promises : Type 0 where
   -- 1. "Any text, any memory, any code bytes"
-  pub keeps : {target m code m′ code′ : List ℕ} {o : Operation} {r : Answer} → Does target m code o r m′ code′ → Keeps target m code r m′ code′
+  pub keeps : (o : Operation) (target m code : List ℕ) → Keeps target m code (resultOf o target m code)
   -- "Compiling writes only its code, into the buffer lent for it."
   pub only-code : (text code : List ℕ) (n k : ℕ) → compiled text code ≡ doneWith n → 8 * n ≤ k → getD (compiledCode text code) k 0 ≡ getD code k 0
-  -- "each public operation's contract determines the result and every byte of memory and code buffer"
-  pub determined : {target m code x y c d : List ℕ} {o : Operation} {r q : Answer} → Does target m code o r x c → Does target m code o q y d
-      → (r ≡ q) × ((x ≡ y) × (c ≡ d))
   -- 2. "A formula is accepted exactly if it follows the written grammar, names, number ranges, length, nesting and kinds of number.", by compile and by
   -- compile-and-run; why any other text is not
   pub compiles : (text code : List ℕ) → Room code → number (compiled text code) ≡ 0 ↔ ((t : Tree) × Accepts text t)
   pub performs : (text code : List ℕ) {target m : List ℕ} {b : Bank} {i : ℕ} → Ready target m b i → Room code
-      → (Refusal (number (performed m (request target text m code))) → ⊥) ↔ ((t : Tree) × Accepts text t)
+      → (Refusal (number (resultOf (compile-and-run text) target m code .answer)) → ⊥) ↔ ((t : Tree) × Accepts text t)
   pub judged : (text : List ℕ) → Outcome text (judge text)
   -- "Its answer, or its fault, is the one that the written rules give"; the count is that of its code
   pub answers : {text target m : List ℕ} (code : List ℕ) {b : Bank} {i n : ℕ} {t : Tree} → Ready target m b i → Accepts text t → compiled text code ≡ doneWith n
-      → Gives m b i (runs (compiledCode text code) n m .count) (endOf (worth (memoryOf m) t))
-      (performed m (request target text m code)) (performedMemory m (request target text m code))
+      → let x = resultOf (compile-and-run text) target m code in
+      Gives m b i (runs (compiledCode text code) n m .count) (endOf (worth (memoryOf m) t)) (x .answer) (x .memory)
   -- "an infinite result is 12", "Reading an R cell that holds an infinity or NaN is 13": so a formula gives none, and nor does any code
   pub finite : {text : List ℕ} {t : Tree} (m : List ℕ) → Accepts text t → Bytes m → Finite (endOf (worth (memoryOf m) t))
   pub finite-code : (code : List ℕ) (n : ℕ) (m : List ℕ) → Bytes code → Bytes m → Finite (runs code n m .end)
@@ -92,15 +105,17 @@ pub record Promises : Type 0 where
       → Faithful text t (compiledCode text code) n
   -- "compile-and-run, where none of 1, 2 and 10 holds, writes and runs the same": no more "one way on the desk and another in the box". The desk
   -- compiles into a buffer of its own, and the box runs that code or compiles the text itself.
-  pub desk-and-box : (text desk box : List ℕ) {target m m′ : List ℕ} {b : Bank} {i n : ℕ} {r : Answer} → Ready target m b i → Room box
-      → compiled text desk ≡ doneWith n → Runs (compiledCode text desk) n target m m′ r
-      → AsPerformed (request target text m box) box m (compiledCode text desk) n r m′
+  pub desk-and-box : (text desk box : List ℕ) {target m : List ℕ} {b : Bank} {i n : ℕ} → Ready target m b i → Room box → compiled text desk ≡ doneWith n
+      → Agree n (resultOf (run n) target m (compiledCode text desk)) (resultOf (compile-and-run text) target m box)
   pub same-refusal : (text desk box : List ℕ) {target m : List ℕ} {b : Bank} {i a p : ℕ} → Ready target m b i → Room desk → Room box
-      → compiled text desk ≡ Refused a p → performed m (request target text m box) ≡ Refused a p
+      → compiled text desk ≡ Refused a p → resultOf (compile-and-run text) target m box .answer ≡ Refused a p
   pub same-code : (text code : List ℕ) {target m : List ℕ} {b : Bank} {i : ℕ} → Ready target m b i → Room code
-      → performedCode code (request target text m code) ≡ compiledCode text code
+      → resultOf (compile-and-run text) target m code .code ≡ compiledCode text code
+  -- "The check accepts exactly code of ..", and "Every other code is 15."
+  pub checks : (code : List ℕ) (n : ℕ) → checkAnswer code n ≡ doneWith 0 ↔ ((k : Kind) × Code.Accepts (instructions code n) k)
   -- "Any other code that the code check accepts, whatever the memory holds, also reaches its end or a fault. It executes at most as many instructions as it
   -- has, is never short of a value and never holds more than 128."; and what run then answers and stores
-  pub safe : (code : List ℕ) (n : ℕ) → Checks code n (doneWith 0) → (k : Kind) × Ends code n n k
-  pub runs-code : {code target m m′ : List ℕ} {b : Bank} {i n : ℕ} {r : Answer} → Ready target m b i → Checks code n (doneWith 0) → Runs code n target m m′ r
-      → Gives m b i (runs code n m .count) (runs code n m .end) r m′
+  pub safe : (code : List ℕ) (n : ℕ) → checkAnswer code n ≡ doneWith 0 → (k : Kind) × Ends code n n k
+  pub runs-code : (code : List ℕ) (n : ℕ) {target m : List ℕ} {b : Bank} {i : ℕ} → Ready target m b i → checkAnswer code n ≡ doneWith 0
+      → let x = resultOf (run n) target m code in
+      Gives m b i (runs code n m .count) (runs code n m .end) (x .answer) (x .memory)

@@ -17,7 +17,6 @@ use Rattle.values.specs.declared.Outcome.the-variants.{Done}
 use Rattle.memory.specs.declared.Bank.{Bank}
 use Rattle.memory.specs.declared.Bank.the-variants.{«V», N, D, R}
 use Rattle.memory.specs.Environment.{memoryOf}
-use Rattle.operations.specs.declared.Report.{Report}
 use Rattle.operations.specs.Operations.{reportOf, Request, request, performed, performedMemory}
 
 -- the bytes of a text
@@ -37,21 +36,24 @@ pub data Sum : Type 0 where
 abbrev pub asked : String → String → Request
 asked target text = request (ascii target) (ascii text) ones (replicate 16384 0)
 
--- element 0 of the bank afterwards
-abbrev pub cellAfter : Bank → Request → Outcome
-cellAfter b q = memoryOf (performedMemory ones q) .cell b 0
+-- the answer, the value that is returned, and what element 0 of the bank reads afterwards
+pub record Effect : Type 0 where
+  pub answer : ℕ
+  pub value : Value
+  pub cell : Outcome
 
-abbrev pub reportOn : Request → Report
-reportOn q = reportOf (performed ones q)
+abbrev pub effect : Bank → Request → Effect
+effect b q =
+    let r = reportOf (performed ones q) in
+    record { answer = r .answer; value = r .value; cell = memoryOf (performedMemory ones q) .cell b 0 }
 
-pub data Holds : Sum → Type 0 where
-  reads : {target text : String} {b : Bank} {v w : Value} → reportOn (asked target text) .answer ≡ 0 → reportOn (asked target text) .value ≡ v
-      → cellAfter b (asked target text) ≡ Done w → Holds (is target text b v w)
-  answers : {target text : String} {a : ℕ} → reportOn (asked target text) .answer ≡ a → Holds (gets target text a)
+abbrev pub Holds : Sum → Type 0
+Holds (is target text b v w) = effect b (asked target text) ≡ record { answer = 0; value = v; cell = Done w }
+Holds (gets target text a) = reportOf (performed ones (asked target text)) .answer ≡ a
 
-pub data Sums : List Sum → Type 0 where
-  none : Sums []
-  more : {s : Sum} {ss : List Sum} → Holds s → Sums ss → Sums (s ∷ ss)
+abbrev pub Sums : List Sum → Type 0
+Sums [] = Unit {0}
+Sums (s ∷ ss) = Holds s × Sums ss
 
 abbrev int : ℕ → Value
 int n = Int (pos n)

@@ -2,9 +2,9 @@
 use mathlib.Core.Path.{_≡_}
 use mathlib.Core.Logic.{_⊎_}
 use mathlib.Core.List.{List}
-use Prim.Native.Nat.{ℕ, _*_, _≤_}
+use Prim.Native.Nat.{ℕ, _≤_}
 use lib.IntN.{pos}
-use lib.ListN.{length, set, take}
+use lib.ListN.{length, set}
 use lib.Seq.{sets}
 use Rattle.words.specs.Words.{bytesOf}
 use Rattle.values.specs.declared.Kind.{Kind}
@@ -18,14 +18,17 @@ use Rattle.memory.specs.declared.store.Encoded.the-variants as Encoded
 use Rattle.memory.specs.Layout.{imageSize, layoutOf, cellAt, flagAt}
 use Rattle.memory.specs.Names.{targetRule}
 use Rattle.memory.specs.Store.{encode}
+use Rattle.memory.specs.Environment.{memoryOf}
+use Rattle.code.specs.Instructions.{instructions}
 use Rattle.machine.specs.declared.Ended.{Ended}
 use Rattle.machine.specs.declared.Ended.the-variants as Ended
 use Rattle.machine.specs.Machine.{runs}
+use Rattle.verifier.specs.Stack.{StackSafe}
 use Rattle.verifier.specs.Safety.{EndsWell}
 use Rattle.compiler.specs.Compile.{compiling, codedBytes}
 use Rattle.operations.specs.declared.Answer.{Answer}
 use Rattle.operations.specs.declared.Answer.the-variants.{Done, Fault}
-use Rattle.operations.specs.Operations.{reportOf, compileAnswer, Request, performed, performedMemory, performedCode}
+use Rattle.operations.specs.Operations.{reportOf, compileAnswer}
 
 -- compile's answer, and what it leaves in the buffer
 abbrev pub compiled : List ℕ → List ℕ → Answer
@@ -66,15 +69,9 @@ pub data Gives (m : List ℕ) (b : Bank) (i n : ℕ) : Ended → Answer → List
 abbrev pub Finite : Ended → Type 0
 Finite e = (v : Value) → e ≡ Ended.Done v → Proper v
 
--- a run of n instructions of the code, on the memory m, that answers r and leaves m′, is what compile-and-run does with another buffer, to which it writes
--- the same instructions
-pub record AsPerformed (q : Request) (buffer m code : List ℕ) (n : ℕ) (r : Answer) (m′ : List ℕ) : Type 0 where
-  pub answer : r ≡ performed m q
-  pub memory : m′ ≡ performedMemory m q
-  pub bytes : take (8 * n) code ≡ take (8 * n) (performedCode buffer q)
-
--- n instructions of the code, whatever the memory holds: they end with a value of the kind k or a fault, and so many are begun at most. Short of a value,
--- or with more than 128 held, they would end `Stuck`.
+-- n instructions of the code, whatever the memory holds: they end with a value of the kind k or a fault, so many are begun at most, and no moment is short of
+-- a value or holds more than 128
 pub record Ends (code : List ℕ) (n most : ℕ) (k : Kind) : Type 0 where
   pub well : (m : List ℕ) → EndsWell k (runs code n m .end)
   pub quick : (m : List ℕ) → runs code n m .count ≤ most
+  pub stack : (m : List ℕ) → StackSafe (memoryOf m) (instructions code n) k

@@ -3,7 +3,8 @@ ghost use mathlib.Core.Path.{_≡_};
 ghost use lib.ListN.{length};
 ghost use Rattle.memory.specs.Store.{storeImage};
 ghost use Rattle.compiler.specs.Compile.{compiling, codedBytes};
-ghost use Rattle.operations.specs.Operations.{reportOf, compileAnswer, Checks, storedAnswer, finished, memoryAfter, Runs, request, performed, performedMemory, performedCode};
+ghost use Rattle.operations.specs.Operations.{reportOf, compileAnswer, checkAnswer, storedAnswer, finished, memoryAfter, runAnswer, runMemory};
+ghost use Rattle.operations.specs.Operations.{request, performed, performedMemory, performedCode};
 use compiler::Coded;
 use machine::Ended;
 use machine::Ran;
@@ -67,7 +68,7 @@ pub fn compile(text: &[u8], code: &mut [u8]) -> Answer
 }
 
 pub fn check(code: &[u8], n: usize) -> Answer
-    ensures { λ r. ⌜ Checks (now (code .entry)) n r ⌝ }
+    ensures { λ r. ⌜ r ≡ checkAnswer (now (code .entry)) n ⌝ }
 {
     match verifier::check(code, n) {
         Verdict::Accepted(_) => Answer::Done(Value::Int(0), 0),
@@ -104,7 +105,8 @@ fn finish(memory: &mut [u8], bank: Bank, element: u32, ran: Ran) -> Answer
 }
 
 pub fn run(code: &[u8], n: usize, memory: &mut [u8], target: &[u8]) -> Answer
-    ensures { λ r. ⌜ Runs (now (code .entry)) n (now (target .entry)) (now (memory .entry)) (now (memory .exit)) r ⌝ }
+    ensures { λ r. ⌜ r ≡ runAnswer (now (code .entry)) n (now (target .entry)) (now (memory .entry)) ⌝ }
+    ensures { λ r. ⌜ now (memory .exit) ≡ runMemory (now (code .entry)) n (now (target .entry)) (now (memory .entry)) ⌝ }
 {
     if memory.len() != memory::IMAGE_SIZE {
         return Answer::Refused(1, 0);

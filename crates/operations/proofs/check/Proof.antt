@@ -1,6 +1,5 @@
 -- `check` meets its contract: the verdict is right.
-use Rattle.operations.specs.Operations.{refuses}
-use Rattle.operations.proofs.Verdicts.{none-accepted, checked}
+use Rattle.operations.proofs.Verdicts.{checked}
 use borrow.Author.Needs.{needs}
 use Rattle.operations.proofs.check.Statement.{statement}
 use Rattle.operations.proofs.check.Tie as tie
@@ -18,7 +17,7 @@ returns : tie.Need-returns
 returns c = checked (c .before .before .check .ensures) (c .enum-told .given .1)
 
 returns-2 : tie.Need-returns-2
-returns-2 c = refuses (none-accepted (c .before .before .check .ensures) (c .enum-told2 .given .1))
+returns-2 c = checked (c .before .before .check .ensures) (c .enum-told2 .given .1)
 
 pub check-spec : {M : Type 1} → statement M
 check-spec = tie.close (tie.spec check-requires enum-told enum-told-2 returns returns-2)
