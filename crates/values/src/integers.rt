@@ -103,7 +103,7 @@ pub struct CountedPower {
     pub count: u32,
 }
 
-// The one multiplication of a whole power.
+// The only multiplication of a whole power: it raises the count.
 fn times(x: i32, y: i32, count: u32) -> Product
     requires { ⌜ count < 12 ⌝ }
     ensures { λ r. ⌜ (r .value ≡ x *ℤ y) × (r .count ≡ count + 1) ⌝ }
@@ -153,6 +153,7 @@ fn binary_power(a: i32, n: u32) -> CountedPower
     }
 }
 
+// An exponent that is refused takes no multiplication, and neither does 0.
 pub fn counted_power(a: i32, n: i32) -> CountedPower
     ensures { λ r. ⌜ PowerCount a n (r .outcome) (r .count) ⌝ }
 {
