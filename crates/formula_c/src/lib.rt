@@ -1,6 +1,8 @@
-// The four operations for C: include/formula.h. A slice is a pointer and a length there, and the report is five 32-bit words.
+// The four operations for C, and the remainder: include/formula.h. A slice is a pointer and a length there, and the report is five
+// 32-bit words.
 ghost use mathlib.Core.Path.{_≡_};
 ghost use Prim.Native.Nat.{_%_, _^_};
+ghost use lib.Ieee.{binary32, rem};
 ghost use lib.ListN.{length};
 ghost use Rattle.compiler.specs.Compile.{compiling, codedBytes};
 ghost use Rattle.operations.specs.Operations.{compileAnswer, request, performed, performedMemory, performedCode};
@@ -88,4 +90,12 @@ pub extern "C" fn formula_compile_and_run(
 {
     let answer = operations::compile_and_run(target, expr, memory, code);
     tell(answer, report);
+}
+
+// In the place of the C library's fmodf it makes an archive that needs no library: include/build.sh.
+#[no_mangle]
+pub extern "C" fn formula_remainder(x: f32, y: f32) -> f32
+    ensures { λ r. ⌜ r ≡ rem binary32 x y ⌝ }
+{
+    remainder::remainder(x, y)
 }
