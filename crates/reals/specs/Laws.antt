@@ -60,7 +60,8 @@ pub record RealLaws : Type 0 where
   pub unit : Has false (2 ^ 149) (fin false 1 (pos 0))
   -- (2 * a + b) / (2 * b) is a / b to the nearest whole number, halves up
   pub halves : (a b : ℕ) → 0 < b → ClosestWhole a b ((2 * a + b) / (2 * b))
-  -- a finite single and its 32 bits are found from each other, and no other bits are a finite single's: so "ties to even" reads the last digit that `pattern` gives, and no algorithm
+  -- a finite single and its 32 bits are found from each other, and no other bits are a finite single's: so the last bit that decides a tie is the last
+  -- digit that `pattern` gives
   pub encode-below : (x : Float) → Single x → Ieee.toBits binary32 x < 2 ^ 32
   pub decode-encode : (x : Float) → Single x → Ieee.ofBits binary32 (Ieee.toBits binary32 x) ≡ x
   pub encode-decode : (b : ℕ) → b < 2 ^ 32 → b % 2 ^ 31 / 2 ^ 23 < 255 → Ieee.toBits binary32 (Ieee.ofBits binary32 b) ≡ b

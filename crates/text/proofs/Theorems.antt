@@ -1,21 +1,22 @@
 -- The theorems about texts, from those about the grammar.
-use mathlib.Core.Path.{_≡_, refl, sym, ap, subst, _∙_}
+use mathlib.Core.Path.{_≡_, refl, sym, subst}
 use mathlib.Core.Bool.{Bool, true, false, _&&_, cond}
-use mathlib.Core.List.{List, [], _∷_, _++_, append-assoc}
-use Prim.Native.Nat.{ℕ, suc, _-_, _<_}
+use mathlib.Core.List.{List}
+use Prim.Native.Nat.{ℕ, _≤_}
 use native.Mathlib.Omega.{arith}
 use lib.Dec.{leb}
 use lib.ListN.{length}
 use borrow.Author.Tests.{le-leb, leb-true}
 use Rattle.tokens.specs.Scan.{Tok, Scan, tokens, wrong, scan}
 use Rattle.grammar.specs.Tree.{Tree, Place, nowhere, at, wrongKind}
-use Rattle.grammar.specs.Grammar.{Formula, Viable}
-use Rattle.grammar.specs.Parse.{Result, mostOpen}
+use Rattle.grammar.specs.Parse.{Result}
 use Rattle.grammar.specs.Theorems as G
-use Rattle.grammar.specs.Theorems.{isOpener, isCloser, openAfter, Shallow, opens, goes-on, Found}
+use Rattle.grammar.specs.Theorems.{Found}
 use Rattle.grammar.proofs.Theorems.{grammar-theorems}
-use Rattle.text.specs.Judge.{accepted, refused, ofKinds, ofParse, ofScan, judge}
+use Rattle.text.specs.Judge.{Judgement, accepted, refused, ofKinds, ofParse, ofScan, judge}
 use Rattle.text.specs.Theorems.{Sized, Reads, Accepts, Outcome, wrong-size, wrong-token, wrong-end, wrong-next, too-deep, wrong-kind, formula, TextTheorems}
+use Rattle.text.proofs.Only.{one-outcome}
+use Rattle.text.proofs.Places.{placed}
 
 -- the test of the length
 fits : (s : List ℕ) → Sized s → (leb 1 (length s) && leb (length s) 1024) ≡ true
@@ -54,33 +55,8 @@ outcome s = go (leb 1 (length s) && leb (length s) 1024) refl
     go true e = read (sized s e) (scan s) refl
     go false e = wrong-size (λ h. let f = fits s h in let z : _≡_ {A = ℕ} 0 1 = cc in omega arith)
 
--- an opener of a shallow text is met with fewer than eight open
-room : (d : ℕ) (p : List Tok) (x : Tok) (ys : List Tok) → Shallow d (p ++ x ∷ ys) → isOpener x ≡ true → openAfter d p < mostOpen
-room d [] x ys (opens e lt h) o = lt
-room d [] x ys (goes-on e h) o = let z : _≡_ {A = ℕ} 0 1 = cc in absurd (omega arith)
-room d (y ∷ p) x ys (opens e lt h) o = rw e (room (suc d) p x ys h o)
-room d (y ∷ p) x ys (goes-on e h) o = rw e (room (cond (isCloser y) (d - 1) d) p x ys h o)
-
--- a formula is found
-module _ (s : List ℕ) {w : List Tok} {t : Tree} (a : Formula w t) (sh : Shallow 0 w) (k : wrongKind t ≡ nowhere) where
-  begins : (p : List Tok) (x : Tok) (ys : List Tok) → w ≡ p ++ x ∷ ys → Viable (p ++ x ∷ [])
-  begins p x ys e = (ys, t, rw append-assoc (subst (λ (v : List Tok). Formula v t) e a))
-
-  found-formula : {q : Result Tree} → Found w q → ofParse s q ≡ accepted t
-  unfolding ofParse
-  found-formula (G.formula {t = u} b z) =
-      let e : u ≡ t = grammar-theorems .unambiguous w u t b a in
-      subst (λ (x : Tree). ofKinds x (wrongKind x) ≡ accepted t) (sym e) (rw k refl)
-  found-formula (G.unfinished v n z) = absurd (n t a)
-  found-formula (G.surplus {x = x} {ys = ys} p e v n z) = absurd (n (begins p x ys e))
-  found-formula (G.refused {x = x} {ys = ys} p e v n z) = absurd (n (begins p x ys e))
-  found-formula (G.too-deep {x = x} {ys = ys} p e v z o le) = absurd (let r = room 0 p x ys (subst (Shallow 0) e sh) o in omega arith)
-
-accepts-all : (s : List ℕ) (t : Tree) → Accepts s t → judge s ≡ accepted t
-unfolding judge ofScan
-accepts-all s t h =
-    let f = fits s (h .reads .sized) in
-    rw f (ap (ofScan s) (h .reads .scanned) ∙ found-formula s (h .formula) (h .shallow) (h .kinds) (grammar-theorems .found (h .words)))
+only : (s : List ℕ) (j : Judgement) → Outcome s j → j ≡ judge s
+only s j h = one-outcome h (outcome s)
 
 accepts-only : (s : List ℕ) (t : Tree) → judge s ≡ accepted t → Accepts s t
 accepts-only s t e = go (subst (Outcome s) e (outcome s))
@@ -88,5 +64,15 @@ accepts-only s t e = go (subst (Outcome s) e (outcome s))
     go : Outcome s (accepted t) → Accepts s t
     go (formula h) = h
 
+place : (s : List ℕ) (a p : ℕ) → judge s ≡ refused a p → (p ≤ length s) × (p ≤ 1024)
+place s a p e = placed (subst (Outcome s) e (outcome s))
+
 pub text-theorems : TextTheorems
-text-theorems = record { outcome = outcome; accepts = λ s t. (accepts-only s t, accepts-all s t) }
+text-theorems =
+    record {
+      outcome = outcome;
+      accepts = λ s t. (accepts-only s t, λ h. sym (only s (accepted t) (formula h)));
+      only = only;
+      place-inside = λ s a p e. place s a p e .0;
+      place-small = λ s a p e. place s a p e .1;
+    }

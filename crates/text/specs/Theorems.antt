@@ -1,4 +1,4 @@
--- What a reader of the texts wants to know of `judge`, in the words of paper 01; proofs/Theorems.antt proves the record. Every text has one outcome, since `judge` is a function.
+-- What a reader of the texts wants to know of `judge`, in the words of paper 01; proofs/Theorems.antt proves the record.
 use mathlib.Core.Path.{_≡_}
 use mathlib.Core.Bool.{true}
 use mathlib.Core.List.{List, [], _∷_, _++_}
@@ -48,3 +48,8 @@ pub record TextTheorems : Type 0 where
   pub outcome : (s : List ℕ) → Outcome s (judge s)
   -- accepted are exactly the formulas, each with its one tree
   pub accepts : (s : List ℕ) (t : Tree) → judge s ≡ accepted t ↔ Accepts s t
+  -- "Given exactly if": a text has no outcome but its judgement
+  pub only : (s : List ℕ) (j : Judgement) → Outcome s j → j ≡ judge s
+  -- the place of a refusal is that of a byte of the text, or its length; so no place is above 1,024
+  pub place-inside : (s : List ℕ) (a p : ℕ) → judge s ≡ refused a p → p ≤ length s
+  pub place-small : (s : List ℕ) (a p : ℕ) → judge s ≡ refused a p → p ≤ 1024

@@ -19,12 +19,12 @@ use Rattle.tokens.specs.Bytes.{inside, isLetter, isSpace, isWord, isRun,
 use Rattle.tokens.specs.Symbols.{symbolCount, symbolBytes, symbolOf, longest}
 use Rattle.tokens.specs.Numerals.{numeralOf}
 use Rattle.tokens.specs.Words.{wordOf}
-use Rattle.tokens.specs.Scan.{Lexeme, Found, Wrong, End, lexeme, running, symbolLexeme, lexemeOf, blanks, lexemeAt, Scan, tokens, before, scan}
+use Rattle.tokens.specs.Scan.{Lexeme, Found, Wrong, End, lexeme, running, symbolLexeme, lexemeOf, blanks, lexemeAt, Scan, before}
 use Rattle.tokens.specs.Theorems.{Starts, first, Stops, nothing, other, LongestRun, Matches, LongestMatch, LongestLexeme, word, numeral, symbol, stray, Blank, Scans, end, token, stop, TokenTheorems}
 use Rattle.tokens.proofs.Tests.{no, by-test, choose, either, within}
 use Rattle.tokens.proofs.Runs.{run-most, run-every, run-stops, run-length}
 use Rattle.tokens.proofs.Laws.{found, rest, enough, at-found, at-wrong, at-end}
-use Rattle.tokens.proofs.symbols.Longest.{Front, front, Entry, in-table, some-byte, most, front-matches}
+use Rattle.tokens.proofs.symbols.Longest.{Front, front, in-table, some-byte, most, front-matches}
 
 -- ---- classes of bytes
 letter-range : (c : ℕ) → isLetter c ≡ true → 58 ≤ c

@@ -1,5 +1,5 @@
--- What a reader of the tokens wants to know of `scan`, in the words of paper 01; proofs/Theorems.antt proves the record. So a reader believes the classes of bytes, the table of symbols, `wordOf` and
--- `numeralOf`, and no position and no fuel.
+-- What a reader of the tokens wants to know of `scan`, in the words of paper 01; proofs/Theorems.antt proves the record. So a reader believes the classes of
+-- bytes, the table of symbols, `wordOf` and `numeralOf`, and no position and no fuel.
 use mathlib.Core.Path.{_≡_}
 use mathlib.Core.Bool.{Bool, true, false}
 use mathlib.Core.List.{List, [], _∷_, _++_}
@@ -45,18 +45,20 @@ pub data LongestLexeme (w r : List ℕ) : Scanned → Type 0 where
   word : LongestRun isLetter isWord w r → LongestLexeme w r (wordOf w)
   numeral : LongestRun isDigit isRun w r → LongestLexeme w r (numeralOf w)
   symbol : (n : ℕ) → w ≡ symbolBytes n → LongestMatch n r → LongestLexeme w r (Good (Symbol n))
-  -- 4: "bytes that form no token"
-  stray : (c : ℕ) → w ≡ c ∷ [] → isSpace c ≡ false → isLetter c ≡ false → isDigit c ≡ false → ((n : ℕ) → n < symbolCount → Matches n (c ∷ r) → ⊥) → LongestLexeme w r (Bad 4)
+  -- 4, "bytes that form no token": a byte that is no blank and starts no word, numeral or symbol
+  stray : (c : ℕ) → w ≡ c ∷ [] → isSpace c ≡ false → isLetter c ≡ false → isDigit c ≡ false
+      → ((n : ℕ) → n < symbolCount → Matches n (c ∷ r) → ⊥) → LongestLexeme w r (Bad 4)
 
 -- "Spaces and tabs separate."
 abbrev pub Blank : List ℕ → Type 0
 Blank b = all isSpace b ≡ true
 
--- The text from the place p on is blanks and tokens, in order, and nothing else; each token has the place of its first byte. Or it is so up to the first bytes that are no token: "4, 5, 6 over the
--- whole text, the smallest place first".
+-- The text s, from the place p on, is blanks and tokens in order and nothing else, each token with the place of its first byte. Or it is so up to the first
+-- bytes that are no token: "4, 5, 6 over the whole text, the smallest place first".
 pub data Scans : ℕ → List ℕ → Scan → Type 0 where
   end : {p : ℕ} {s : List ℕ} → Blank s → Scans p s (tokens [])
-  token : {p : ℕ} {s : List ℕ} {t : Token} {z : Scan} (b w r : List ℕ) → s ≡ b ++ (w ++ r) → Blank b → LongestLexeme w r (Good t) → Scans (p + length b + length w) r z → Scans p s (before (record { token = t; place = p + length b }) z)
+  token : {p : ℕ} {s : List ℕ} {t : Token} {z : Scan} (b w r : List ℕ) → s ≡ b ++ (w ++ r) → Blank b → LongestLexeme w r (Good t)
+      → Scans (p + length b + length w) r z → Scans p s (before (record { token = t; place = p + length b }) z)
   stop : {p : ℕ} {s : List ℕ} {a : ℕ} (b w r : List ℕ) → s ≡ b ++ (w ++ r) → Blank b → LongestLexeme w r (Bad a) → Scans p s (wrong a (p + length b))
 
 pub record TokenTheorems : Type 0 where

@@ -1,4 +1,5 @@
--- What holds of patterns at every width k: proofs/Laws.antt proves this record. Paper 01 takes low bits at 16 and 32 and reads them with a sign ("Document 001 says that 32768 in N reads -1; it is -32768").
+-- What holds of patterns at every width k: proofs/Laws.antt proves this record. Paper 01 stores the low 16 or 32 bits and reads them with a sign: "Document 001
+-- says that 32768 in N reads -1; it is -32768."
 use mathlib.Core.Path.{_≡_}
 use mathlib.Core.Bool.{Bool}
 use Prim.Native.Nat.{ℕ, _-_, _^_, _≤_, _<_}

@@ -7,7 +7,7 @@ use native.Mathlib.Nat.{sub-self, sub-zero, zero-add, add-zero}
 use native.Mathlib.Omega.{arith}
 use lib.Dec.{eqb, leb}
 use lib.ListN.{length, getD, take, drop, length-take, take-append-drop, length-append}
-use lib.Seq.{drop-cons, getD-drop, length-take-le, take-append-seam}
+use lib.Seq.{drop-cons, getD-drop, take-append-seam}
 use borrow.Author.Tests.{leb-true, eqb-true, eqb-false, not-true}
 use Rattle.memory.specs.Names.{isDigit}
 use Rattle.tokens.specs.Bytes.{isLetter, isSpace}
