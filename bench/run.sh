@@ -24,9 +24,8 @@ fail() {
 
 build_libraries() {
     have rt "the libraries are taken as they lie in $libraries" || return
-    for library in bench_c formula_c; do
-        rt staticlib "$library" || fail "rt staticlib $library"
-    done
+    rt staticlib bench_c || fail "rt staticlib bench_c"
+    sh include/build.sh || fail "include/build.sh"
 }
 
 # One codegen unit, so that the contestants lose nothing by being written in several files.
@@ -46,9 +45,10 @@ measure_times() {
     done
 }
 
-# Symbols are resolved at the start, so that no call pays for that.
+# The archive is the one that a controller takes, with its own remainder. Symbols are resolved at the start, so that no call pays for
+# that.
 build_c() {
-    cc -std=gnu11 -Wall -Wextra -O2 -I include -Wl,-z,now -o "$out/$1" "bench/$1.c" bench/texts.c -L "$libraries" -lformula_c -lm
+    cc -std=gnu11 -Wall -Wextra -O2 -I include -Wl,-z,now -o "$out/$1" "bench/$1.c" bench/texts.c -L "$libraries" -lformula_bare
 }
 
 part() {
@@ -84,15 +84,15 @@ count_instructions() {
 }
 
 text_of() {
-    cc -O2 -I include -Wl,--gc-sections -o "$out/linked" -x c - -x none -L "$libraries" -lformula_c -lm && size "$out/linked" |
+    cc -O2 -I include -Wl,--gc-sections -o "$out/linked" -x c - -x none -L "$libraries" -lformula_bare && size "$out/linked" |
         awk 'NR == 2 { print $1 }'
 }
 
 measure_sizes() {
     have "size awk" "no sizes" || return
     echo
-    size -t "$libraries/libformula_c.a" |
-        awk 'END { print "text of all " NR - 2 " members of libformula_c.a: " $1 " bytes, data " $2 ", bss " $3 }'
+    size -t "$libraries/libformula_bare.a" |
+        awk 'END { print "text of all " NR - 2 " members of libformula_bare.a: " $1 " bytes, data " $2 ", bss " $3 }'
     have cc "no size of what is linked" || return
     # what the four operations add to a program that does nothing
     empty=$(echo 'int main(void) { return 0; }' | text_of)

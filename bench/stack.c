@@ -104,7 +104,7 @@ static void measure(const char *name, const char *target_text, const char *expr_
 
 /* Texts that nest as deep as may be, in every way that a reader may call itself, and one bracket too many. */
 static void measure_nested(void) {
-    static const char *const units[] = {"(", "D[", "MAX(1,", "IF(1,1,", "1|1^1&1==1<1<<1+1*1**(", "-~!(", "1||1&&ABS("};
+    static const char *const units[] = {"(", "D[", "MAX(1,", "IF(1,1,", "-~!(", "1||1&&1|1^1&1==1<1<<1+1*1**IF(1,1,"};
     static char text[FORMULA_TEXT_BYTES + 1];
     for (size_t u = 0; u < sizeof units / sizeof units[0]; u++) {
         for (int deep = 8; deep <= 9; deep++) {

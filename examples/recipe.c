@@ -6,7 +6,7 @@
 #include "formula.h"
 
 /* Each line keeps its code. A box that is short of memory compiles into one buffer and keeps the first
- * 8 * instructions bytes of each. */
+ * FORMULA_INSTRUCTION_BYTES * instructions bytes of each. */
 struct line {
     const char *target;
     const char *formula;
@@ -54,7 +54,8 @@ static void set_r(unsigned element, float value)
 /* Points at the byte of the formula that a refusal is about. */
 static void show_refusal(const char *formula, const struct formula_report *report)
 {
-    printf("  refused: answer %u at place %u\n", (unsigned)report->answer, (unsigned)report->place);
+    printf("  refused: answer %u at place %u, %s\n", (unsigned)report->answer, (unsigned)report->place,
+           formula_answer_text(report->answer));
     printf("    %s\n    %*s\n", formula, (int)report->place + 1, "^");
 }
 
@@ -96,8 +97,9 @@ static void show_value(const struct line *line, const struct formula_report *rep
     memcpy(&real, &report->bits, 4);
     memcpy(&integer, &report->bits, 4);
     if (report->answer != FORMULA_DONE) {
-        printf("  %s keeps its value: answer %u\n", line->target, (unsigned)report->answer);
-    } else if (report->kind == 1) {
+        printf("  %s keeps its value: answer %u, %s\n", line->target, (unsigned)report->answer,
+               formula_answer_text(report->answer));
+    } else if (report->kind == FORMULA_REAL) {
         printf("  %s = %.3f\n", line->target, real);
     } else {
         printf("  %s = %ld\n", line->target, (long)integer);
@@ -153,7 +155,7 @@ static void show_a_slip(void)
 
 int main(void)
 {
-    if (!load_recipe()) {
+    if (!formula_float_mode_ok() || !load_recipe()) {
         return 1;
     }
     show_a_slip();

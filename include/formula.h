@@ -1,9 +1,19 @@
-/* Formulas of the dosing controller: compile, check and run them.
+/* Formulas of the dosing controller: compile, check and run them. docs/LANGUAGE.md has the language, docs/ANSWERS.md the answers.
  *
- * Every buffer is lent for the call only. A buffer passed as const is read and never written. No pointer may be null,
- * also where its length is 0, and no two buffers of a call may overlap. Buffers need no alignment.
+ * Linking. `sh include/build.sh` makes two archives, for x86-64 only today. libformula_c.a wants -lm, for fmodf;
+ * libformula_bare.a has formula_remainder in its place and wants no library. Beside that they call memset alone.
  *
- * Every call ends and fills in the whole report. docs/ANSWERS.md has all answers, docs/LANGUAGE.md the language.
+ * Buffers. Each is lent for the call only. One passed as const is never written. No pointer may be null, also where its length
+ * is 0, and no two buffers of a call may overlap. They need no alignment.
+ *
+ * Calls. Each ends and fills in the whole report. There is no static data: calls on buffers of their own may interrupt one another
+ * or run side by side.
+ *
+ * Stack. FORMULA_STACK_BYTES are enough for any call, by measurement.
+ *
+ * Floating point. It must round to nearest and keep subnormals: ask formula_float_mode_ok at the start, in each thread. A program
+ * linked with -Ofast or -ffast-math flushes subnormals to zero from its start, which makes `R1 == 0` true for a subnormal R1;
+ * rounding toward zero changes even the literals of a compiled formula.
  */
 #ifndef FORMULA_H
 #define FORMULA_H
@@ -15,9 +25,14 @@
 extern "C" {
 #endif
 
-#define FORMULA_TEXT_BYTES   1024u  /* the longest expression */
-#define FORMULA_MEMORY_BYTES 3204u  /* the only size of a memory */
-#define FORMULA_CODE_BYTES   16384u /* the least size of a code buffer to compile into */
+#define FORMULA_VERSION 1 /* rises where this header, an answer or the bytes of an instruction change their meaning */
+
+#define FORMULA_TEXT_BYTES        1024u  /* the longest expression */
+#define FORMULA_MEMORY_BYTES      3204u  /* the only size of a memory */
+#define FORMULA_CODE_BYTES        16384u /* the least size of a code buffer to compile into */
+#define FORMULA_INSTRUCTION_BYTES 8u
+#define FORMULA_INSTRUCTIONS      2048u  /* the most that are accepted or compiled */
+#define FORMULA_STACK_BYTES       61440u /* the deepest call that was found takes 56,328 */
 
 /* Where the banks and the fault flags stand in the memory. All numbers are little-endian. */
 #define FORMULA_X 0u    /* X0-X63, inputs, one byte each: any non-zero byte reads 1 */
@@ -33,35 +48,41 @@ extern "C" {
 #define FORMULA_OVERFLOW        3202u
 #define FORMULA_DIVIDED_BY_ZERO 3203u
 
+/* formula_answer_text, below, says what each means. */
 enum formula_answer {
     FORMULA_DONE = 0,
-    FORMULA_BAD_MEMORY = 1,     /* the memory has not 3,204 bytes */
-    FORMULA_BAD_TARGET = 2,     /* the target is not one C, V, N, D or R cell */
-    FORMULA_BAD_LENGTH = 3,     /* the expression is empty or has over 1,024 bytes */
-    FORMULA_BAD_BYTES = 4,      /* bytes that form no token */
-    FORMULA_BAD_NUMBER = 5,     /* a number out of range */
-    FORMULA_BAD_NAME = 6,       /* an unknown name, or a cell beyond its bank */
-    FORMULA_BAD_GRAMMAR = 7,    /* not in the grammar */
-    FORMULA_TOO_DEEP = 8,       /* more than eight open ( and [ */
-    FORMULA_BAD_KIND = 9,       /* a real where an integer is needed */
-    FORMULA_SMALL_BUFFER = 10,  /* compiling into fewer than 16,384 bytes */
-    FORMULA_DIVIDE_FAULT = 11,  /* fault: DividedByZero */
-    FORMULA_OVERFLOW_FAULT = 12, /* fault: Overflow */
-    FORMULA_RANGE_FAULT = 13,   /* fault: OutOfRange */
-    FORMULA_INDEX_FAULT = 14,   /* fault: IndexError */
-    FORMULA_BAD_CODE = 15       /* the instructions do not lie in the buffer, or the check does not accept them */
+    FORMULA_BAD_MEMORY = 1,
+    FORMULA_BAD_TARGET = 2,
+    FORMULA_BAD_LENGTH = 3,
+    FORMULA_BAD_BYTES = 4,
+    FORMULA_BAD_NUMBER = 5,
+    FORMULA_BAD_NAME = 6,
+    FORMULA_BAD_GRAMMAR = 7,
+    FORMULA_TOO_DEEP = 8,
+    FORMULA_BAD_KIND = 9,
+    FORMULA_SMALL_BUFFER = 10,
+    FORMULA_DIVIDE_FAULT = 11,
+    FORMULA_OVERFLOW_FAULT = 12,
+    FORMULA_RANGE_FAULT = 13,
+    FORMULA_INDEX_FAULT = 14,
+    FORMULA_BAD_CODE = 15
+};
+
+enum formula_kind {
+    FORMULA_INTEGER = 0,
+    FORMULA_REAL = 1
 };
 
 struct formula_report {
     uint32_t answer; /* one of enum formula_answer */
     uint32_t place;  /* answers 4 to 9: the byte of the expression that it is about; else 0 */
-    uint32_t kind;   /* kind of the value: 0 integer, 1 real; 0 on a refusal or fault */
-    uint32_t bits;   /* the value's 32-bit pattern, before the store; 0 on a refusal or fault */
+    uint32_t kind;   /* one of enum formula_kind: the value's. 0 on a refusal or fault, and for compile and check */
+    uint32_t bits;   /* the value's 32-bit pattern, before the store; 0 where kind is 0 for want of a value */
     uint32_t count;  /* compile: instructions written; run: instructions begun; 0 on a refusal and for check */
 };
 
-/* Compiles an expression. On answer 0 the first 8 * count bytes of the code buffer are written, and nothing else ever.
- * Answers: 0, 3 to 10. */
+/* Compiles an expression. On answer 0 the first FORMULA_INSTRUCTION_BYTES * count bytes of the code buffer are written, and
+ * nothing else ever. Answers: 0, 3 to 10. */
 void formula_compile(const uint8_t *expr, size_t expr_len, uint8_t *code, size_t code_len,
                      struct formula_report *report);
 
@@ -80,6 +101,42 @@ void formula_run(const uint8_t *code, size_t code_len, size_t instructions, uint
 void formula_compile_and_run(const uint8_t *target, size_t target_len, const uint8_t *expr, size_t expr_len,
                              uint8_t *memory, size_t memory_len, uint8_t *code, size_t code_len,
                              struct formula_report *report);
+
+/* C's fmodf for every x and y, in any floating-point mode and with at most 32 divisions of whole numbers. */
+float formula_remainder(float x, float y);
+
+/* 1 where floating point rounds to nearest, ties to even, and keeps subnormals as operands and as results. */
+static inline int formula_float_mode_ok(void)
+{
+    /* volatile, so that the machine works these out when it runs, and not the compiler */
+    volatile float one = 1.0f, unit = 1.0f / 8388608.0f, least_normal = 1.17549435e-38f, least = 1e-45f;
+    volatile float next = one + unit, tie_down = one + unit / 2, tie_up = next + unit / 2, half = least_normal / 2;
+    return tie_down <= one && tie_up > next && half > 0 && least > 0;
+}
+
+/* What an answer means, in a few words. */
+static inline const char *formula_answer_text(uint32_t answer)
+{
+    switch (answer) {
+    case FORMULA_DONE: return "done";
+    case FORMULA_BAD_MEMORY: return "the memory has not 3,204 bytes";
+    case FORMULA_BAD_TARGET: return "the target is not one C, V, N, D or R cell";
+    case FORMULA_BAD_LENGTH: return "the expression is empty or has over 1,024 bytes";
+    case FORMULA_BAD_BYTES: return "bytes that form no token";
+    case FORMULA_BAD_NUMBER: return "a number out of range";
+    case FORMULA_BAD_NAME: return "an unknown name, or a cell beyond its bank";
+    case FORMULA_BAD_GRAMMAR: return "not in the grammar";
+    case FORMULA_TOO_DEEP: return "more than eight open ( and [";
+    case FORMULA_BAD_KIND: return "a real where an integer is needed";
+    case FORMULA_SMALL_BUFFER: return "compiling into fewer than 16,384 bytes";
+    case FORMULA_DIVIDE_FAULT: return "divided by zero";
+    case FORMULA_OVERFLOW_FAULT: return "overflow";
+    case FORMULA_RANGE_FAULT: return "out of range";
+    case FORMULA_INDEX_FAULT: return "an index beyond its bank";
+    case FORMULA_BAD_CODE: return "the instructions do not lie in the buffer, or the check does not accept them";
+    default: return "no answer of this library";
+    }
+}
 
 #ifdef __cplusplus
 }

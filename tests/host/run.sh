@@ -1,16 +1,35 @@
 #!/bin/sh
-# Builds the library of formula_c and tests it from Rust and from C: sh tests/host/run.sh [CASES [SEED [FIRST]]]
+# Builds the archives of formula_c and tests them from Rust and from C: sh tests/host/run.sh [CASES [SEED [FIRST]]]
 set -e
 cd "$(dirname "$0")/../.."
-rt staticlib formula_c
-mkdir -p target/host
+for tool in rustc cc; do
+    command -v "$tool" > /dev/null || { echo "$tool is missing" >&2; exit 1; }
+done
+sh include/build.sh
+out=target/host
+mkdir -p "$out"
 
-rustc --edition 2021 -O -L target/staticlib -o target/host/host tests/host/main.rs
-target/host/host examples docs/docs-examples.txt docs/docs-examples.out docs/LANGUAGE.md docs/ANSWERS.md
+rustc --edition 2021 -O -L target/staticlib -o "$out/host" tests/host/main.rs
+"$out/host" examples docs/docs-examples.txt docs/docs-examples.out docs/LANGUAGE.md docs/ANSWERS.md
 
-cc -std=c99 -Wall -Wextra -Werror -O2 -I include -o target/host/recipe examples/recipe.c -L target/staticlib -lformula_c -lm
-target/host/recipe > target/host/recipe.out
-cmp examples/recipe.expected target/host/recipe.out
-echo "recipe.c prints recipe.expected"
+# $1: the program to write, $2: its file, the rest: what it is linked with
+build_c() {
+    program=$1 file=$2
+    shift 2
+    cc -std=c99 -Wall -Wextra -Werror -O2 -I include -o "$out/$program" "$file" -L target/staticlib "$@"
+}
 
-target/host/host "$@"
+for archive in formula_c formula_bare; do
+    build_c "remainder_$archive" tests/host/remainder.c -l"$archive" -lm
+    "$out/remainder_$archive"
+done
+
+build_c recipe examples/recipe.c -lformula_c -lm
+build_c recipe_bare examples/recipe.c -lformula_bare
+for program in recipe recipe_bare; do
+    "$out/$program" > "$out/$program.out"
+    cmp examples/recipe.expected "$out/$program.out"
+    echo "$program prints recipe.expected"
+done
+
+"$out/host" "$@"

@@ -1,0 +1,20 @@
+#!/bin/sh
+# Proves the library for C and writes its two archives: sh include/build.sh
+#   target/staticlib/libformula_c.a     `%` of reals calls the C library's fmodf: link with -lm
+#   target/staticlib/libformula_bare.a  `%` calls formula_remainder: no library, only memset
+set -e
+cd "$(dirname "$0")/.."
+out=target/staticlib
+for tool in rt objcopy nm awk; do
+    command -v "$tool" > /dev/null || { echo "$tool is missing" >&2; exit 1; }
+done
+rt staticlib formula_c
+objcopy --redefine-sym fmodf=formula_remainder "$out/libformula_c.a" "$out/libformula_bare.a"
+
+# what no member of an archive defines
+outside() {
+    nm "$1" | awk '$1 == "U" { used[$2] } NF == 3 { defined[$3] } END { for (name in used) if (!(name in defined)) print name }'
+}
+
+needed=$(outside "$out/libformula_bare.a")
+[ "$needed" = memset ] || { echo "libformula_bare.a calls" $needed >&2; exit 1; }
