@@ -63,8 +63,8 @@ fn pattern_rem(a: u32, b: u32) -> u32
     encode(n, j)
 }
 
-// What has no value: the quotient of two zeros.
-fn undefined() -> f32
+// The NaN: the quotient of two zeros, which has no value.
+fn quiet_nan() -> f32
     ensures { λ r. ⌜ r ≡ nan ⌝ }
 {
     0.0 / 0.0
@@ -76,13 +76,13 @@ pub fn remainder(x: f32, y: f32) -> f32
 {
     // a NaN has no pattern
     if x != x || y != y {
-        return undefined();
+        return quiet_nan();
     }
     let p = f32::to_bits(x);
     let a = p % SIGN;
     let b = f32::to_bits(y) % SIGN;
     if b == 0 || INFINITY <= a {
-        return undefined();
+        return quiet_nan();
     }
     if a < b {
         return x;

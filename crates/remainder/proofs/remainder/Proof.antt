@@ -12,14 +12,14 @@ use Rattle.remainder.proofs.Remainders.{of-smaller, of-larger}
 use Rattle.remainder.proofs.remainder.Statement.{statement}
 use Rattle.remainder.proofs.remainder.Tie as tie
 
-undefined-requires : tie.Need-undefined-requires
-undefined-requires c κs = search needs
+quiet-nan-requires : tie.Need-quiet-nan-requires
+quiet-nan-requires c κs = search needs
 
 returns : tie.Need-returns
 returns c =
     let x = c .before .before .args .x in
     let y = c .before .before .args .y in
-    c .undefined .ensures ∙ sym (⊎-elim (λ w. nan-dividend x y (w .taken)) (λ w. nan-divisor x y (w .1 .taken)) (c .before .if1 .came))
+    c .quiet-nan .ensures ∙ sym (⊎-elim (λ w. nan-dividend x y (w .taken)) (λ w. nan-divisor x y (w .1 .taken)) (c .before .if1 .came))
 
 float-to-bits-p : tie.Need-float-to-bits-p
 float-to-bits-p c = same (c .before .before .args .x) (c .before .if1 .left)
@@ -27,8 +27,8 @@ float-to-bits-p c = same (c .before .before .args .x) (c .before .if1 .left)
 float-to-bits-b : tie.Need-float-to-bits-b
 float-to-bits-b c = same (c .before .before .args .y) (c .if2 .left)
 
-undefined-requires-2 : tie.Need-undefined-requires-2
-undefined-requires-2 c κs = search needs
+quiet-nan-requires-2 : tie.Need-quiet-nan-requires-2
+quiet-nan-requires-2 c κs = search needs
 
 returns-2 : tie.Need-returns-2
 returns-2 c =
@@ -36,7 +36,7 @@ returns-2 c =
     let y = c .before .before .before .before .args .y in
     let F : T (fits binary32 x) = search needs in
     let G : T (fits binary32 y) = search needs in
-    c .undefined2 .ensures
+    c .quiet-nan2 .ensures
     ∙ sym (⊎-elim
     (λ w. zero-divisor x y G (w .taken))
     (λ w. infinite-dividend x y F (same x (c .before .before .before .if1 .left)) (omega (arith, leb-true, ltb-true)))
@@ -78,11 +78,11 @@ pub remainder-spec : {M : Type 1} → statement M
 remainder-spec =
     tie.close
     (tie.spec
-    undefined-requires
+    quiet-nan-requires
     returns
     float-to-bits-p
     float-to-bits-b
-    undefined-requires-2
+    quiet-nan-requires-2
     returns-2
     returns-3
     sub-result
