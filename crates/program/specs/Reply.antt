@@ -75,3 +75,19 @@ handedCount out text = cond (ltb (length out) (length text)) 0 (length text)
 -- for callers that take the first n bytes out of the slice: they are there
 abbrev pub Lies : ℕ → List ℕ → Type 0
 Lies n out = (n ≤ length out) × (n ≡ length (take n out))
+
+-- `error=read` and byte 10: printed where the input cannot be read. No reply begins so
+abbrev pub unreadLine : List ℕ
+unreadLine = 101 ∷ 114 ∷ 114 ∷ 111 ∷ 114 ∷ 61 ∷ 114 ∷ 101 ∷ 97 ∷ 100 ∷ 10 ∷ []
+
+-- what the program may print: the reply to an input that was read to its end, or that line
+pub data Output : List ℕ → Type 0 where
+  answer : (input : List ℕ) → Output (reply input)
+  unread : Output unreadLine
+
+-- an output goes to the front of a lent slice; n is how many bytes it has there
+pub record Outputs (out : List ℕ) (n : ℕ) (new : List ℕ) : Type 0 where
+  pub text : List ℕ
+  pub output : Output text
+  pub count : n ≡ handedCount out text
+  pub bytes : new ≡ handed out text

@@ -1,4 +1,5 @@
--- For the contracts of private functions: an input that comes in pieces, and what is kept of it. `StreamLaws` says that however it is cut, the reply is that to the whole input.
+-- For the contracts of private functions: an input that comes in pieces, and what is kept of it. `StreamLaws` says that however the input is cut, what is
+-- kept gives the reply to the whole of it.
 use mathlib.Core.Path.{_≡_}
 use mathlib.Core.Bool.{cond}
 use mathlib.Core.List.{List, [], _∷_, _++_}
@@ -10,9 +11,10 @@ use Rattle.program.specs.declared.lines.Lengths.{Lengths}
 use Rattle.program.specs.declared.stream.Receipt.{Receipt}
 use Rattle.program.specs.declared.stream.Receipt.the-variants.{All, Unread}
 use Rattle.program.specs.Lines.{Case, opened, zeros, afterLine}
-use Rattle.program.specs.Reply.{replyTo, reply, handed, handedCount}
+use Rattle.program.specs.Reply.{replyTo, reply, handed, handedCount, Lies}
 
--- how much of a line is kept: `expr=` and 1,025 bytes, by which an expression is known to be over 1,024. A longer line that sets a cell or a good target there is not.
+-- how much of a line is kept: `expr=` and 1,025 bytes, by which an expression is known to be over 1,024. No line as long as that sets a cell or names a
+-- target.
 abbrev pub keptBytes : ℕ
 keptBytes = 1030
 
@@ -39,10 +41,10 @@ abbrev pub caseAtEnd : Progress → Case
 caseAtEnd p = afterLine (p .case) (p .line)
 
 pub record StreamLaws : Type 0 where
-  -- pieces one after the other do what they do in one
-  pub pieces : (p : Progress) (a b : List ℕ) → afterBytes p (a ++ b) ≡ afterBytes (afterBytes p a) b
+  -- two pieces one after the other are one piece
+  pub append : (p : Progress) (a b : List ℕ) → afterBytes p (a ++ b) ≡ afterBytes (afterBytes p a) b
   -- and what is kept is enough for the reply
-  pub whole : (input : List ℕ) → replyTo (caseAtEnd (afterBytes noProgress input)) ≡ reply input
+  pub exact : (input : List ℕ) → replyTo (caseAtEnd (afterBytes noProgress input)) ≡ reply input
 
 -- ---- in the buffers
 abbrev pub noLengths : Lengths
@@ -60,7 +62,7 @@ pub record Inside (t x : List ℕ) (n : Lengths) : Type 0 where
   pub text : n .text ≤ length x
 
 -- the buffers have their sizes, and the lengths lie within them
-pub record Ready (m t x l : List ℕ) (n : Lengths) : Type 0 where
+pub record StreamBuffers (m t x l : List ℕ) (n : Lengths) : Type 0 where
   pub image : length m ≡ imageSize
   pub targets : length t ≡ keptBytes
   pub texts : length x ≡ keptBytes
@@ -70,21 +72,13 @@ pub record Ready (m t x l : List ℕ) (n : Lengths) : Type 0 where
 
 -- the buffers keep what a whole input leaves, or the input was not read
 pub data Receives (m t x l : List ℕ) : Receipt → Type 0 where
-  all : {n : Lengths} → Ready m t x l n → (input : List ℕ) → progressIn m t x l n ≡ afterBytes noProgress input → Receives m t x l (All n)
-  unread : Receives m t x l Unread
+  all : {n : Lengths} → StreamBuffers m t x l n → (input : List ℕ) → progressIn m t x l n ≡ afterBytes noProgress input
+      → Receives m t x l (All n)
+  missed : Receives m t x l Unread
 
--- `error=read` and byte 10
-abbrev pub unreadLine : List ℕ
-unreadLine = 101 ∷ 114 ∷ 114 ∷ 111 ∷ 114 ∷ 61 ∷ 114 ∷ 101 ∷ 97 ∷ 100 ∷ 10 ∷ []
-
--- a text that the program may print: the reply to an input that was read whole, or the line that says that a read failed
-pub data Printed : List ℕ → Type 0 where
-  answered : (input : List ℕ) → Printed (reply input)
-  failed : Printed unreadLine
-
--- such a text was handed over
-pub record Sends (out : List ℕ) (n : ℕ) (new : List ℕ) : Type 0 where
-  pub text : List ℕ
-  pub printed : Printed text
-  pub count : n ≡ handedCount out text
-  pub bytes : new ≡ handed out text
+-- the reply to the case that p leaves goes to the front of a lent slice, and 64 bytes have room for it
+pub record Replies (p : Progress) (out : List ℕ) (n : ℕ) (new : List ℕ) : Type 0 where
+  pub count : n ≡ handedCount out (replyTo (caseAtEnd p))
+  pub bytes : new ≡ handed out (replyTo (caseAtEnd p))
+  pub short : length (replyTo (caseAtEnd p)) ≤ 64
+  pub there : Lies n new

@@ -3,8 +3,7 @@ ghost use mathlib.Core.Path.{_≡_};
 ghost use Prim.Native.Nat.{_≤_};
 ghost use lib.ListN.{length};
 ghost use Rattle.program.specs.Lines.{zeros};
-ghost use Rattle.program.specs.Reply.{reply, handed, handedCount, Lies};
-ghost use Rattle.program.specs.Stream.{Sends};
+ghost use Rattle.program.specs.Reply.{reply, handed, handedCount, Lies, Outputs};
 use crate::lines::Lengths;
 use crate::stream::Receipt;
 
@@ -50,7 +49,7 @@ pub fn respond(input: &[u8], output: &mut [u8]) -> usize
 
 // The same of an input that is read to its end. If a read fails there is no answer, and the one line `error=read` says so.
 pub fn respond_from(fd: i32, output: &mut [u8]) -> usize
-    ensures { λ r. ⌜ Sends (now (output .entry)) r (now (output .exit)) ⌝ }
+    ensures { λ r. ⌜ Outputs (now (output .entry)) r (now (output .exit)) ⌝ }
     ensures { λ r. ⌜ Lies r (now (output .exit)) ⌝ }
 {
     let mut memory = blank_image();

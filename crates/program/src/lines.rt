@@ -60,7 +60,8 @@ pub fn take_line(
     requires { ⌜ (length (now line) ≤ length (now target)) × (length (now line) ≤ length (now text)) ⌝ }
     requires { ⌜ Inside (now target) (now text) n ⌝ }
     ensures { λ r. ⌜ Inside (now (target .exit)) (now (text .exit)) r ⌝ }
-    ensures { λ r. ⌜ caseIn (now (memory .exit)) (now (target .exit)) (now (text .exit)) r ≡ afterLine (caseIn (now (memory .entry)) (now (target .entry)) (now (text .entry)) n) (now (line .entry)) ⌝ }
+    ensures { λ r. ⌜ caseIn (now (memory .exit)) (now (target .exit)) (now (text .exit)) r
+        ≡ afterLine (caseIn (now (memory .entry)) (now (target .entry)) (now (text .entry)) n) (now (line .entry)) ⌝ }
     ensures { λ r. ⌜ r .line ≡ 0 ⌝ }
 {
     let skipped = Lengths {

@@ -1,10 +1,8 @@
 // An input that comes in pieces. Of each line only so much is kept as can matter, so that neither the input nor a line has a limit.
 ghost use mathlib.Core.Path.{_≡_};
-ghost use Prim.Native.Nat.{_≤_};
 ghost use lib.ListN.{length};
 ghost use Rattle.program.specs.Lines.{zeros};
-ghost use Rattle.program.specs.Reply.{replyTo, handed, handedCount, Lies};
-ghost use Rattle.program.specs.Stream.{afterByte, afterBytes, caseAtEnd, noLengths, progressIn, Ready, Receives};
+ghost use Rattle.program.specs.Stream.{afterByte, afterBytes, noLengths, progressIn, StreamBuffers, Receives, Replies};
 use crate::lines;
 use crate::lines::Lengths;
 use crate::reply;
@@ -31,9 +29,10 @@ fn take_byte(
     line: &mut [u8],
     n: Lengths,
 ) -> Lengths
-    requires { ⌜ Ready (now memory) (now target) (now text) (now line) n ⌝ }
-    ensures { λ r. ⌜ Ready (now (memory .exit)) (now (target .exit)) (now (text .exit)) (now (line .exit)) r ⌝ }
-    ensures { λ r. ⌜ progressIn (now (memory .exit)) (now (target .exit)) (now (text .exit)) (now (line .exit)) r ≡ afterByte (progressIn (now (memory .entry)) (now (target .entry)) (now (text .entry)) (now (line .entry)) n) b ⌝ }
+    requires { ⌜ StreamBuffers (now memory) (now target) (now text) (now line) n ⌝ }
+    ensures { λ r. ⌜ StreamBuffers (now (memory .exit)) (now (target .exit)) (now (text .exit)) (now (line .exit)) r ⌝ }
+    ensures { λ r. ⌜ progressIn (now (memory .exit)) (now (target .exit)) (now (text .exit)) (now (line .exit)) r
+        ≡ afterByte (progressIn (now (memory .entry)) (now (target .entry)) (now (text .entry)) (now (line .entry)) n) b ⌝ }
 {
     let k = n.line;
     if b == b'\n' {
@@ -59,9 +58,10 @@ pub fn feed(
     line: &mut [u8],
     n: Lengths,
 ) -> Lengths
-    requires { ⌜ Ready (now memory) (now target) (now text) (now line) n ⌝ }
-    ensures { λ r. ⌜ Ready (now (memory .exit)) (now (target .exit)) (now (text .exit)) (now (line .exit)) r ⌝ }
-    ensures { λ r. ⌜ progressIn (now (memory .exit)) (now (target .exit)) (now (text .exit)) (now (line .exit)) r ≡ afterBytes (progressIn (now (memory .entry)) (now (target .entry)) (now (text .entry)) (now (line .entry)) n) (now (piece .entry)) ⌝ }
+    requires { ⌜ StreamBuffers (now memory) (now target) (now text) (now line) n ⌝ }
+    ensures { λ r. ⌜ StreamBuffers (now (memory .exit)) (now (target .exit)) (now (text .exit)) (now (line .exit)) r ⌝ }
+    ensures { λ r. ⌜ progressIn (now (memory .exit)) (now (target .exit)) (now (text .exit)) (now (line .exit)) r
+        ≡ afterBytes (progressIn (now (memory .entry)) (now (target .entry)) (now (text .entry)) (now (line .entry)) n) (now (piece .entry)) ⌝ }
 {
     let mut lengths = n;
     let mut i = 0;
@@ -80,7 +80,7 @@ pub fn receive(
     text: &mut [u8],
     line: &mut [u8],
 ) -> Receipt
-    requires { ⌜ Ready (now memory) (now target) (now text) (now line) noLengths ⌝ }
+    requires { ⌜ StreamBuffers (now memory) (now target) (now text) (now line) noLengths ⌝ }
     requires { ⌜ now memory ≡ zeros 3204 ⌝ }
     ensures { λ r. ⌜ Receives (now (memory .exit)) (now (target .exit)) (now (text .exit)) (now (line .exit)) r ⌝ }
 {
@@ -115,11 +115,9 @@ pub fn finish(
     n: Lengths,
     output: &mut [u8],
 ) -> usize
-    requires { ⌜ Ready (now memory) (now target) (now text) (now line) n ⌝ }
-    ensures { λ r. ⌜ r ≡ handedCount (now (output .entry)) (replyTo (caseAtEnd (progressIn (now (memory .entry)) (now (target .entry)) (now (text .entry)) (now (line .entry)) n))) ⌝ }
-    ensures { λ r. ⌜ now (output .exit) ≡ handed (now (output .entry)) (replyTo (caseAtEnd (progressIn (now (memory .entry)) (now (target .entry)) (now (text .entry)) (now (line .entry)) n))) ⌝ }
-    ensures { λ r. ⌜ length (replyTo (caseAtEnd (progressIn (now (memory .entry)) (now (target .entry)) (now (text .entry)) (now (line .entry)) n))) ≤ 64 ⌝ }
-    ensures { λ r. ⌜ Lies r (now (output .exit)) ⌝ }
+    requires { ⌜ StreamBuffers (now memory) (now target) (now text) (now line) n ⌝ }
+    ensures { λ r. ⌜ Replies (progressIn (now (memory .entry)) (now (target .entry)) (now (text .entry)) (now (line .entry)) n)
+        (now (output .entry)) r (now (output .exit)) ⌝ }
 {
     let k = n.line;
     let last = lines::take_line(&line[..k], memory, target, text, n);

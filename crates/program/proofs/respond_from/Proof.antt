@@ -1,6 +1,6 @@
 -- `program::respond_from` meets its contract: what was received is finished, or the failure is told.
 use borrow.Author.Needs.{needs}
-use Rattle.program.proofs.stream.Receiving.{known, sends, reports}
+use Rattle.program.proofs.stream.Receiving.{known, outputs, reports}
 use Rattle.program.proofs.respond_from.Statement.{statement}
 use Rattle.program.proofs.respond_from.Tie as tie
 
@@ -62,7 +62,7 @@ same-length : tie.Need-same-length
 same-length c = search needs
 
 returns : tie.Need-returns
-returns c = (sends (known (c .before .before .before .before .before .before .before .before .before .before .before .before .before .before .before .before .before .before .receive .ensures) (c .before .before .before .before .before .before .before .before .before .before .before .before .n .given .1)) (c .before .before .before .before .before .finish .ensures .0) (c .before .before .before .before .before .finish .ensures .1 .0), c .before .before .before .before .before .finish .ensures .1 .1 .1)
+returns c = (outputs (known (c .before .before .before .before .before .before .before .before .before .before .before .before .before .before .before .before .before .before .receive .ensures) (c .before .before .before .before .before .before .before .before .before .before .before .before .n .given .1)) (c .before .before .before .before .before .finish .ensures), c .before .before .before .before .before .finish .ensures .there)
 
 same-length-2 : tie.Need-same-length-2
 same-length-2 c = search needs

@@ -9,7 +9,7 @@ use lib.Seq.{take-all, take-append-le, take-take, take-suc-set, length-take-le, 
 use borrow.Author.Tests.{eq-eqb, ne-eqb}
 use Rattle.program.specs.declared.lines.Lengths.{Lengths}
 use Rattle.program.specs.Lines.{Case, afterLine}
-use Rattle.program.specs.Stream.{keptBytes, Progress, afterByte, afterBytes, caseIn, progressIn, Inside, Ready}
+use Rattle.program.specs.Stream.{keptBytes, Progress, afterByte, afterBytes, caseIn, progressIn, Inside, StreamBuffers}
 
 abbrev kept : Case → List ℕ → Progress
 kept s l = record { case = s; line = l }
@@ -18,15 +18,15 @@ kept s l = record { case = s; line = l }
 pub taken : (l : List ℕ) (k : ℕ) → k ≤ length l → k ≡ length (take k l)
 taken l k h = sym (length-take-le k l h)
 
-pub within : {m t x l : List ℕ} {n : Lengths} → Ready m t x l n → (length (take (n .line) l) ≤ length t) × (length (take (n .line) l) ≤ length x)
+pub within : {m t x l : List ℕ} {n : Lengths} → StreamBuffers m t x l n → (length (take (n .line) l) ≤ length t) × (length (take (n .line) l) ≤ length x)
 within {m} {t} {x} {l} {n} p =
     let e = length-take-le (n .line) l (omega (arith, p .line, p .lines)) in
     (omega (arith, e, p .line, p .targets), omega (arith, e, p .line, p .texts))
 
 -- ---- one byte
-module _ (m t x l : List ℕ) (n : Lengths) (p : Ready m t x l n) (b : ℕ) where
+module _ (m t x l : List ℕ) (n : Lengths) (p : StreamBuffers m t x l n) (b : ℕ) where
   abbrev Does : List ℕ → List ℕ → List ℕ → List ℕ → Lengths → Type 0
-  Does m′ t′ x′ l′ r = Ready m′ t′ x′ l′ r × (progressIn m′ t′ x′ l′ r ≡ afterByte (progressIn m t x l n) b)
+  Does m′ t′ x′ l′ r = StreamBuffers m′ t′ x′ l′ r × (progressIn m′ t′ x′ l′ r ≡ afterByte (progressIn m t x l n) b)
 
   pub ended : b ≡ 10 → {m′ t′ x′ : List ℕ} {r : Lengths} → length m′ ≡ length m → length t′ ≡ length t → length x′ ≡ length x
       → Inside t′ x′ r × ((caseIn m′ t′ x′ r ≡ afterLine (caseIn m t x n) (take (n .line) l)) × (r .line ≡ 0)) → Does m′ t′ x′ l r
@@ -73,17 +73,17 @@ module _ (m t x l : List ℕ) (n : Lengths) (p : Ready m t x l n) (b : ℕ) wher
 
 -- ---- the bytes of a piece
 pub record Feeding (whole : Progress) (piece m t x l : List ℕ) (n : Lengths) (i : ℕ) : Type 0 where
-  pub ready : Ready m t x l n
+  pub ready : StreamBuffers m t x l n
   pub rest : afterBytes (progressIn m t x l n) (drop i piece) ≡ whole
 
 module _ {whole : Progress} {piece m t x l : List ℕ} {n : Lengths} {i : ℕ} (f : Feeding whole piece m t x l n i) where
   pub next : i < length piece → {m′ t′ x′ l′ : List ℕ} {r : Lengths}
-      → Ready m′ t′ x′ l′ r × (progressIn m′ t′ x′ l′ r ≡ afterByte (progressIn m t x l n) (getD piece i 0)) → Feeding whole piece m′ t′ x′ l′ r (i + 1)
+      → StreamBuffers m′ t′ x′ l′ r × (progressIn m′ t′ x′ l′ r ≡ afterByte (progressIn m t x l n) (getD piece i 0)) → Feeding whole piece m′ t′ x′ l′ r (i + 1)
   next h {m′} {t′} {x′} {l′} {r} g =
       record {
         ready = g .0;
         rest = rw add-one (ap (λ (p : Progress). afterBytes p (drop (suc i) piece)) (g .1) ∙ sym (ap (afterBytes (progressIn m t x l n)) (drop-cons piece i 0 h)) ∙ f .rest);
       }
 
-  pub end : length piece ≤ i → Ready m t x l n × (progressIn m t x l n ≡ whole)
+  pub end : length piece ≤ i → StreamBuffers m t x l n × (progressIn m t x l n ≡ whole)
   end h = (f .ready, sym (ap (afterBytes (progressIn m t x l n)) (drop-of-length-le piece h)) ∙ f .rest)

@@ -11,9 +11,9 @@ use Rattle.program.specs.Reply.{replyTo, reply}
 use Rattle.program.specs.Stream.{keptBytes, Progress, noProgress, afterByte, afterBytes, caseAtEnd, StreamLaws}
 use Rattle.program.proofs.stream.Cuts.{Agrees, itself, same-reply, kept-line}
 
-pieces : (p : Progress) (a b : List ℕ) → afterBytes p (a ++ b) ≡ afterBytes (afterBytes p a) b
-pieces p [] b = refl
-pieces p (c ∷ a) b = pieces (afterByte p c) a b
+in-parts : (p : Progress) (a b : List ℕ) → afterBytes p (a ++ b) ≡ afterBytes (afterBytes p a) b
+in-parts p [] b = refl
+in-parts p (c ∷ a) b = in-parts (afterByte p c) a b
 
 -- ---- bytes before the first of the lines that follow them
 joined : List ℕ → List (List ℕ) → List (List ℕ)
@@ -53,12 +53,12 @@ rest (c ∷ cs) l s t a =
     step true e f = rw (append-nil l) (rw (none-joined (afterLine t l) (lines cs)) at e)
     step false e f = rw (take-more keptBytes l c, ← one-joined l c (lines cs)) f
 
-whole : (input : List ℕ) → replyTo (caseAtEnd (afterBytes noProgress input)) ≡ reply input
+exactly : (input : List ℕ) → replyTo (caseAtEnd (afterBytes noProgress input)) ≡ reply input
 unfolding reply caseOf
-whole input =
+exactly input =
     let start = opened (zeros imageSize) in
     let end = rest input [] start start (itself start) in
     same-reply _ _ end ∙ ap replyTo (none-joined start (lines input))
 
 pub stream-laws : StreamLaws
-stream-laws = record { pieces = pieces; whole = whole }
+stream-laws = record { append = in-parts; exact = exactly }

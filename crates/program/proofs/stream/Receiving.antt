@@ -8,13 +8,13 @@ use Rattle.program.specs.declared.lines.Lengths.{Lengths}
 use Rattle.program.specs.declared.stream.Receipt.{Receipt}
 use Rattle.program.specs.declared.stream.Receipt.the-variants.{All, Unread}
 use Rattle.program.specs.Lines.{opened, zeros}
-use Rattle.program.specs.Reply.{replyTo, reply, handed, handedCount, Lies}
-use Rattle.program.specs.Stream.{Progress, noProgress, afterBytes, caseAtEnd, noLengths, progressIn, Ready, Receives, all, unread, unreadLine, answered, failed, Sends}
+use Rattle.program.specs.Reply.{replyTo, reply, handed, handedCount, Lies, unreadLine, answer, unread, Outputs}
+use Rattle.program.specs.Stream.{Progress, noProgress, afterBytes, caseAtEnd, noLengths, progressIn, StreamBuffers, Receives, all, missed, Replies}
 use Rattle.program.proofs.stream.Pieces.{stream-laws}
 
 -- the buffers keep what the input so far leaves
 pub record Receiving (m t x l : List ℕ) (n : Lengths) : Type 0 where
-  pub ready : Ready m t x l n
+  pub ready : StreamBuffers m t x l n
   pub input : List ℕ
   pub kept : progressIn m t x l n ≡ afterBytes noProgress input
 
@@ -25,16 +25,16 @@ first m = record { case = opened m; line = [] }
 pub start : {m : List ℕ} → m ≡ zeros 3204 → first m ≡ noProgress
 start e = ap first e
 
-pub nothing : {m t x l : List ℕ} → Ready m t x l noLengths → m ≡ zeros 3204 → Receiving m t x l noLengths
+pub nothing : {m t x l : List ℕ} → StreamBuffers m t x l noLengths → m ≡ zeros 3204 → Receiving m t x l noLengths
 nothing p e = record { ready = p; input = []; kept = start e }
 
 pub more : {m t x l : List ℕ} {n : Lengths} → Receiving m t x l n → (piece : List ℕ) {m′ t′ x′ l′ : List ℕ} {r : Lengths}
-    → Ready m′ t′ x′ l′ r × (progressIn m′ t′ x′ l′ r ≡ afterBytes (progressIn m t x l n) piece) → Receiving m′ t′ x′ l′ r
+    → StreamBuffers m′ t′ x′ l′ r × (progressIn m′ t′ x′ l′ r ≡ afterBytes (progressIn m t x l n) piece) → Receiving m′ t′ x′ l′ r
 more s piece g =
     record {
       ready = g .0;
       input = s .input ++ piece;
-      kept = g .1 ∙ ap (λ (p : Progress). afterBytes p piece) (s .kept) ∙ sym (stream-laws .pieces noProgress (s .input) piece);
+      kept = g .1 ∙ ap (λ (p : Progress). afterBytes p piece) (s .kept) ∙ sym (stream-laws .append noProgress (s .input) piece);
     }
 
 pub received : {m t x l : List ℕ} {n : Lengths} → Receiving m t x l n → Receives m t x l (All n)
@@ -43,25 +43,30 @@ received s = all (s .ready) (s .input) (s .kept)
 pub known : {m t x l : List ℕ} {k : Lengths} {r : Receipt} → Receives m t x l r → r ≡ All k → Receiving m t x l k
 known {m} {t} {x} {l} {k} (all {n} p input e) f =
     let same : n ≡ k = cc in subst (λ (z : Lengths). Receiving m t x l z) same (record { ready = p; input = input; kept = e })
-known unread f = absurd (let z : _≡_ {A = ℕ} 0 1 = cc in omega arith)
+known missed f = absurd (let z : _≡_ {A = ℕ} 0 1 = cc in omega arith)
 
 -- ---- what is printed
 pub reply-is : {p : Progress} (input : List ℕ) → p ≡ afterBytes noProgress input → replyTo (caseAtEnd p) ≡ reply input
-reply-is input e = ap (λ (p : Progress). replyTo (caseAtEnd p)) e ∙ stream-laws .whole input
+reply-is input e = ap (λ (p : Progress). replyTo (caseAtEnd p)) e ∙ stream-laws .exact input
 
--- for the contract of a function that hands over the reply to a case
-pub replies : {p : Progress} (input : List ℕ) → p ≡ afterBytes noProgress input → (out : List ℕ) {new : List ℕ} {r : ℕ}
-    → (r ≡ handedCount out (replyTo (caseAtEnd p))) × ((new ≡ handed out (replyTo (caseAtEnd p))) × ((length (replyTo (caseAtEnd p)) ≤ 64) × Lies r new))
+pub replies : {p : Progress} (input : List ℕ) → p ≡ afterBytes noProgress input → {out new : List ℕ} {r : ℕ} → Replies p out r new
     → (r ≡ handedCount out (reply input)) × ((new ≡ handed out (reply input)) × ((length (reply input) ≤ 64) × Lies r new))
-replies input k out g =
-    let e = reply-is input k in
-    (g .0 ∙ ap (handedCount out) e, (g .1 .0 ∙ ap (handed out) e, (subst (λ (z : List ℕ). length z ≤ 64) e (g .1 .1 .0), g .1 .1 .1)))
+replies input k {out} g =
+    let e = reply-is input k in (
+      g .count ∙ ap (handedCount out) e,
+      (g .bytes ∙ ap (handed out) e, (subst (λ (z : List ℕ). length z ≤ 64) e (g .short), g .there)),
+    )
 
-pub sends : {m t x l : List ℕ} {n : Lengths} (s : Receiving m t x l n) {out new : List ℕ} {r : ℕ}
-    → r ≡ handedCount out (replyTo (caseAtEnd (progressIn m t x l n))) → new ≡ handed out (replyTo (caseAtEnd (progressIn m t x l n))) → Sends out r new
-sends s {out} a b =
+pub outputs : {m t x l : List ℕ} {n : Lengths} (s : Receiving m t x l n) {out new : List ℕ} {r : ℕ} → Replies (progressIn m t x l n) out r new
+    → Outputs out r new
+outputs s {out} g =
     let e = reply-is (s .input) (s .kept) in
-    record { text = reply (s .input); printed = answered (s .input); count = a ∙ ap (handedCount out) e; bytes = b ∙ ap (handed out) e }
+    record {
+      text = reply (s .input);
+      output = answer (s .input);
+      count = g .count ∙ ap (handedCount out) e;
+      bytes = g .bytes ∙ ap (handed out) e;
+    }
 
-pub reports : {out new : List ℕ} {r : ℕ} → r ≡ handedCount out unreadLine → new ≡ handed out unreadLine → Sends out r new
-reports a b = record { text = unreadLine; printed = failed; count = a; bytes = b }
+pub reports : {out new : List ℕ} {r : ℕ} → r ≡ handedCount out unreadLine → new ≡ handed out unreadLine → Outputs out r new
+reports a b = record { text = unreadLine; output = unread; count = a; bytes = b }

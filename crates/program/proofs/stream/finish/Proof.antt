@@ -84,7 +84,12 @@ returns c =
     let e : take (put .result) (put .last .0) ≡ replyTo (caseAtEnd (progressIn (a .memory .now) (a .target .now) (a .text .now) (a .line .now) (a .n))) =
     front (put .ensures .0) (put .ensures .1) ∙ text s (code .1) (ran .ensures .0) (ran .ensures .1 .0) ∙ ap replyTo (line .ensures .1 .0) in
     let short : length (take (put .result) (put .last .0)) ≤ 64 = rw length-take (omega (arith, put .ensures .1)) in
-    (out .ensures .0 ∙ ap (handedCount (a .output .now)) e, (out .ensures .1 .0 ∙ ap (handed (a .output .now)) e, (rw e at short, out .ensures .1 .1)))
+    record {
+      count = out .ensures .0 ∙ ap (handedCount (a .output .now)) e;
+      bytes = out .ensures .1 .0 ∙ ap (handed (a .output .now)) e;
+      short = rw e at short;
+      there = out .ensures .1 .1;
+    }
 
 pub finish-spec : {M : Type 1} → statement M
 finish-spec =

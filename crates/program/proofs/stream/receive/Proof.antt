@@ -4,7 +4,7 @@ use mathlib.Core.List.{List}
 use Prim.Native.Nat.{ℕ}
 use lib.ListN.{length, take}
 use borrow.Author.Needs.{needs}
-use Rattle.program.specs.Stream.{unread}
+use Rattle.program.specs.Stream.{missed}
 use Rattle.program.proofs.stream.Receiving.{Receiving, nothing, more, received}
 use Rattle.program.proofs.stream.receive.Statement.{statement}
 use Rattle.program.proofs.stream.receive.Tie as tie
@@ -40,7 +40,7 @@ same-length-4 : tie.Need-same-length-4 Inv-loop μ-loop
 same-length-4 c = c .before .before .before .before .before .loop .inv .1 .ready .lines ∙ sym (c .before .before .before .before .before .before .before .before .before .before .before .pre .0 .lines)
 
 returns : tie.Need-returns Inv-loop μ-loop
-returns c = unread
+returns c = missed
 
 same-length-5 : tie.Need-same-length-5 Inv-loop μ-loop
 same-length-5 c = c .before .before .before .before .before .before .loop .inv .1 .ready .image ∙ sym (c .before .before .before .before .before .before .before .before .before .before .before .before .pre .0 .image)
@@ -94,7 +94,7 @@ same-length-12 : tie.Need-same-length-12 Inv-loop μ-loop
 same-length-12 c = c .before .loop .inv .1 .ready .lines ∙ sym (c .before .before .before .before .before .before .before .pre .0 .lines)
 
 returns-3 : tie.Need-returns-3 Inv-loop μ-loop
-returns-3 c = unread
+returns-3 c = missed
 
 pub receive-spec : {M : Type 1} → statement M
 receive-spec =
