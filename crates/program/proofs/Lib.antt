@@ -1,8 +1,2 @@
--- What other crates may cite; below it, the laws that lead there.
-pub mod Laws
-mod Decimals
-mod Long
-mod Patterns
-mod Stores
+-- Laws for the proofs of several modules.
 mod Names
-mod Tests

@@ -1,7 +1,3 @@
-pub mod Forms
-pub mod Lines
-pub mod Printing
-pub mod Steps
+pub mod Cases
 pub mod Reply
 pub mod Stream
-pub mod Laws

@@ -17,8 +17,8 @@ use Rattle.operations.specs.declared.Answer.{Answer}
 use Rattle.operations.specs.declared.Answer.the-variants.{Done, Fault, Refused}
 use Rattle.operations.specs.declared.Report.{Report}
 use Rattle.operations.specs.Operations.{reportOf, Request, request, performed, performedMemory}
-use Rattle.program.specs.Lines.{Case, zeros, caseOf}
-use Rattle.program.specs.Printing.{decimalText, cellText, cellName}
+use Rattle.program.specs.Cases.{Case, zeros, caseOf}
+use Rattle.lines.specs.Printing.{decimalText, cellText, cellName}
 
 -- `answer=`
 abbrev pub answerKey : List ℕ

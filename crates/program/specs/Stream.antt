@@ -7,10 +7,10 @@ use Prim.Native.Nat.{ℕ, _≤_}
 use lib.Dec.{eqb}
 use lib.ListN.{length, take}
 use Rattle.memory.specs.Layout.{imageSize}
-use Rattle.program.specs.declared.lines.Lengths.{Lengths}
+use Rattle.program.specs.declared.case.Lengths.{Lengths}
 use Rattle.program.specs.declared.stream.Receipt.{Receipt}
 use Rattle.program.specs.declared.stream.Receipt.the-variants.{All, Unread}
-use Rattle.program.specs.Lines.{Case, opened, zeros, afterLine}
+use Rattle.program.specs.Cases.{Case, opened, zeros, afterLine}
 use Rattle.program.specs.Reply.{replyTo, reply, handed, handedCount, Lies}
 
 -- how much of a line is kept: `expr=` and 1,025 bytes, by which an expression is known to be over 1,024. No line as long as that sets a cell or names a

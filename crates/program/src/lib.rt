@@ -2,15 +2,13 @@
 ghost use mathlib.Core.Path.{_≡_};
 ghost use Prim.Native.Nat.{_≤_};
 ghost use lib.ListN.{length};
-ghost use Rattle.program.specs.Lines.{zeros};
+ghost use Rattle.program.specs.Cases.{zeros};
 ghost use Rattle.program.specs.Reply.{reply, handed, handedCount, Lies, Outputs};
-use crate::lines::Lengths;
+use crate::case::Lengths;
 use crate::stream::Receipt;
 
+mod case;
 mod cells;
-mod forms;
-mod lines;
-mod printing;
 mod reply;
 mod stream;
 

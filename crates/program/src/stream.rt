@@ -1,10 +1,10 @@
 // An input that comes in pieces. Of each line only so much is kept as can matter, so that neither the input nor a line has a limit.
 ghost use mathlib.Core.Path.{_≡_};
 ghost use lib.ListN.{length};
-ghost use Rattle.program.specs.Lines.{zeros};
+ghost use Rattle.program.specs.Cases.{zeros};
 ghost use Rattle.program.specs.Stream.{afterByte, afterBytes, noLengths, progressIn, StreamBuffers, Receives, Replies};
-use crate::lines;
-use crate::lines::Lengths;
+use crate::case;
+use crate::case::Lengths;
 use crate::reply;
 
 // The whole input, with what its buffers keep of it; or a read failed.
@@ -36,7 +36,7 @@ fn take_byte(
 {
     let k = n.line;
     if b == b'\n' {
-        return lines::take_line(&line[..k], memory, target, text, n);
+        return case::take_line(&line[..k], memory, target, text, n);
     }
     if k == line.len() {
         return n;
@@ -120,7 +120,7 @@ pub fn finish(
         (now (output .entry)) r (now (output .exit)) ⌝ }
 {
     let k = n.line;
-    let last = lines::take_line(&line[..k], memory, target, text, n);
+    let last = case::take_line(&line[..k], memory, target, text, n);
     let a = last.target;
     let b = last.text;
     let mut code = blank_code();

@@ -16,7 +16,7 @@ use Rattle.memory.specs.declared.Bank.the-variants.{X, C, «V», N, D, R}
 use Rattle.memory.specs.declared.Layout.{Layout}
 use Rattle.memory.specs.Layout.{layoutOf, cellAt}
 use Rattle.memory.specs.Cells.{bytesAt}
-use Rattle.program.proofs.Stores.{Left, first, done}
+use Rattle.lines.proofs.Stores.{Left, first, done}
 
 pub none : (s : List ℕ) → 0 ≡ little (drop (length s) s)
 none s = rw drop-length

@@ -7,9 +7,9 @@ use native.Mathlib.Omega.{arith}
 use lib.ListN.{length}
 use lib.Seq.{length-sets, length-take-le}
 use borrow.Author.Tests.{lt-ltb, le-ltb}
-use Rattle.program.specs.Steps.{Puts}
+use Rattle.lines.specs.Steps.{Puts}
 use Rattle.program.specs.Reply.{handed, handedCount, Lies}
-use Rattle.program.proofs.Stores.{as-text}
+use Rattle.lines.proofs.Stores.{as-text}
 
 -- nothing was put
 pub nothing : (l : List ℕ) (at : ℕ) → Puts l at l at []

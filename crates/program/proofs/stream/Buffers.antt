@@ -7,8 +7,8 @@ use native.Mathlib.Omega.{arith}
 use lib.ListN.{length, getD, take, drop, set, length-append, length-set, drop-of-length-le}
 use lib.Seq.{take-all, take-append-le, take-take, take-suc-set, length-take-le, drop-cons}
 use borrow.Author.Tests.{eq-eqb, ne-eqb}
-use Rattle.program.specs.declared.lines.Lengths.{Lengths}
-use Rattle.program.specs.Lines.{Case, afterLine}
+use Rattle.program.specs.declared.case.Lengths.{Lengths}
+use Rattle.program.specs.Cases.{Case, afterLine}
 use Rattle.program.specs.Stream.{keptBytes, Progress, afterByte, afterBytes, caseIn, progressIn, Inside, StreamBuffers}
 
 abbrev kept : Case → List ℕ → Progress

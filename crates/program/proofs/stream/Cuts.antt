@@ -7,7 +7,7 @@ use native.Mathlib.Omega.{arith}
 use lib.Dec.{eqb, ltb}
 use lib.ListN.{length, take, drop, length-take, length-drop}
 use lib.Seq.{take-nil, take-take, take-all, length-take-le}
-use borrow.Author.Tests.{ltb-true, ltb-false}
+use borrow.Author.Tests.{ltb-true, ltb-false, lt-leb}
 use Rattle.memory.specs.declared.Bank.{Bank}
 use Rattle.memory.specs.declared.names.Named.{Named}
 use Rattle.memory.specs.declared.names.Named.the-variants.{Cell, Other}
@@ -15,15 +15,16 @@ use Rattle.memory.specs.Layout.{imageSize}
 use Rattle.memory.specs.Names.{namedRule, targetRule}
 use Rattle.tokens.specs.Bytes.{runLen}
 use Rattle.tokens.specs.Symbols.{same}
-use Rattle.text.specs.Judge.{judge}
+use Rattle.text.specs.Judge.{refused, judge}
 use Rattle.operations.specs.Operations.{reportOf, Request, stops, ofText, ofTarget, performed, performedMemory}
-use Rattle.program.specs.Forms.{patternOf}
-use Rattle.program.specs.Lines.{Case, except, keyLength, putForm, setCell, targetKey, exprKey, keyed, afterLine, zeros}
+use Rattle.lines.specs.Forms.{patternOf}
+use Rattle.lines.specs.Lines.{except, keyLength}
+use Rattle.program.specs.Cases.{Case, putForm, setCell, targetKey, exprKey, keyed, afterLine, zeros}
 use Rattle.program.specs.Reply.{reportText, storedText, replyTo}
 use Rattle.program.specs.Stream.{keptBytes}
-use Rattle.program.proofs.Long.{short-name, no-name, no-target, no-value, no-formula}
-use Rattle.program.proofs.Tests.{no}
-use Rattle.program.proofs.lines.Effects.{key-line, no-key}
+use Rattle.lines.proofs.Long.{short-name, no-name, no-target, no-value}
+use Rattle.lines.proofs.Tests.{no}
+use Rattle.program.proofs.case.Effects.{key-line, no-key}
 
 -- two cases have the same memory, target and formula, or refusals
 pub record Agrees (s t : Case) : Type 0 where
@@ -52,6 +53,11 @@ same-reply s t a =
     ap (λ (x : Request). printed (s .memory) n (guarded (s .memory) x)) (of-target (s .text) (t .text) (a .text) n ∙ ap (ofTarget (t .text)) (a .target))
     ∙ ap (λ (x : Named). printed (s .memory) x (guarded (s .memory) q)) (a .target)
     ∙ ap (λ (x : List ℕ). printed x (targetRule (t .target)) (guarded x q)) (a .memory)
+
+-- ---- a long expression is refused whatever it says
+no-formula : (s : List ℕ) → 1024 < length s → judge s ≡ refused 3 0
+unfolding judge
+no-formula s h = rw (lt-leb (length s) 1024 h, and-false)
 
 -- ---- lists
 drop-take : (m n : ℕ) (l : List ℕ) → drop m (take n l) ≡ take (n - m) (drop m l)

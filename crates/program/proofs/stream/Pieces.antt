@@ -6,7 +6,8 @@ use Prim.Native.Nat.{ℕ, zero, suc}
 use lib.Dec.{eqb}
 use lib.ListN.{take}
 use Rattle.memory.specs.Layout.{imageSize}
-use Rattle.program.specs.Lines.{Case, before, lines, afterLine, afterLines, opened, zeros, caseOf}
+use Rattle.lines.specs.Lines.{before, lines}
+use Rattle.program.specs.Cases.{Case, afterLine, afterLines, opened, zeros, caseOf}
 use Rattle.program.specs.Reply.{replyTo, reply}
 use Rattle.program.specs.Stream.{keptBytes, Progress, noProgress, afterByte, afterBytes, caseAtEnd, StreamLaws}
 use Rattle.program.proofs.stream.Cuts.{Agrees, itself, same-reply, kept-line}

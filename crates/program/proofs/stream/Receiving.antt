@@ -4,10 +4,10 @@ use mathlib.Core.List.{List, [], _++_}
 use Prim.Native.Nat.{ℕ, _≤_}
 use native.Mathlib.Omega.{arith}
 use lib.ListN.{length}
-use Rattle.program.specs.declared.lines.Lengths.{Lengths}
+use Rattle.program.specs.declared.case.Lengths.{Lengths}
 use Rattle.program.specs.declared.stream.Receipt.{Receipt}
 use Rattle.program.specs.declared.stream.Receipt.the-variants.{All, Unread}
-use Rattle.program.specs.Lines.{opened, zeros}
+use Rattle.program.specs.Cases.{opened, zeros}
 use Rattle.program.specs.Reply.{replyTo, reply, handed, handedCount, Lies, unreadLine, answer, unread, Outputs}
 use Rattle.program.specs.Stream.{Progress, noProgress, afterBytes, caseAtEnd, noLengths, progressIn, StreamBuffers, Receives, all, missed, Replies}
 use Rattle.program.proofs.stream.Pieces.{stream-laws}

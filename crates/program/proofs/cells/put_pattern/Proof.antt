@@ -8,7 +8,7 @@ use borrow.Author.Needs.{needs}
 use Rattle.words.specs.Words.{bytesOf}
 use Rattle.words.proofs.Laws.{word-laws}
 use Rattle.memory.proofs.Places.{has-element, cell-within}
-use Rattle.program.proofs.Stores.{Left, start, long}
+use Rattle.lines.proofs.Stores.{Left, start, long}
 use Rattle.program.proofs.cells.Numbers.{inside, next, end}
 use Rattle.program.proofs.cells.put_pattern.Statement.{statement}
 use Rattle.program.proofs.cells.put_pattern.Tie as tie

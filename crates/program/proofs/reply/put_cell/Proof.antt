@@ -5,8 +5,8 @@ use native.Mathlib.Omega.{arith}
 use borrow.Author.Needs.{needs}
 use Rattle.words.specs.Laws.{Bytes}
 use Rattle.memory.specs.Layout.{layoutOf}
-use Rattle.program.specs.Printing.{cellText}
-use Rattle.program.proofs.Stores.{then, as-text}
+use Rattle.lines.specs.Printing.{cellText}
+use Rattle.lines.proofs.Stores.{then, as-text}
 use Rattle.program.proofs.reply.Cells.{element-small, pattern-small}
 use Rattle.program.proofs.reply.put_cell.Statement.{statement}
 use Rattle.program.proofs.reply.put_cell.Tie as tie

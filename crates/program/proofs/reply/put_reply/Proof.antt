@@ -3,7 +3,7 @@ use mathlib.Core.Path.{ap}
 use native.Mathlib.Omega.{arith}
 use borrow.Author.Needs.{needs}
 use Rattle.program.specs.Reply.{reportText}
-use Rattle.program.proofs.Stores.{then, as-text}
+use Rattle.lines.proofs.Stores.{then, as-text}
 use Rattle.program.proofs.reply.Endings.{alone}
 use Rattle.program.proofs.reply.put_reply.Statement.{statement}
 use Rattle.program.proofs.reply.put_reply.Tie as tie

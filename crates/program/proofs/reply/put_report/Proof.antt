@@ -1,8 +1,8 @@
 -- `reply::put_report` meets its contract: five texts, one behind the other.
 use native.Mathlib.Omega.{arith}
 use borrow.Author.Needs.{needs}
-use Rattle.program.proofs.Stores.{then}
-use Rattle.program.proofs.printing.Widths.{at-most}
+use Rattle.lines.proofs.Stores.{then}
+use Rattle.lines.proofs.printing.Widths.{at-most}
 use Rattle.program.proofs.reply.put_report.Statement.{statement}
 use Rattle.program.proofs.reply.put_report.Tie as tie
 

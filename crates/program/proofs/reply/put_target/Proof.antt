@@ -4,7 +4,7 @@ use native.Mathlib.Omega.{arith}
 use borrow.Author.Needs.{needs}
 use Rattle.program.specs.Reply.{targetLine}
 use Rattle.program.proofs.Names.{has-target}
-use Rattle.program.proofs.Stores.{as-text}
+use Rattle.lines.proofs.Stores.{as-text}
 use Rattle.program.proofs.reply.Endings.{nothing}
 use Rattle.program.proofs.reply.put_target.Statement.{statement}
 use Rattle.program.proofs.reply.put_target.Tie as tie

@@ -1,6 +1,6 @@
 -- `stream::blank_code` meets its contract: the array and the definition compute to one list.
 use mathlib.Core.Path.{refl}
-use Rattle.program.specs.Lines.{zeros}
+use Rattle.program.specs.Cases.{zeros}
 use Rattle.program.proofs.stream.blank_code.Statement.{statement}
 use Rattle.program.proofs.stream.blank_code.Tie as tie
 

@@ -1,0 +1,84 @@
+-- Eight hexadecimal digits make a pattern of 32 bits, and are read as a formula's numeral. Assumes nothing.
+use mathlib.Core.Path.{_≡_, refl, sym, ap, subst, _∙_}
+use mathlib.Core.Bool.{Bool, true, false, cond, and-false}
+use mathlib.Core.List.{List, [], _∷_}
+use Prim.Native.Nat.{ℕ, suc, _+_, _-_, _*_, _^_, _≤_, _<_}
+use native.Mathlib.Nat.{lt-of-lt-of-le, mul-le-mul-right, mul-assoc, mul-one, one-mul, pow-succ'}
+use native.Mathlib.Omega.{arith}
+use lib.Dec.{eqb, leb}
+use lib.ListN.{length, getD, drop}
+use borrow.Author.Tests.{leb-true, leb-false, lt-leb, le-ltb, eq-eqb, ne-eqb}
+use Rattle.values.specs.declared.Value.the-variants.{Int}
+use Rattle.values.specs.Patterns.{signedOf}
+use Rattle.values.proofs.patterns.Readings.{low-signed}
+use Rattle.tokens.specs.declared.Token.the-variants.{Number}
+use Rattle.tokens.specs.declared.Scanned.the-variants.{Good, Bad}
+use Rattle.tokens.specs.Bytes.{all}
+use Rattle.tokens.specs.Numerals.{some, isHex, hexDigit, hexFrom, hexOf, numeralOf}
+use Rattle.lines.specs.declared.forms.Form.the-variants.{Pattern, Other}
+use Rattle.lines.specs.Forms.{hexForm}
+use Rattle.lines.specs.Steps.{scannedForm}
+use Rattle.lines.proofs.Tests.{both, no}
+
+-- ---- a digit is below 16
+beyond : (c : ℕ) → 102 < c → isHex c ≡ false
+beyond c h = rw (le-ltb c 58 (omega arith), lt-leb c 70 (omega arith), lt-leb c 102 h, and-false, and-false, and-false)
+
+small : (c : ℕ) → isHex c ≡ true → hexDigit c < 16
+small c e = by (leb c 57) (leb c 70) (leb c 102) refl refl refl
+  where
+    by : (t u w : Bool) → leb c 57 ≡ t → leb c 70 ≡ u → leb c 102 ≡ w → cond t (c - 48) (cond u (c - 55) (c - 87)) < 16
+    by true u w p q r = omega (arith, leb-true c 57 p)
+    by false true w p q r = omega (arith, leb-true c 70 q)
+    by false false true p q r = omega (arith, leb-true c 102 r)
+    by false false false p q r = no (sym (beyond c (leb-false c 102 r)) ∙ e)
+
+-- ---- digits after those that make n
+bound : (n : ℕ) (cs : List ℕ) → all isHex cs ≡ true → hexFrom n cs < (n + 1) * 16 ^ length cs
+bound n [] e = rw mul-one (omega arith)
+bound n (c ∷ cs) e =
+    let h = both (isHex c) (all isHex cs) e in
+    let d : n * 16 + hexDigit c + 1 ≤ (n + 1) * 16 = omega (arith, small c (h .0)) in
+    rw (pow-succ', ← mul-assoc) (lt-of-lt-of-le (bound (n * 16 + hexDigit c) cs (h .1)) (mul-le-mul-right (16 ^ length cs) d))
+
+eight : (cs : List ℕ) → length cs ≡ 8 → all isHex cs ≡ true → hexFrom 0 cs < 2 ^ 32
+eight cs l e = rw (one-mul, l) at (bound 0 cs e)
+
+some-of : (cs : List ℕ) → 0 < length cs → some cs ≡ true
+some-of [] h = absurd (omega arith)
+some-of (c ∷ cs) h = refl
+
+-- ---- the digits after `0x`
+digits : (cs : List ℕ) → length cs ≡ 8 → scannedForm (hexOf cs) ≡ cond (all isHex cs) (Pattern (hexFrom 0 cs)) Other
+digits cs l = rw (some-of cs (omega arith), l) (by (all isHex cs) refl)
+  where
+    by : (t : Bool) → all isHex cs ≡ t
+        → scannedForm (cond t (Good (Number (Int (signedOf 32 (hexFrom 0 cs))))) (Bad 4)) ≡ cond t (Pattern (hexFrom 0 cs)) Other
+    by true e = ap Pattern (low-signed 32 (hexFrom 0 cs) (eight cs l e))
+    by false e = refl
+
+-- ---- the text
+shape : (s : List ℕ) → length s ≡ 10 → getD s 0 0 ≡ 48 → getD s 1 0 ≡ 120 → s ≡ 48 ∷ 120 ∷ drop 2 s
+shape [] l a b = absurd (omega arith)
+shape (c ∷ []) l a b = absurd (omega arith)
+shape (c ∷ d ∷ cs) l a b = cc
+
+pub pattern : (s : List ℕ) → length s ≡ 10 → getD s 0 0 ≡ 48 → getD s 1 0 ≡ 120 → scannedForm (numeralOf s) ≡ hexForm s
+pattern s l a b =
+    let e = shape s l a b in
+    let n : length (drop 2 s) ≡ 8 = omega (arith, ap length e) in
+    let t : eqb (suc (suc (length (drop 2 s)))) 10 ≡ true = eq-eqb (suc (suc (length (drop 2 s)))) 10 (omega arith) in
+    subst (λ (x : List ℕ). scannedForm (numeralOf x) ≡ hexForm x) (sym e) (rw t (digits (drop 2 s) n))
+
+pub other-length : (s : List ℕ) → (length s ≡ 10 → ⊥) → Other ≡ hexForm s
+other-length s n = rw (ne-eqb (length s) 10 n, and-false)
+
+pub other-first : (s : List ℕ) → (getD s 0 0 ≡ 48 → ⊥) → Other ≡ hexForm s
+other-first [] n = refl
+other-first (c ∷ []) n = refl
+other-first (c ∷ d ∷ cs) n = rw (ne-eqb c 48 n)
+
+pub other-second : (s : List ℕ) → (getD s 1 0 ≡ 120 → ⊥) → Other ≡ hexForm s
+other-second [] n = refl
+other-second (c ∷ []) n = refl
+other-second (c ∷ d ∷ cs) n = rw (ne-eqb d 120 n, and-false)

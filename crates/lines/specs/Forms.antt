@@ -1,0 +1,40 @@
+-- The value of a cell on input (paper 01: "cells (R as its pattern)"; "Integers print in signed decimal"): an integer in just the form in which it is printed, within its
+-- bank's range; for R the printed form, with hexadecimal digits of either case. With any other value the line is one "of any other form".
+use mathlib.Core.Bool.{_&&_, not, cond}
+use mathlib.Core.List.{List, [], _∷_}
+use Prim.Native.Nat.{ℕ, suc, _-_, _*_}
+use lib.Dec.{eqb}
+use lib.ListN.{length, drop}
+use Rattle.memory.specs.declared.Bank.{Bank}
+use Rattle.memory.specs.declared.Bank.the-variants.{X, C, «V», N, D, R}
+use Rattle.memory.specs.Names.{decimal, numberBelow}
+use Rattle.tokens.specs.Bytes.{all}
+use Rattle.tokens.specs.Numerals.{isHex, hexFrom, isHexRun}
+use Rattle.lines.specs.declared.forms.Form.{Form}
+use Rattle.lines.specs.declared.forms.Form.the-variants.{Pattern, Other}
+
+-- digits without a leading zero, whose number is below n; no `+`
+abbrev pub naturalForm : ℕ → List ℕ → Form
+naturalForm n cs = cond (numberBelow n cs) (Pattern (decimal cs)) Other
+
+-- the digits after a `-`: from 1, since there is no -0, to half of the 2 * half patterns; in two's complement the number is taken from 2 * half
+abbrev pub negativeForm : ℕ → List ℕ → Form
+negativeForm half cs = cond (numberBelow (suc half) cs && not (eqb (decimal cs) 0)) (Pattern (2 * half - decimal cs)) Other
+
+-- an integer from -half to half - 1
+abbrev pub signedForm : ℕ → List ℕ → Form
+signedForm half [] = Other
+signedForm half (c ∷ cs) = cond (eqb c 45) (negativeForm half cs) (naturalForm half (c ∷ cs))
+
+-- `0x` and exactly eight hexadecimal digits
+abbrev pub hexForm : List ℕ → Form
+hexForm cs = cond (isHexRun cs && eqb (length cs) 10 && all isHex (drop 2 cs)) (Pattern (hexFrom 0 (drop 2 cs))) Other
+
+-- the pattern that a text gives a cell of a bank: bits are 0 or 1; V "unsigned 16", N "signed 16", D "signed 32", R "singles"
+abbrev pub patternOf : Bank → List ℕ → Form
+patternOf X cs = naturalForm 2 cs
+patternOf C cs = naturalForm 2 cs
+patternOf «V» cs = naturalForm 65536 cs
+patternOf N cs = signedForm 32768 cs
+patternOf D cs = signedForm 2147483648 cs
+patternOf R cs = hexForm cs

@@ -1,0 +1,3 @@
+-- Laws for the proofs of case.
+mod Settings
+pub mod Effects

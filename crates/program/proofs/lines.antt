@@ -1,4 +1,0 @@
--- Laws for the proofs of lines.
-mod Runs
-mod Settings
-pub mod Effects
