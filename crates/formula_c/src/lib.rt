@@ -5,8 +5,8 @@ ghost use Prim.Native.Nat.{_%_, _^_};
 ghost use lib.Ieee.{binary32, rem};
 ghost use lib.ListN.{length};
 ghost use Rattle.compiler.specs.Compile.{compiling, codedBytes};
-ghost use Rattle.operations.specs.Operations.{compileAnswer, request, performed, performedMemory, performedCode};
-ghost use Rattle.formula_c.specs.Words.{kindNumber, bitsOf, told, Checked, Ran};
+ghost use Rattle.operations.specs.Operations.{compileAnswer, checkAnswer, runAnswer, runMemory, request, performed, performedMemory, performedCode};
+ghost use Rattle.formula_c.specs.Words.{kindNumber, bitsOf, told};
 use operations::Answer;
 use values::Kind;
 use values::Value;
@@ -56,7 +56,7 @@ pub extern "C" fn formula_compile(expr: &[u8], code: &mut [u8], report: &mut [u3
 
 #[no_mangle]
 pub extern "C" fn formula_check(code: &[u8], instructions: usize, report: &mut [u32; 5])
-    ensures { λ _. ⌜ Checked (now (code .entry)) instructions (now (report .exit)) ⌝ }
+    ensures { λ _. ⌜ now (report .exit) ≡ told (checkAnswer (now (code .entry)) instructions) ⌝ }
 {
     let answer = operations::check(code, instructions);
     tell(answer, report);
@@ -70,7 +70,8 @@ pub extern "C" fn formula_run(
     target: &[u8],
     report: &mut [u32; 5],
 )
-    ensures { λ _. ⌜ Ran (now (code .entry)) instructions (now (target .entry)) (now (memory .entry)) (now (memory .exit)) (now (report .exit)) ⌝ }
+    ensures { λ _. ⌜ now (report .exit) ≡ told (runAnswer (now (code .entry)) instructions (now (target .entry)) (now (memory .entry))) ⌝ }
+    ensures { λ _. ⌜ now (memory .exit) ≡ runMemory (now (code .entry)) instructions (now (target .entry)) (now (memory .entry)) ⌝ }
 {
     let answer = operations::run(code, instructions, memory, target);
     tell(answer, report);

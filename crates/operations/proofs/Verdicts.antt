@@ -23,7 +23,7 @@ use Rattle.verifier.specs.Verdicts.{verdict}
 use Rattle.verifier.proofs.Verdicts.{verdict-laws}
 use Rattle.operations.specs.declared.Answer.{Answer}
 use Rattle.operations.specs.declared.Answer.the-variants.{Refused}
-use Rattle.operations.specs.Operations.{verdictAnswer, checkAnswer, Goal, to, none, goalOf, goal, finished, memoryAfter, ranAnswer, ranMemory, Runs}
+use Rattle.operations.specs.Operations.{verdictAnswer, checkAnswer, Goal, to, none, goalOf, goal, finished, memoryAfter, ranAnswer, ranMemory, runAnswer, runMemory}
 use Rattle.operations.specs.Terms.{doneWith, Refusal}
 
 -- ---- the verdict
@@ -78,6 +78,10 @@ module _ (code : List ℕ) (n : ℕ) (target m : List ℕ) where
 -- r and m′ are what comes of the run x
 abbrev pub Finishes : List ℕ → Bank → ℕ → Ran → Answer → List ℕ → Type 0
 Finishes m b i x r m′ = (r ≡ finished m b i (x .end) (x .count)) × (m′ ≡ memoryAfter m b i (x .end))
+
+-- r and m′ are what run gives
+abbrev Runs : List ℕ → ℕ → List ℕ → List ℕ → List ℕ → Answer → Type 0
+Runs code n target m m′ r = (r ≡ runAnswer code n target m) × (m′ ≡ runMemory code n target m)
 
 module _ (code : List ℕ) (n : ℕ) (target m : List ℕ) where
   pub refuses : {a : ℕ} → goal code n target m ≡ none a → Runs code n target m m (Refused a 0)

@@ -108,13 +108,6 @@ runAnswer code n target m = ranAnswer m (runs code n m) (goal code n target m)
 abbrev pub runMemory : List ℕ → ℕ → List ℕ → List ℕ → List ℕ
 runMemory code n target m = ranMemory m (runs code n m) (goal code n target m)
 
--- the two contracts as relations, for the words of the C report
-abbrev pub Checks : List ℕ → ℕ → Answer → Type 0
-Checks code n r = r ≡ checkAnswer code n
-
-abbrev pub Runs : List ℕ → ℕ → List ℕ → List ℕ → List ℕ → Answer → Type 0
-Runs code n target m m′ r = (r ≡ runAnswer code n target m) × (m′ ≡ runMemory code n target m)
-
 -- compile and run: the cell, the formula's tree and its code, the buffer as written and the number of instructions; or the first refusal in the order
 -- 1, 10, 2, 3 to 9
 pub data Request : Type 0 where
