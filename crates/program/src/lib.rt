@@ -2,10 +2,14 @@
 ghost use mathlib.Core.Path.{_≡_};
 ghost use Prim.Native.Nat.{_≤_};
 ghost use lib.ListN.{length};
+ghost use Rattle.memory.specs.Layout.{imageSize};
 ghost use Rattle.program.specs.Cases.{zeros};
 ghost use Rattle.program.specs.Reply.{reply, handed, handedCount, Lies, Outputs};
+ghost use Rattle.program.specs.Stream.{keptBytes};
 use crate::case::Lengths;
+use crate::stream::KEPT_BYTES;
 use crate::stream::Receipt;
+use memory::IMAGE_SIZE;
 
 mod case;
 mod cells;
@@ -13,16 +17,16 @@ mod reply;
 mod stream;
 
 // The zero bytes come from functions: their contracts name the lists, which a literal would write out in every step of the proofs below.
-fn blank_image() -> [u8; 3204]
-    ensures { λ r. ⌜ (3204 ≡ length r) × (r ≡ zeros 3204) ⌝ }
+fn blank_image() -> [u8; IMAGE_SIZE]
+    ensures { λ r. ⌜ (imageSize ≡ length r) × (r ≡ zeros imageSize) ⌝ }
 {
-    [0; 3204]
+    [0; IMAGE_SIZE]
 }
 
-fn blank_text() -> [u8; 1030]
-    ensures { λ r. ⌜ 1030 ≡ length r ⌝ }
+fn blank_text() -> [u8; KEPT_BYTES]
+    ensures { λ r. ⌜ keptBytes ≡ length r ⌝ }
 {
-    [0; 1030]
+    [0; KEPT_BYTES]
 }
 
 // The whole input is one case. An output of 64 bytes has room for every reply; in one that is too short nothing is written, and 0 is returned.

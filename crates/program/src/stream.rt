@@ -1,11 +1,15 @@
 // An input that comes in pieces. Of each line only so much is kept as can matter, so that neither the input nor a line has a limit.
 ghost use mathlib.Core.Path.{_≡_};
 ghost use lib.ListN.{length};
+ghost use Rattle.memory.specs.Layout.{imageSize};
 ghost use Rattle.program.specs.Cases.{zeros};
 ghost use Rattle.program.specs.Stream.{afterByte, afterBytes, noLengths, progressIn, StreamBuffers, Receives, Replies};
 use crate::case;
 use crate::case::Lengths;
 use crate::reply;
+
+// How much of a line is kept.
+pub const KEPT_BYTES: usize = 1030;
 
 // The whole input, with what its buffers keep of it; or a read failed.
 pub enum Receipt {
@@ -72,7 +76,8 @@ pub fn feed(
     lengths
 }
 
-// Piece after piece to the input's end. A proved loop has to end, and nothing says that an input does: the turns are counted down, from a number that no input uses up.
+// Piece after piece to the input's end. A proved loop has to end, and nothing says that an input does: the turns are counted down, from a number that no
+// input uses up.
 pub fn receive(
     fd: i32,
     memory: &mut [u8],
@@ -81,7 +86,7 @@ pub fn receive(
     line: &mut [u8],
 ) -> Receipt
     requires { ⌜ StreamBuffers (now memory) (now target) (now text) (now line) noLengths ⌝ }
-    requires { ⌜ now memory ≡ zeros 3204 ⌝ }
+    requires { ⌜ now memory ≡ zeros imageSize ⌝ }
     ensures { λ r. ⌜ Receives (now (memory .exit)) (now (target .exit)) (now (text .exit)) (now (line .exit)) r ⌝ }
 {
     let mut n = Lengths {

@@ -4,6 +4,7 @@ use mathlib.Core.List.{List, [], _++_}
 use Prim.Native.Nat.{ℕ, _≤_}
 use native.Mathlib.Omega.{arith}
 use lib.ListN.{length}
+use Rattle.memory.specs.Layout.{imageSize}
 use Rattle.program.specs.declared.case.Lengths.{Lengths}
 use Rattle.program.specs.declared.stream.Receipt.{Receipt}
 use Rattle.program.specs.declared.stream.Receipt.the-variants.{All, Unread}
@@ -22,10 +23,10 @@ pub record Receiving (m t x l : List ℕ) (n : Lengths) : Type 0 where
 abbrev pub first : List ℕ → Progress
 first m = record { case = opened m; line = [] }
 
-pub start : {m : List ℕ} → m ≡ zeros 3204 → first m ≡ noProgress
+pub start : {m : List ℕ} → m ≡ zeros imageSize → first m ≡ noProgress
 start e = ap first e
 
-pub nothing : {m t x l : List ℕ} → StreamBuffers m t x l noLengths → m ≡ zeros 3204 → Receiving m t x l noLengths
+pub nothing : {m t x l : List ℕ} → StreamBuffers m t x l noLengths → m ≡ zeros imageSize → Receiving m t x l noLengths
 nothing p e = record { ready = p; input = []; kept = start e }
 
 pub more : {m t x l : List ℕ} {n : Lengths} → Receiving m t x l n → (piece : List ℕ) {m′ t′ x′ l′ : List ℕ} {r : Lengths}
