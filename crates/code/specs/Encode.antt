@@ -1,13 +1,12 @@
 -- The eight bytes of an instruction, and that bytes and instructions correspond: proofs/Laws.antt proves `EncodeLaws`.
 use mathlib.Core.Path.{_≡_}
 use mathlib.Core.Logic.{_≢_}
-use mathlib.Core.Bool.{Bool, true, false, cond}
+use mathlib.Core.Bool.{Bool, true, false}
 use mathlib.Core.List.{List, _∷_}
-use Prim.Native.Nat.{ℕ, _*_, _/_, _^_, _<_}
-use lib.Dec.{T, ltb}
+use Prim.Native.Nat.{ℕ, _^_, _<_}
+use lib.Dec.{T}
 use lib.IntN.{ℤ}
 use lib.ListN.{length}
-use lib.Seq.{sets}
 use lib.Ieee as Ieee
 use lib.Ieee.{Float, binary32}
 use Rattle.reals.specs.Singles.{Single}
@@ -40,10 +39,6 @@ encode (Jump d) = eight 7 0 d
 encode (JumpIf false d) = eight 8 0 d
 encode (JumpIf true d) = eight 9 0 d
 encode Unknown = eight 0 0 0
-
--- the instruction at a place of the code, where the code has such a place
-abbrev pub puts : List ℕ → ℕ → Instr → List ℕ
-puts s p i = cond (ltb p (length s / 8)) (sets s (8 * p) (encode i)) s
 
 -- an instruction that eight bytes can hold
 pub data Encodable : Instr → Type 0 where

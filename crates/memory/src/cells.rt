@@ -4,23 +4,13 @@ ghost use Prim.Native.Nat.{_+_, _≤_, _<_};
 ghost use lib.ListN.{length, take, drop};
 ghost use Rattle.words.specs.Words.{little};
 ghost use Rattle.memory.specs.Layout.{hasCell};
-ghost use Rattle.memory.specs.Cells.{bankKind, cellValue, readRule, positionRule, indexedRule};
+ghost use Rattle.memory.specs.Cells.{cellValue, readRule, positionRule, indexedRule};
 use crate::Bank;
 use crate::IMAGE_SIZE;
 use operators::Position;
 use values::Fault;
-use values::Kind;
 use values::Outcome;
 use values::Value;
-
-pub fn kind_of(bank: Bank) -> Kind
-    ensures { λ r. ⌜ r ≡ bankKind bank ⌝ }
-{
-    match bank {
-        Bank::X | Bank::C | Bank::V | Bank::N | Bank::D => Kind::Int,
-        Bank::R => Kind::Real,
-    }
-}
 
 // What a bank reads in the number of a cell's bytes.
 fn bit_cell(n: u8) -> Outcome

@@ -1,4 +1,4 @@
-// Every operator of paper 01 on values: mixed kinds, truth, the branches of IF, and the element that an index names. Kinds are in kinds.rt.
+// Every operator of paper 01 on values: mixed kinds, truth, the branches of IF, and the element that an index names.
 ghost use mathlib.Core.Path.{_≡_};
 ghost use Rattle.operators.specs.Operators.{asReal, pairOf, arithRule, compareRule, choiceRule, powerRule, bitsRule, shiftRule};
 ghost use Rattle.operators.specs.Operators.{fromBool, cutOutcome, truthRule, unaryRule, binaryRule, branchRule, elementBelow, cutBelow, indexRule};
@@ -13,7 +13,6 @@ use values::Outcome;
 use values::ShiftOp;
 use values::Value;
 
-pub mod kinds;
 pub mod tables;
 
 // The operators whose two operands are both worked out: && and || are not among them.

@@ -1,6 +1,6 @@
-// The operators by number: specs/Tables.antt. Each way is a match: a table would be copied at every use.
+// The operators by number: specs/Tables.antt. A match: a table would be copied at every use.
 ghost use mathlib.Core.Path.{_≡_};
-ghost use Rattle.operators.specs.Tables.{unaryOf, binaryOf, unaryNumber, binaryNumber};
+ghost use Rattle.operators.specs.Tables.{unaryOf, binaryOf};
 use crate::BinaryOp;
 use crate::UnaryOp;
 use reals::ArithOp;
@@ -60,57 +60,5 @@ pub fn binary_of(n: u8) -> BinaryOf
         18 => BinaryOf::Is(BinaryOp::Choice(ChoiceOp::Max)),
         19 => BinaryOf::Is(BinaryOp::Choice(ChoiceOp::Min)),
         _ => BinaryOf::Nothing,
-    }
-}
-
-pub fn unary_number(op: UnaryOp) -> u8
-    ensures { λ r. ⌜ r ≡ unaryNumber op ⌝ }
-{
-    match op {
-        UnaryOp::Neg => 0,
-        UnaryOp::Complement => 1,
-        UnaryOp::Not => 2,
-        UnaryOp::Abs => 3,
-        UnaryOp::ToReal => 4,
-        UnaryOp::Trunc => 5,
-        UnaryOp::Round => 6,
-        UnaryOp::Frac => 7,
-    }
-}
-
-pub fn binary_number(op: BinaryOp) -> u8
-    ensures { λ r. ⌜ r ≡ binaryNumber op ⌝ }
-{
-    match op {
-        BinaryOp::Power => 0,
-        BinaryOp::Arith(o) => match o {
-            ArithOp::Mul => 1,
-            ArithOp::Div => 2,
-            ArithOp::Rem => 3,
-            ArithOp::Add => 4,
-            ArithOp::Sub => 5,
-        },
-        BinaryOp::Shift(o) => match o {
-            ShiftOp::Left => 6,
-            ShiftOp::Right => 7,
-            ShiftOp::RightZero => 8,
-        },
-        BinaryOp::Compare(o) => match o {
-            CompareOp::Lt => 9,
-            CompareOp::Gt => 10,
-            CompareOp::Le => 11,
-            CompareOp::Ge => 12,
-            CompareOp::Eq => 13,
-            CompareOp::Ne => 14,
-        },
-        BinaryOp::Bits(o) => match o {
-            BitOp::And => 15,
-            BitOp::Xor => 16,
-            BitOp::Or => 17,
-        },
-        BinaryOp::Choice(o) => match o {
-            ChoiceOp::Max => 18,
-            ChoiceOp::Min => 19,
-        },
     }
 }

@@ -1,7 +1,7 @@
 // What a value is, and how its two kinds of number behave: 32-bit integers and singles (paper 01, "Values and kinds").
 // Nothing here mixes kinds: that is the crate operators.
 ghost use mathlib.Core.Path.{_≡_};
-ghost use Rattle.values.specs.Values.{kindOf, faultNumber};
+ghost use Rattle.values.specs.Values.{faultNumber};
 
 pub mod convert;
 pub mod integers;
@@ -62,15 +62,6 @@ pub enum CompareOp {
 pub enum ChoiceOp {
     Max,
     Min,
-}
-
-pub fn kind_of(v: Value) -> Kind
-    ensures { λ r. ⌜ r ≡ kindOf v ⌝ }
-{
-    match v {
-        Value::Int(_) => Kind::Int,
-        Value::Real(_) => Kind::Real,
-    }
 }
 
 // Paper 01's number of a fault.
