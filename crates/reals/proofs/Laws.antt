@@ -8,7 +8,7 @@ use lib.Signed.{leZ}
 use lib.Dec.{T, leb, lit≤, lit<}
 use lib.Ieee as Ieee
 use lib.Ieee.{Float, fin, binary32, fits}
-use lib.Ieee.Fits.{add-fits, sub-fits, mul-fits, div-fits, rem-fits, ofInt-fits, neg-fits}
+use lib.Ieee.Fits.{round-fits, add-fits, sub-fits, mul-fits, div-fits, rem-fits, ofInt-fits, neg-fits}
 use lib.Ieee.Bits.{ofBits-fits, ofBits-toBits, toBits-lt}
 use Rattle.reals.specs.declared.ArithOp.{ArithOp}
 use Rattle.reals.specs.declared.ArithOp.the-variants.{Add, Sub, Mul, Div, Rem}
@@ -16,6 +16,7 @@ use Rattle.reals.specs.Singles.{Single, negative, units, signed, count, 
 use Rattle.reals.specs.Rounding.{Rounds, end}
 use Rattle.reals.specs.Operations.{ieee, signOf, exact, divides}
 use Rattle.reals.specs.Laws.{RealLaws, patternUnits, decimal, integer}
+use Rattle.reals.proofs.Round.{rounded}
 use Rattle.reals.proofs.Pattern.{bits-is, encode-decode, decode-special}
 use Rattle.reals.proofs.Ops.{add-rounded, sub-rounded, mul-rounded, div-rounded, neg-is}
 use Rattle.reals.proofs.Rem.{rem-is}
@@ -109,6 +110,7 @@ real-laws = record {
   promoted = λ z h. promoted z h .single;
   same = same;
   ordered = ordered;
+  fraction = λ s num den B. Bridge.rounds (round-fits binary32 s num den) (rounded binary32 s num den B);
   literal = literal;
   read = read;
   unit = unit;

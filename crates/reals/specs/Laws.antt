@@ -53,6 +53,8 @@ pub record RealLaws : Type 0 where
   pub promoted : (z : ℤ) → natAbs z ≤ 2 ^ 31 → Single (Ieee.ofInt binary32 z)
   pub same : (z : ℤ) → natAbs z ≤ 2 ^ 24 → count (Ieee.ofInt binary32 z) ≡ z *ℤ pos (2 ^ 149)
   pub ordered : (y z : ℤ) → natAbs y ≤ 2 ^ 31 → natAbs z ≤ 2 ^ 31 → T (leZ y z) → T (leZ (count (Ieee.ofInt binary32 y)) (count (Ieee.ofInt binary32 z)))
+  -- the library's rounding of any fraction num / den is the nearest single
+  pub fraction : (s : Bool) (num den : ℕ) → 0 < den → Rounds (record { sign = s; num = num * 2 ^ 149; den = den }) (Ieee.round binary32 s num den)
   -- a decimal of at most seven digits: the division of two exact singles is the nearest single
   pub literal : (n k : ℕ) → n < 10 ^ 7 → k ≤ 6 → Rounds (decimal n k) (ieee Div (Ieee.ofInt binary32 (pos n)) (Ieee.ofInt binary32 (pos (10 ^ k))))
   pub read : (n k : ℕ) → n < 10 ^ 7 → k ≤ 6 → Single (ieee Div (Ieee.ofInt binary32 (pos n)) (Ieee.ofInt binary32 (pos (10 ^ k))))

@@ -1,0 +1,17 @@
+-- `power` meets its contract.
+use borrow.Author.Needs.{needs}
+use Rattle.literals.proofs.Decimals.{power-of-ten}
+use Rattle.literals.proofs.power.Statement.{statement}
+use Rattle.literals.proofs.power.Tie as tie
+
+mul-result : tie.Need-mul-result
+mul-result c = search needs
+
+array-read-result : tie.Need-array-read-result
+array-read-result c = search needs
+
+returns : tie.Need-returns
+returns c = power-of-ten (c .args .k) (c .pre)
+
+pub power-spec : {M : Type 1} → statement M
+power-spec = tie.close (tie.spec mul-result array-read-result returns)
