@@ -4,7 +4,8 @@
  * libformula_bare.a has formula_remainder in its place and wants no library. Beside that they call memset alone.
  *
  * Buffers. Each is lent for the call only. One passed as const is never written. No pointer may be null, also where its length
- * is 0, and no two buffers of a call may overlap. They need no alignment.
+ * is 0, and no two buffers of a call may overlap. They need no alignment; the report has
+ * that of its struct, and overlaps no buffer.
  *
  * Calls. Each ends and fills in the whole report. There is no static data: calls on buffers of their own may interrupt one another
  * or run side by side.
@@ -102,7 +103,7 @@ void formula_compile_and_run(const uint8_t *target, size_t target_len, const uin
                              uint8_t *memory, size_t memory_len, uint8_t *code, size_t code_len,
                              struct formula_report *report);
 
-/* C's fmodf for every x and y, in any floating-point mode and with at most 32 divisions of whole numbers. */
+/* C's fmodf for every x and y (any NaN where that is a NaN; errno is left alone), in any floating-point mode and with at most 32 divisions of whole numbers. */
 float formula_remainder(float x, float y);
 
 /* 1 where floating point rounds to nearest, ties to even, and keeps subnormals as operands and as results. */
@@ -132,7 +133,7 @@ static inline const char *formula_answer_text(uint32_t answer)
     case FORMULA_DIVIDE_FAULT: return "divided by zero";
     case FORMULA_OVERFLOW_FAULT: return "overflow";
     case FORMULA_RANGE_FAULT: return "out of range";
-    case FORMULA_INDEX_FAULT: return "an index beyond its bank";
+    case FORMULA_INDEX_FAULT: return "an index below zero or beyond its bank";
     case FORMULA_BAD_CODE: return "the instructions do not lie in the buffer, or the check does not accept them";
     default: return "no answer of this library";
     }

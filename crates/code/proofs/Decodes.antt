@@ -35,7 +35,7 @@ use Rattle.operators.specs.declared.tables.BinaryOf.the-variants as BinaryOf
 use Rattle.operators.specs.Tables.{unaryOps, binaryOps, unaryOf, binaryOf}
 use Rattle.memory.specs.Numbers.{banks, bankNumbered}
 use Rattle.code.specs.Instructions.{alone, finiteOnly, pushReal, loadOf, indexedOf, unaryInstr, binaryInstr, instruction, decodeAt}
-use Rattle.code.specs.Encode.{eight, encode, Encodable, push-int, push-real, load, load-indexed, unary, binary, jump, jump-if}
+use Rattle.code.specs.Encode.{instructionBytes, encode, Encodable, push-int, push-real, load, load-indexed, unary, binary, jump, jump-if}
 use Rattle.code.proofs.Numbers.{bank-forth, unary-forth, binary-forth}
 use Rattle.code.proofs.Parts.{are-bytes, eight-bytes, decode-bytes}
 
@@ -48,64 +48,64 @@ when P true x y h g = h refl
 when P false x y h g = g
 
 -- ---- the classes, by their opcodes
-integer : (w : ℕ) → w < 2 ^ 32 → Decodes (eight 1 0 w) (PushInt (signedOf 32 w))
+integer : (w : ℕ) → w < 2 ^ 32 → Decodes (instructionBytes 1 0 w) (PushInt (signedOf 32 w))
 integer w h =
     let fit : SFits w32 (signedOf 32 w) = rw (signed-toZ w32 w) (toZ-fits w32 w (record { fits = h })) in
     let range : T (inRange (signedOf 32 w)) = rw (sfits-range (signedOf 32 w) fit) tt in
-    one (push-int (signedOf 32 w) range) (ap (eight 1 0) (low-signed 32 w h))
+    one (push-int (signedOf 32 w) range) (ap (instructionBytes 1 0) (low-signed 32 w h))
 
-real : (w : ℕ) → w < 2 ^ 32 → Decodes (eight 2 0 w) (pushReal w)
+real : (w : ℕ) → w < 2 ^ 32 → Decodes (instructionBytes 2 0 w) (pushReal w)
 unfolding isNan
 real w h = by (ofBits binary32 w) (ofBits-fits binary32 w) (toBits-ofBits binary32 w h)
   where
-    by : (x : Float) → T (fits binary32 x) → (T (not (isNan x)) → toBits binary32 x ≡ w) → Decodes (eight 2 0 w) (finiteOnly x)
+    by : (x : Float) → T (fits binary32 x) → (T (not (isNan x)) → toBits binary32 x ≡ w) → Decodes (instructionBytes 2 0 w) (finiteOnly x)
     by nan f b = none
     by (inf s) f b = none
-    by (fin s m e) f b = one (push-real (fin s m e) (record { fit = f; real = tt })) (ap (eight 2 0) (b tt))
+    by (fin s m e) f b = one (push-real (fin s m e) (record { fit = f; real = tt })) (ap (instructionBytes 2 0) (b tt))
 
-element : (a w : ℕ) → Decodes (eight 3 a w) (loadOf (bankNumbered a) w)
+element : (a w : ℕ) → Decodes (instructionBytes 3 a w) (loadOf (bankNumbered a) w)
 element a w =
     let b = getD banks a X in
-    when (λ (o : BankOf). Decodes (eight 3 a w) (loadOf o w)) (ltb a 6) (BankOf.Is b) BankOf.Nothing
+    when (λ (o : BankOf). Decodes (instructionBytes 3 a w) (loadOf o w)) (ltb a 6) (BankOf.Is b) BankOf.Nothing
     (λ h.
-    when (Decodes (eight 3 a w)) (ltb w (layoutOf b .elements)) (Load b w) Unknown
-    (λ g. one (load b w (ltb-true w (layoutOf b .elements) g)) (ap (λ (n : ℕ). eight 3 n w) (bank-forth a (ltb-true a 6 h))))
+    when (Decodes (instructionBytes 3 a w)) (ltb w (layoutOf b .elements)) (Load b w) Unknown
+    (λ g. one (load b w (ltb-true w (layoutOf b .elements) g)) (ap (λ (n : ℕ). instructionBytes 3 n w) (bank-forth a (ltb-true a 6 h))))
     none)
     none
 
-indexed : (a : ℕ) → Decodes (eight 4 a 0) (indexedOf (bankNumbered a))
+indexed : (a : ℕ) → Decodes (instructionBytes 4 a 0) (indexedOf (bankNumbered a))
 indexed a =
     let b = getD banks a X in
-    when (λ (o : BankOf). Decodes (eight 4 a 0) (indexedOf o)) (ltb a 6) (BankOf.Is b) BankOf.Nothing
-    (λ h. one (load-indexed b) (ap (λ (n : ℕ). eight 4 n 0) (bank-forth a (ltb-true a 6 h))))
+    when (λ (o : BankOf). Decodes (instructionBytes 4 a 0) (indexedOf o)) (ltb a 6) (BankOf.Is b) BankOf.Nothing
+    (λ h. one (load-indexed b) (ap (λ (n : ℕ). instructionBytes 4 n 0) (bank-forth a (ltb-true a 6 h))))
     none
 
-of-one : (a : ℕ) → Decodes (eight 5 a 0) (unaryInstr (unaryOf a))
+of-one : (a : ℕ) → Decodes (instructionBytes 5 a 0) (unaryInstr (unaryOf a))
 of-one a =
     let o = getD unaryOps a Neg in
-    when (λ (u : UnaryOf). Decodes (eight 5 a 0) (unaryInstr u)) (ltb a 8) (UnaryOf.Is o) UnaryOf.Nothing
-    (λ h. one (unary o) (ap (λ (n : ℕ). eight 5 n 0) (unary-forth a (ltb-true a 8 h))))
+    when (λ (u : UnaryOf). Decodes (instructionBytes 5 a 0) (unaryInstr u)) (ltb a 8) (UnaryOf.Is o) UnaryOf.Nothing
+    (λ h. one (unary o) (ap (λ (n : ℕ). instructionBytes 5 n 0) (unary-forth a (ltb-true a 8 h))))
     none
 
-of-two : (a : ℕ) → Decodes (eight 6 a 0) (binaryInstr (binaryOf a))
+of-two : (a : ℕ) → Decodes (instructionBytes 6 a 0) (binaryInstr (binaryOf a))
 of-two a =
     let o = getD binaryOps a (Arith Add) in
-    when (λ (u : BinaryOf). Decodes (eight 6 a 0) (binaryInstr u)) (ltb a 20) (BinaryOf.Is o) BinaryOf.Nothing
-    (λ h. one (binary o) (ap (λ (n : ℕ). eight 6 n 0) (binary-forth a (ltb-true a 20 h))))
+    when (λ (u : BinaryOf). Decodes (instructionBytes 6 a 0) (binaryInstr u)) (ltb a 20) (BinaryOf.Is o) BinaryOf.Nothing
+    (λ h. one (binary o) (ap (λ (n : ℕ). instructionBytes 6 n 0) (binary-forth a (ltb-true a 20 h))))
     none
 
 -- ---- an opcode, an operand and a word
 module _ (o a w : ℕ) where
-  opcode : (k : ℕ) (x y : Instr) → Decodes (eight k a w) x → Decodes (eight o a w) y → Decodes (eight o a w) (cond (eqb o k) x y)
-  opcode k x y h = when (Decodes (eight o a w)) (eqb o k) x y (λ e. rw (eqb-true o k e) h)
+  opcode : (k : ℕ) (x y : Instr) → Decodes (instructionBytes k a w) x → Decodes (instructionBytes o a w) y → Decodes (instructionBytes o a w) (cond (eqb o k) x y)
+  opcode k x y h = when (Decodes (instructionBytes o a w)) (eqb o k) x y (λ e. rw (eqb-true o k e) h)
 
-  no-operand : (i : Instr) → Decodes (eight o 0 w) i → Decodes (eight o a w) (alone a i)
-  no-operand i h = when (Decodes (eight o a w)) (eqb a 0) i Unknown (λ e. rw (eqb-true a 0 e) h) none
+  no-operand : (i : Instr) → Decodes (instructionBytes o 0 w) i → Decodes (instructionBytes o a w) (alone a i)
+  no-operand i h = when (Decodes (instructionBytes o a w)) (eqb a 0) i Unknown (λ e. rw (eqb-true a 0 e) h) none
 
-  no-word : (i : Instr) → Decodes (eight o a 0) i → Decodes (eight o a w) (alone w i)
-  no-word i h = when (Decodes (eight o a w)) (eqb w 0) i Unknown (λ e. rw (eqb-true w 0 e) h) none
+  no-word : (i : Instr) → Decodes (instructionBytes o a 0) i → Decodes (instructionBytes o a w) (alone w i)
+  no-word i h = when (Decodes (instructionBytes o a w)) (eqb w 0) i Unknown (λ e. rw (eqb-true w 0 e) h) none
 
-instruction-decodes : (o a w : ℕ) → w < 2 ^ 32 → Decodes (eight o a w) (instruction o a w)
+instruction-decodes : (o a w : ℕ) → w < 2 ^ 32 → Decodes (instructionBytes o a w) (instruction o a w)
 unfolding instruction
 instruction-decodes o a w h =
     opcode o a w 1 _ _ (no-operand 1 a w _ (integer w h))
@@ -129,7 +129,7 @@ eight-decodes o a y z p q r s B =
     let spare : little (y ∷ z ∷ []) ≡ 0 = eqb-true (little (y ∷ z ∷ [])) 0 e in
     let first : y ≡ 0 = omega arith in
     let second : z ≡ 0 = omega arith in
-    subst (λ (l : List ℕ). Decodes l i) (ap (λ (l : List ℕ). o ∷ a ∷ 0 ∷ 0 ∷ l) (word-laws .forth ws B) ∙ rw (first, second)) (instruction-decodes o a (little ws) (word-laws .below ws B)))
+    subst (λ (l : List ℕ). Decodes l i) (ap (λ (l : List ℕ). o ∷ a ∷ 0 ∷ 0 ∷ l) (word-laws .encode-decode ws B) ∙ rw (first, second)) (instruction-decodes o a (little ws) (word-laws .below ws B)))
     none
 
 pub decode-decodes : (s : List ℕ) (p : ℕ) → Bytes s → p < length s / 8 → Decodes (take 8 (drop (8 * p) s)) (decodeAt s p)

@@ -14,7 +14,7 @@ use Rattle.words.specs.Words.{little}
 use Rattle.words.specs.Laws.{Bytes}
 use Rattle.code.specs.declared.Instr.the-variants.{Unknown}
 use Rattle.code.specs.Instructions.{alone, instruction, decodeAt}
-use Rattle.code.specs.Fetch.{fetched, instructionOf}
+use Rattle.code.specs.private.Fetch.{fetched, instructionOf}
 use Rattle.code.proofs.Parts.{bytesAt, are-bytes, eight-bytes, decode-bytes, decode-beyond}
 
 module _ (s : List ℕ) (p : ℕ) where

@@ -27,16 +27,16 @@ use Rattle.code.specs.declared.Instr.the-variants.{PushInt, Unknown}
 use Rattle.code.specs.Instructions.{finiteOnly, indexedOf, unaryInstr, binaryInstr, instruction, decodeAt}
 use Rattle.memory.specs.Numbers.{bankNumber}
 use Rattle.operators.specs.Tables.{unaryNumber, binaryNumber}
-use Rattle.code.specs.Encode.{eight, encode, Encodable, push-int, push-real, load, load-indexed, unary, binary, jump, jump-if, EncodeLaws}
+use Rattle.code.specs.Encode.{instructionBytes, encode, Encodable, push-int, push-real, load, load-indexed, unary, binary, jump, jump-if, EncodeLaws}
 use Rattle.code.proofs.Finite.{finite-kept}
 use Rattle.code.proofs.Numbers.{bank-back, unary-back, binary-back}
 use Rattle.code.proofs.Parts.{decode-beyond}
 use Rattle.code.proofs.Decodes.{Decodes, none, one, decode-decodes}
 
 -- ---- decoding undoes encoding
-decode-eight : (o a w : ℕ) → w < 2 ^ 32 → decodeAt (eight o a w) 0 ≡ instruction o a w
+decode-eight : (o a w : ℕ) → w < 2 ^ 32 → decodeAt (instructionBytes o a w) 0 ≡ instruction o a w
 unfolding decodeAt
-decode-eight o a w h = ap (instruction o a) (word-laws .back 4 w ∙ mod-eq-of-lt h)
+decode-eight o a w h = ap (instruction o a) (word-laws .decode-encode 4 w ∙ mod-eq-of-lt h)
 
 low-below : (z : ℤ) → lowBits 32 z < 2 ^ 32
 low-below (pos n) = omega arith

@@ -25,20 +25,20 @@ use Rattle.code.specs.declared.Instr.the-variants.{PushInt, PushReal, Lo
 use Rattle.code.specs.Instructions.{decodeAt}
 
 -- opcode, operand, two bytes of 0, word
-abbrev pub eight : ℕ → ℕ → ℕ → List ℕ
-eight o a w = o ∷ a ∷ 0 ∷ 0 ∷ bytesOf 4 w
+abbrev pub instructionBytes : ℕ → ℕ → ℕ → List ℕ
+instructionBytes o a w = o ∷ a ∷ 0 ∷ 0 ∷ bytesOf 4 w
 
 abbrev pub encode : Instr → List ℕ
-encode (PushInt z) = eight 1 0 (lowBits 32 z)
-encode (PushReal x) = eight 2 0 (Ieee.toBits binary32 x)
-encode (Load b i) = eight 3 (bankNumber b) i
-encode (LoadIndexed b) = eight 4 (bankNumber b) 0
-encode (Unary o) = eight 5 (unaryNumber o) 0
-encode (Binary o) = eight 6 (binaryNumber o) 0
-encode (Jump d) = eight 7 0 d
-encode (JumpIf false d) = eight 8 0 d
-encode (JumpIf true d) = eight 9 0 d
-encode Unknown = eight 0 0 0
+encode (PushInt z) = instructionBytes 1 0 (lowBits 32 z)
+encode (PushReal x) = instructionBytes 2 0 (Ieee.toBits binary32 x)
+encode (Load b i) = instructionBytes 3 (bankNumber b) i
+encode (LoadIndexed b) = instructionBytes 4 (bankNumber b) 0
+encode (Unary o) = instructionBytes 5 (unaryNumber o) 0
+encode (Binary o) = instructionBytes 6 (binaryNumber o) 0
+encode (Jump d) = instructionBytes 7 0 d
+encode (JumpIf false d) = instructionBytes 8 0 d
+encode (JumpIf true d) = instructionBytes 9 0 d
+encode Unknown = instructionBytes 0 0 0
 
 -- an instruction that eight bytes can hold
 pub data Encodable : Instr → Type 0 where

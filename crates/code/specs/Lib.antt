@@ -1,3 +1,3 @@
 pub mod Instructions
 pub mod Encode
-pub mod Fetch
+pub mod private

@@ -1,7 +1,7 @@
 // Instructions and their eight bytes. docs/INSTRUCTIONS.md is the page of them.
 ghost use mathlib.Core.Path.{_≡_};
 ghost use Prim.Native.Nat.{_<_};
-ghost use Rattle.code.specs.Fetch.{fetched};
+ghost use Rattle.code.specs.private.Fetch.{fetched};
 use memory::Bank;
 use operators::BinaryOp;
 use operators::UnaryOp;

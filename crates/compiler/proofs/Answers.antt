@@ -8,16 +8,16 @@ use lib.ListN.{length, getD, replicate}
 use borrow.Author.Tests.{lt-ltb, le-ltb, le-leb, lt-leb}
 use Rattle.tokens.specs.Scan.{scan}
 use Rattle.token_table.specs.declared.Filled.the-variants.{Good, Wrong}
-use Rattle.token_table.specs.Table.{listed, Fills, blank, Tokens}
+use Rattle.token_table.specs.private.Table.{listed, Fills, blank, TokenWords}
 use Rattle.token_table.proofs.Laws.{filled-good, filled-wrong}
 use Rattle.grammar.specs.Tree.{Tree, nowhere, wrongKind}
 use Rattle.grammar.specs.Parse.{ok, parse}
-use Rattle.text.specs.Judge.{Judgement, accepted, ofParse, ofScan, judge}
+use Rattle.text.specs.Judge.{Judgement, accepted, judgeParse, judgeScan, judge}
 use Rattle.text.specs.Theorems.{Sized}
 use Rattle.compiler.specs.declared.Coded.{Coded}
 use Rattle.compiler.specs.declared.Coded.the-variants.{Refused}
 use Rattle.compiler.specs.Compile.{compiling, codedAnswer, codedBytes}
-use Rattle.compiler.specs.Reading.{Holds}
+use Rattle.compiler.specs.private.Reading.{CodeFits}
 use Rattle.compiler.proofs.Theorems.{compiled}
 
 -- the answer a, and the buffer made code′, are those of the judgement j
@@ -26,29 +26,29 @@ Told code j a code′ = (a ≡ codedAnswer j) × (code′ ≡ codedBytes code j)
 
 -- ---- the tokens
 module _ {s : List ℕ} (h : Sized s) where
-  goes-on : judge s ≡ ofScan s (scan s)
+  goes-on : judge s ≡ judgeScan s (scan s)
   unfolding judge
   goes-on = rw (le-leb 1 (length s) (h .some), le-leb (length s) 1024 (h .short)) refl
 
   module _ {table : List ℕ} (i : Fills (scan s) table Good) where
-    judged : judge s ≡ ofParse s (parse (listed table))
-    unfolding ofScan
-    judged = goes-on ∙ ap (ofScan s) (filled-good i)
+    judged : judge s ≡ judgeParse s (parse (listed table))
+    unfolding judgeScan
+    judged = goes-on ∙ ap (judgeScan s) (filled-good i)
 
-    pub all-read : (code : List ℕ) {a : Coded} {code′ : List ℕ} → ((x : List ℕ) → length x ≡ length s → Told code (ofParse x (parse (listed table))) a code′) → Told code (judge s) a code′
+    pub all-read : (code : List ℕ) {a : Coded} {code′ : List ℕ} → ((x : List ℕ) → length x ≡ length s → Told code (judgeParse x (parse (listed table))) a code′) → Told code (judge s) a code′
     all-read code f = rw judged (f s refl)
 
     -- a formula has at most two instructions a byte
-    pub all-held : (n m : ℕ) → 2 * length s ≤ n → 16384 ≤ m → (t : Tree) → parse (listed table) ≡ ok t [] → wrongKind t ≡ nowhere → Holds n m t
-    unfolding ofParse
+    pub all-held : (n m : ℕ) → 2 * length s ≤ n → 16384 ≤ m → (t : Tree) → parse (listed table) ≡ ok t [] → wrongKind t ≡ nowhere → CodeFits n m t
+    unfolding judgeParse
     all-held n m d b t q k =
         let e : judge s ≡ accepted t = judged ∙ rw (q, k) refl in
         let c = compiled s t e .short in
         record { draft = omega arith; buffer = omega (arith, h .short) }
 
   pub wrong-token : {table : List ℕ} {a p : ℕ} (code : List ℕ) → Fills (scan s) table (Wrong a p) → Told code (judge s) (Refused a p) code
-  unfolding ofScan
-  wrong-token code i = rw (goes-on ∙ ap (ofScan s) (filled-wrong i)) (refl, refl)
+  unfolding judgeScan
+  wrong-token code i = rw (goes-on ∙ ap (judgeScan s) (filled-wrong i)) (refl, refl)
 
 -- ---- the buffer and the length
 module _ (s code : List ℕ) where
@@ -69,7 +69,7 @@ module _ (s code : List ℕ) where
     too-long l = enough (Refused 3 0) code (rw (lt-leb (length s) 1024 l, and-false) (refl, refl))
 
 -- ---- a table without tokens
-pub no-tokens : (n : ℕ) → Tokens (replicate n 0)
+pub no-tokens : (n : ℕ) → TokenWords (replicate n 0)
 no-tokens n i = rw (zeros n i) blank
   where
     zeros : (n i : ℕ) → _≡_ {A = ℕ} (getD (replicate n 0) i 0) 0

@@ -23,15 +23,15 @@ use Rattle.words.specs.Words.{bytesOf}
 use Rattle.memory.specs.declared.Bank.{Bank}
 use Rattle.memory.specs.declared.Bank.the-variants.{X, C, «V», N, D, R}
 use Rattle.memory.specs.Numbers.{bankNumber}
-use Rattle.token_table.specs.Table.{fields}
+use Rattle.token_table.specs.private.Table.{packFields}
 use Rattle.code.specs.declared.Instr.{Instr}
 use Rattle.code.specs.declared.Instr.the-variants.{PushInt, PushReal, Load, LoadIndexed, Unary, Binary, Jump, JumpIf, Unknown}
-use Rattle.code.specs.Encode.{eight, encode, Encodable}
+use Rattle.code.specs.Encode.{instructionBytes, encode, Encodable}
 use Rattle.code.specs.Instructions.{decodeAt, decodeFrom}
 use Rattle.code.proofs.Laws.{encode-laws}
 use Rattle.code.proofs.Parts.{decode-part}
 use Rattle.compiler.specs.Compile.{encoded}
-use Rattle.compiler.specs.Draft.{codeWord, codeWords, wordBytes}
+use Rattle.compiler.specs.private.Draft.{codeWord, codeWords, wordBytes}
 use Rattle.compiler.proofs.Each.{Each, none, some}
 
 eight-long : (i : Instr) → length (encode i) ≡ 8
@@ -75,9 +75,9 @@ encoded-length (i ∷ c) = simp length-append (omega (arith, eight-long i, encod
 whole : (n : ℕ) → 256 * n % 256 ≡ 0
 whole n = omega arith
 
-instruction : (o a n : ℕ) → o < 256 → a < 256 → bytesOf 8 (fields o a n 0) ≡ eight o a n
+instruction : (o a n : ℕ) → o < 256 → a < 256 → bytesOf 8 (packFields o a n 0) ≡ instructionBytes o a n
 instruction o a n h k =
-    let w = fields o a n 0 in
+    let w = packFields o a n 0 in
     let q₁ : w / 256 ≡ a + 16777216 * n = omega arith in
     let q₂ : w / 256 / 256 ≡ 256 * (256 * n) = omega arith in
     let q₃ : w / 256 / 256 / 256 ≡ 256 * n = omega arith in

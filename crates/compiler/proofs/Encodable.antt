@@ -24,8 +24,8 @@ use Rattle.code.specs.Encode.{Encodable, push-int, push-real, load, load-indexe
 use Rattle.grammar.specs.Tree as Tree
 use Rattle.grammar.specs.Tree.{Tree, literal, cell, indexed, logic, choice, treeKind}
 use Rattle.grammar.specs.Symbols.{Arguments, argument}
-use Rattle.grammar.specs.Grammar.{E, number, name, index, parenthesis, call, prefixed, up, infixed, last, next, Formula}
-use Rattle.tree_code.specs.Code.{pushBool, settled, tail, over, codeOf}
+use Rattle.grammar.specs.Grammar.{Derives, number, name, index, parenthesis, call, prefixed, up, infixed, last, next, Formula}
+use Rattle.tree_code.specs.Code.{pushBool, truthTail, branchTail, branchTailSkip, codeOf}
 use Rattle.compiler.proofs.Each.{Each, none, some, each-append, each-first, each-rest, each-front, each-back}
 use Rattle.compiler.proofs.Scanned.{AllKnown}
 use Rattle.tree_code.proofs.Nodes.{Call, of-one, of-two, of-three, call-node, Infix, of-values, of-truths, infix-node}
@@ -48,16 +48,16 @@ bool : (b : Bool) → Encodable (pushBool b)
 bool true = push-int (pos 1) tt
 bool false = push-int (pos 0) tt
 
-settles : (d : Bool) → Short (settled d)
+settles : (d : Bool) → Short (truthTail d)
 settles d l = some (jump-if d 2 (lit< tt)) (some (bool (not d)) (some (jump 1 (lit< tt)) (some (bool d) none)))
 
-tails : (j k : Kind) → Short (tail j k)
+tails : (j k : Kind) → Short (branchTail j k)
 tails K.Int K.Int l = none
 tails K.Int K.Real l = some (jump 1 (lit< tt)) (some (unary ToReal) none)
 tails K.Real K.Int l = some (unary ToReal) none
 tails K.Real K.Real l = none
 
-over-few : (j k : Kind) → over j k ≤ 3
+over-few : (j k : Kind) → branchTailSkip j k ≤ 3
 over-few K.Int K.Int = omega arith
 over-few K.Int K.Real = omega arith
 over-few K.Real K.Int = omega arith
@@ -90,7 +90,7 @@ on-binary p o t u f g = follows (codeOf t) _ f (follows (codeOf u) _ g (plain (b
 
 on-logic : (p : ℕ) (d : Bool) (t u : Tree) → Fits t → Fits u → Fits (logic p d t u)
 unfolding codeOf
-on-logic p d t u f g = follows (codeOf t) _ f (leap (JumpIf d) (jump-if d) 3 (omega arith) (codeOf u) (settled d) g (settles d))
+on-logic p d t u f g = follows (codeOf t) _ f (leap (JumpIf d) (jump-if d) 3 (omega arith) (codeOf u) (truthTail d) g (settles d))
 
 on-choice : (p : ℕ) (c t u : Tree) → Fits c → Fits t → Fits u → Fits (choice p c t u)
 unfolding codeOf
@@ -99,7 +99,7 @@ on-choice p c t u f g h =
     let k = treeKind u in
     follows (codeOf c) _ f
     (leap (JumpIf false) (jump-if false) 1 (omega arith) (codeOf t) _ g
-    (leap Jump jump (over j k) (over-few j k) (codeOf u) (tail j k) h (tails j k)))
+    (leap Jump jump (branchTailSkip j k) (over-few j k) (codeOf u) (branchTail j k) h (tails j k)))
 
 on-call : {p m : ℕ} {ts : Arguments} {t : Tree} → Call p ts m t → ((k : ℕ) → Fits (argument k ts)) → Fits t
 on-call {p} {ts = ts} (of-one o) f = on-unary p o (argument 0 ts) (f 0)
@@ -111,7 +111,7 @@ on-infix {p} {t = t} {u = u} (of-values o) = on-binary p o t u
 on-infix {p} {t = t} {u = u} (of-truths d) = on-logic p d t u
 
 -- ---- a formula
-fits : {l : ℕ} {w : List Tok} {t : Tree} → E l w t → AllKnown w → Fits t
+fits : {l : ℕ} {w : List Tok} {t : Tree} → Derives l w t → AllKnown w → Fits t
 fits d = elim d as (λ l w t d. AllKnown w → Fits t) (λ m w ts a. AllKnown w → (k : ℕ) → Fits (argument k ts)) [
   | number {p = p} ↦ λ e. on-literal p (each-first e)
   | name ↦ λ e. on-cell (each-first e)

@@ -11,17 +11,17 @@ use Rattle.memory.specs.declared.names.Letter.{Letter as BankLetter}
 use Rattle.memory.specs.declared.names.Letter.the-variants as L
 use Rattle.memory.specs.declared.names.Named.{Named}
 use Rattle.memory.specs.declared.names.Named.the-variants as A
-use Rattle.memory.specs.Names.{isDigit, decimal, bankOf, namedRule}
+use Rattle.memory.specs.Names.{isDigit, decimalValue, bankOf, namedRule}
 use Rattle.tokens.specs.declared.Function.{Function}
 use Rattle.tokens.specs.declared.Token.{Token}
 use Rattle.tokens.specs.declared.Token.the-variants.{Number}
 use Rattle.tokens.specs.declared.Scanned.{Scanned}
 use Rattle.tokens.specs.declared.Scanned.the-variants.{Good, Bad}
 use Rattle.tokens.specs.Bytes.{all, isLetter, isWord, isRun, runLen}
-use Rattle.tokens.specs.Symbols.{same, symbolCount, longest}
-use Rattle.tokens.specs.Numerals.{some, digits, isHex, hexOf, isHexRun, notDot, realOf, numeralOf}
-use Rattle.tokens.specs.Words.{nameOf, named, functions, letterWord, cellWord, otherWord, wordOf}
-use Rattle.tokens.specs.Scan.{Lexeme, Found, Wrong, End, lexeme, running, lexemeOf, blanks, lexemeAt}
+use Rattle.tokens.specs.Symbols.{equalBytes, symbolCount, longest}
+use Rattle.tokens.specs.Numerals.{nonEmpty, digits, isHex, hexOf, isHexRun, notDot, realOf, numeralOf}
+use Rattle.tokens.specs.Words.{nameOf, functionNamed, functions, letterWord, cellWord, otherWord, wordToken}
+use Rattle.tokens.specs.Scan.{Lexeme, Found, Wrong, End, lexeme, runLexeme, lexemeOf, blanks, lexemeAt}
 use Rattle.tokens.proofs.Laws.{found}
 use Rattle.tree_code.specs.Demand.{bytesOfToken}
 
@@ -35,13 +35,13 @@ when : {A : Type 0} (P : A → Type 0) (b : Bool) {x y : A} → (b ≡ true → 
 when P true f g = f refl
 when P false f g = g
 
-same-length : (cs ds : List ℕ) → same cs ds ≡ true → length cs ≡ length ds
+same-length : (cs ds : List ℕ) → equalBytes cs ds ≡ true → length cs ≡ length ds
 same-length [] [] e = refl
 same-length [] (d ∷ ds) e = absurd (false≢true e)
 same-length (c ∷ cs) [] e = absurd (false≢true e)
 same-length (c ∷ cs) (d ∷ ds) e = ap suc (same-length cs ds (after (eqb c d) e))
   where
-    after : (b : Bool) → (b && same cs ds) ≡ true → same cs ds ≡ true
+    after : (b : Bool) → (b && equalBytes cs ds) ≡ true → equalBytes cs ds ≡ true
     after true q = q
     after false q = absurd (false≢true q)
 
@@ -54,14 +54,14 @@ module _ (n : ℕ) where
   a-number = good (λ h. h)
 
   a-hex : (cs : List ℕ) → Room n (hexOf cs)
-  a-hex cs = either (some cs && all isHex cs) (either (leb (length cs) 8) a-number bad) bad
+  a-hex cs = either (nonEmpty cs && all isHex cs) (either (leb (length cs) 8) a-number bad) bad
 
   a-real : (cs ds : List ℕ) → Room n (realOf cs ds)
   a-real cs ds = either (digits cs && digits ds) (either (leb (length cs + length ds) 7) a-number bad) bad
 
   a-numeral : (cs : List ℕ) → Room n (numeralOf cs)
   a-numeral cs =
-      either (digits cs) (either (leb (decimal cs) 2147483647) a-number bad)
+      either (digits cs) (either (leb (decimalValue cs) 2147483647) a-number bad)
       (either (isHexRun cs) (a-hex (drop 2 cs)) (a-real (take (runLen notDot cs) cs) (drop (suc (runLen notDot cs)) cs)))
 
   -- ---- words
@@ -79,12 +79,12 @@ module _ (n : ℕ) where
   other (c ∷ []) l = a-letter (bankOf c)
   other (c ∷ d ∷ cs) l = a-cell (omega arith) (namedRule (c ∷ d ∷ cs))
 
-  a-name : (fs : List Function) (cs : List ℕ) {o : Scanned} → length cs ≤ n → Room n o → Room n (named fs cs o)
+  a-name : (fs : List Function) (cs : List ℕ) {o : Scanned} → length cs ≤ n → Room n o → Room n (functionNamed fs cs o)
   a-name [] cs l r = r
-  a-name (f ∷ fs) cs l r = when (Room n) (same (nameOf f) cs) (λ e. good (λ h. omega (arith, same-length (nameOf f) cs e))) (a-name fs cs l r)
+  a-name (f ∷ fs) cs l r = when (Room n) (equalBytes (nameOf f) cs) (λ e. good (λ h. omega (arith, same-length (nameOf f) cs e))) (a-name fs cs l r)
 
-  a-word : (cs : List ℕ) → length cs ≤ n → Room n (wordOf cs)
-  unfolding wordOf
+  a-word : (cs : List ℕ) → length cs ≤ n → Room n (wordToken cs)
+  unfolding wordToken
   a-word cs l = a-name functions cs l (other cs l)
 
 -- ---- lexemes
@@ -97,7 +97,7 @@ judged : (p n : ℕ) {r : Scanned} → Room n r → Takes (lexeme p n r)
 judged p n (good {t = t} h) = token t p (p + n) (λ l. omega (arith, h (omega arith)))
 judged p n bad = wrong
 
-run : (test : ℕ → Bool) (f : List ℕ → Scanned) → ((n : ℕ) (cs : List ℕ) → length cs ≤ n → Room n (f cs)) → (cs : List ℕ) (p : ℕ) → Takes (running test f cs p)
+run : (test : ℕ → Bool) (f : List ℕ → Scanned) → ((n : ℕ) (cs : List ℕ) → length cs ≤ n → Room n (f cs)) → (cs : List ℕ) (p : ℕ) → Takes (runLexeme test f cs p)
 run test f room cs p =
     let n = runLen test cs in
     judged p n (room n (take n cs) (rw length-take (omega arith)))
@@ -107,7 +107,7 @@ unfolding lexemeOf
 takes [] p = end
 takes (c ∷ cs) p =
     when Takes (isDigit c) (λ d. run isRun numeralOf (λ n ds l. a-numeral n ds) (c ∷ cs) p)
-    (when Takes (isLetter c) (λ d. run isWord wordOf a-word (c ∷ cs) p)
+    (when Takes (isLetter c) (λ d. run isWord wordToken a-word (c ∷ cs) p)
     (when Takes (eqb (longest (c ∷ cs)) symbolCount) (λ e. wrong) (token _ p _ (λ l. omega arith))))
 
 of-token : {t : Token} {p e : ℕ} → Takes (Found t p e) → p < e → p + bytesOfToken t ≤ e

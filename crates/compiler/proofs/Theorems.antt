@@ -7,7 +7,7 @@ use lib.ListN.{length}
 use Rattle.code.specs.Instructions.{instructions}
 use Rattle.grammar.specs.Tree.{Tree}
 use Rattle.text.specs.Judge.{accepted, judge}
-use Rattle.text.specs.Theorems.{Accepts}
+use Rattle.text.specs.Theorems.{AcceptedFormula}
 use Rattle.text.proofs.Theorems.{text-theorems}
 use Rattle.tree_code.specs.Code.{codeOf}
 use Rattle.tree_code.specs.Demand.{Compiled}
@@ -18,7 +18,7 @@ use Rattle.compiler.proofs.Encodable.{encodable}
 use Rattle.compiler.proofs.Bytes.{read-back}
 
 module _ (s : List ℕ) (t : Tree) (q : judge s ≡ accepted t) where
-  formula : Accepts s t
+  formula : AcceptedFormula s t
   formula = text-theorems .accepts s t .0 q
 
   pub compiled : Compiled t (length s)

@@ -3,9 +3,9 @@ ghost use mathlib.Core.Path.{_≡_};
 ghost use Prim.Native.Nat.{_≤_, _<_};
 ghost use lib.ListN.{length};
 ghost use Rattle.memory.specs.Cells.{bankKind};
-ghost use Rattle.token_table.specs.Table.{operandOf, wordAt};
-ghost use Rattle.compiler.specs.Results.{kindIs};
-ghost use Rattle.compiler.specs.Words.{bankAt, isLeaf, leafKind, isMark, signOf, groupIn, placeAt, Signs};
+ghost use Rattle.token_table.specs.private.Table.{wordOperand, wordAt};
+ghost use Rattle.compiler.specs.private.Results.{kindIs};
+ghost use Rattle.compiler.specs.private.Words.{bankAt, isLeaf, leafKind, isMark, prefixNumber, groupIn, placeAt, Signs};
 
 const SYMBOL: u8 = 6;
 
@@ -28,7 +28,7 @@ pub fn bank_kind(bank: u8) -> u64
 
 // The kind of a number or a cell.
 pub fn leaf_kind(w: u64) -> u64
-    requires { ⌜ operandOf w < 6 ⌝ }
+    requires { ⌜ wordOperand w < 6 ⌝ }
     ensures { λ r. ⌜ kindIs r ≡ leafKind w ⌝ }
     ensures { λ r. ⌜ r < 2 ⌝ }
 {
@@ -51,7 +51,7 @@ pub fn expected(table: &[u64], at: usize, n: u8) -> bool
 
 // The number of a unary operator, - ~ !, or 3.
 pub fn sign_of(w: u64) -> u8
-    ensures { λ r. ⌜ r ≡ signOf w ⌝ }
+    ensures { λ r. ⌜ r ≡ prefixNumber w ⌝ }
 {
     match w % 65536 {
         1286 => 0,

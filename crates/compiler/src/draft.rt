@@ -7,13 +7,13 @@ ghost use lib.ListN.{length, take, set};
 ghost use lib.Seq.{sets};
 ghost use Rattle.operators.specs.Kinds.{join, unaryKind, unaryTakes, binaryKind};
 ghost use Rattle.memory.specs.Cells.{bankKind};
-ghost use Rattle.token_table.specs.Table.{fields, classOf, operandOf, numberOf, wordPlace};
+ghost use Rattle.token_table.specs.private.Table.{packFields, wordClass, wordOperand, wordNumber, wordPlace};
 ghost use Rattle.grammar.specs.Tree.{nowhere, earlier, unless};
 ghost use Rattle.code.specs.declared.Instr.the-variants.{LoadIndexed, Unary, Binary, JumpIf};
-ghost use Rattle.tree_code.specs.Code.{tail};
-ghost use Rattle.compiler.specs.Results.{Done, kindIs, placed, readNext, readEnd, readKind, readWrong, readOf};
-ghost use Rattle.compiler.specs.Words.{unaryAt, binaryAt, bankAt, functionOp, leafKind, signOf};
-ghost use Rattle.compiler.specs.Draft.{wordBytes, puts, put, reserved, settledCode, joinedCode, joinedEnd, infixKind, infixWrong, chosenCode};
+ghost use Rattle.tree_code.specs.Code.{branchTail};
+ghost use Rattle.compiler.specs.private.Results.{Done, kindIs, placed, readNext, readEnd, readKind, readWrong, readOf};
+ghost use Rattle.compiler.specs.private.Words.{unaryAt, binaryAt, bankAt, functionOp, leafKind, prefixNumber};
+ghost use Rattle.compiler.specs.private.Draft.{wordBytes, putInstr, putCode, reserved, settledCode, joinedCode, joinedEnd, infixKind, infixWrong, chosenCode};
 use crate::ahead;
 use crate::kinds;
 use crate::results;
@@ -29,7 +29,7 @@ const JUMP_IF_FALSE: u8 = 8;
 
 // One instruction.
 pub fn put(draft: &mut [u64], place: usize, opcode: u8, operand: u8, word: u32)
-    ensures { λ _. ⌜ now (draft .exit) ≡ set (now (draft .entry)) place (fields opcode operand word 0) ⌝ }
+    ensures { λ _. ⌜ now (draft .exit) ≡ set (now (draft .entry)) place (packFields opcode operand word 0) ⌝ }
 {
     if place < draft.len() {
         draft[place] = (opcode as u64) + 256 * (operand as u64) + 4294967296 * (word as u64);
@@ -40,7 +40,7 @@ pub fn put(draft: &mut [u64], place: usize, opcode: u8, operand: u8, word: u32)
 fn added(draft: &mut [u64], before: u64, opcode: u8, operand: u8, kind: u64, wrong: u64) -> u64
     requires { ⌜ (readEnd before < 65535) × (kind < 2) × (wrong < 536870912) ⌝ }
     ensures { λ r. ⌜ readOf r ≡ Done (readNext before) (readEnd before + 1) (kindIs kind) (placed wrong) ⌝ }
-    ensures { λ r. ⌜ now (draft .exit) ≡ set (now (draft .entry)) (readEnd before) (fields opcode operand 0 0) ⌝ }
+    ensures { λ r. ⌜ now (draft .exit) ≡ set (now (draft .entry)) (readEnd before) (packFields opcode operand 0 0) ⌝ }
 {
     let end = results::end_of(before);
     put(draft, end, opcode, operand, 0);
@@ -49,9 +49,9 @@ fn added(draft: &mut [u64], before: u64, opcode: u8, operand: u8, kind: u64, wro
 
 // A number or a cell: its word without the place is the instruction.
 pub fn leaf(draft: &mut [u64], w: u64, at: usize, pc: usize) -> u64
-    requires { ⌜ (operandOf w < 6) × (at < 65535) × (pc < 65535) ⌝ }
+    requires { ⌜ (wordOperand w < 6) × (at < 65535) × (pc < 65535) ⌝ }
     ensures { λ r. ⌜ readOf r ≡ Done (at + 1) (pc + 1) (leafKind w) nowhere ⌝ }
-    ensures { λ r. ⌜ now (draft .exit) ≡ set (now (draft .entry)) pc (fields (classOf w) (operandOf w) (numberOf w) 0) ⌝ }
+    ensures { λ r. ⌜ now (draft .exit) ≡ set (now (draft .entry)) pc (packFields (wordClass w) (wordOperand w) (wordNumber w) 0) ⌝ }
 {
     if pc < draft.len() {
         draft[pc] = w / 4294967296 * 4294967296 + w % 65536;
@@ -63,7 +63,7 @@ pub fn leaf(draft: &mut [u64], w: u64, at: usize, pc: usize) -> u64
 pub fn loaded(draft: &mut [u64], bank: u8, index: u64) -> u64
     requires { ⌜ (bank < 6) × (readEnd index < 65535) ⌝ }
     ensures { λ r. ⌜ readOf r ≡ Done (readNext index) (readEnd index + 1) (bankKind (bankAt bank)) (readWrong index) ⌝ }
-    ensures { λ r. ⌜ now (draft .exit) ≡ puts (now (draft .entry)) (readEnd index) (LoadIndexed (bankAt bank)) ⌝ }
+    ensures { λ r. ⌜ now (draft .exit) ≡ putInstr (now (draft .entry)) (readEnd index) (LoadIndexed (bankAt bank)) ⌝ }
 {
     added(
         draft,
@@ -77,9 +77,9 @@ pub fn loaded(draft: &mut [u64], bank: u8, index: u64) -> u64
 
 // A unary operator before an operand.
 pub fn prefixed(draft: &mut [u64], w: u64, inner: u64) -> u64
-    requires { ⌜ (signOf w < 3) × (readEnd inner < 65535) ⌝ }
-    ensures { λ r. ⌜ readOf r ≡ Done (readNext inner) (readEnd inner + 1) (unaryKind (unaryAt (signOf w)) (readKind inner)) (earlier (unless (unaryTakes (unaryAt (signOf w)) (readKind inner)) (wordPlace w)) (readWrong inner)) ⌝ }
-    ensures { λ r. ⌜ now (draft .exit) ≡ puts (now (draft .entry)) (readEnd inner) (Unary (unaryAt (signOf w))) ⌝ }
+    requires { ⌜ (prefixNumber w < 3) × (readEnd inner < 65535) ⌝ }
+    ensures { λ r. ⌜ readOf r ≡ Done (readNext inner) (readEnd inner + 1) (unaryKind (unaryAt (prefixNumber w)) (readKind inner)) (earlier (unless (unaryTakes (unaryAt (prefixNumber w)) (readKind inner)) (wordPlace w)) (readWrong inner)) ⌝ }
+    ensures { λ r. ⌜ now (draft .exit) ≡ putInstr (now (draft .entry)) (readEnd inner) (Unary (unaryAt (prefixNumber w))) ⌝ }
 {
     let op = ahead::sign_of(w);
     let kind = results::kind_of(inner);
@@ -108,7 +108,7 @@ fn operator_of(f: u8) -> u8
 pub fn applied(draft: &mut [u64], f: u8, first: u64) -> u64
     requires { ⌜ (f < 6) × (readEnd first < 65535) ⌝ }
     ensures { λ r. ⌜ readOf r ≡ Done (readNext first) (readEnd first + 1) (unaryKind (functionOp f) (readKind first)) (readWrong first) ⌝ }
-    ensures { λ r. ⌜ now (draft .exit) ≡ puts (now (draft .entry)) (readEnd first) (Unary (functionOp f)) ⌝ }
+    ensures { λ r. ⌜ now (draft .exit) ≡ putInstr (now (draft .entry)) (readEnd first) (Unary (functionOp f)) ⌝ }
 {
     let op = operator_of(f);
     let kind = kinds::of_unary(op, results::kind_of(first));
@@ -119,7 +119,7 @@ pub fn applied(draft: &mut [u64], f: u8, first: u64) -> u64
 pub fn paired(draft: &mut [u64], f: u8, first: u64, second: u64) -> u64
     requires { ⌜ (6 ≤ f) × (f < 8) × (readEnd second < 65535) ⌝ }
     ensures { λ r. ⌜ readOf r ≡ Done (readNext second) (readEnd second + 1) (binaryKind (binaryAt (12 + f)) (readKind first) (readKind second)) (earlier (readWrong first) (readWrong second)) ⌝ }
-    ensures { λ r. ⌜ now (draft .exit) ≡ puts (now (draft .entry)) (readEnd second) (Binary (binaryAt (12 + f))) ⌝ }
+    ensures { λ r. ⌜ now (draft .exit) ≡ putInstr (now (draft .entry)) (readEnd second) (Binary (binaryAt (12 + f))) ⌝ }
 {
     let op = 12 + f;
     let kind = kinds::of_binary(op, results::kind_of(first), results::kind_of(second));
@@ -148,9 +148,9 @@ fn settle(draft: &mut [u64], j: usize, k: usize, d: u8)
 
 // What follows the sides of a binary operator, whose word is w.
 pub fn joined(draft: &mut [u64], w: u64, left: u64, right: u64) -> u64
-    requires { ⌜ (operandOf w < 20) × (readEnd left + reserved (operandOf w) ≤ readEnd right) × (readEnd right < 65000) ⌝ }
-    ensures { λ r. ⌜ readOf r ≡ Done (readNext right) (joinedEnd (operandOf w) (readEnd right)) (infixKind (operandOf w) (readKind left) (readKind right)) (earlier (infixWrong (operandOf w) (wordPlace w) (readKind left) (readKind right)) (earlier (readWrong left) (readWrong right))) ⌝ }
-    ensures { λ r. ⌜ now (draft .exit) ≡ joinedCode (now (draft .entry)) (operandOf w) (readEnd left) (readEnd right) ⌝ }
+    requires { ⌜ (wordOperand w < 20) × (readEnd left + reserved (wordOperand w) ≤ readEnd right) × (readEnd right < 65000) ⌝ }
+    ensures { λ r. ⌜ readOf r ≡ Done (readNext right) (joinedEnd (wordOperand w) (readEnd right)) (infixKind (wordOperand w) (readKind left) (readKind right)) (earlier (infixWrong (wordOperand w) (wordPlace w) (readKind left) (readKind right)) (earlier (readWrong left) (readWrong right))) ⌝ }
+    ensures { λ r. ⌜ now (draft .exit) ≡ joinedCode (now (draft .entry)) (wordOperand w) (readEnd left) (readEnd right) ⌝ }
 {
     let n = token_table::operand_of(w);
     let inner = kinds::earlier(results::wrong_of(left), results::wrong_of(right));
@@ -175,8 +175,8 @@ pub fn joined(draft: &mut [u64], w: u64, left: u64, right: u64) -> u64
 // What promotes an integer branch of IF beside a real one, and where it ends.
 fn promoted(draft: &mut [u64], k: usize, first: u64, second: u64) -> usize
     requires { ⌜ (k < 65000) × (first < 2) × (second < 2) ⌝ }
-    ensures { λ r. ⌜ r ≡ k + length (tail (kindIs first) (kindIs second)) ⌝ }
-    ensures { λ r. ⌜ now (draft .exit) ≡ put (now (draft .entry)) k (tail (kindIs first) (kindIs second)) ⌝ }
+    ensures { λ r. ⌜ r ≡ k + length (branchTail (kindIs first) (kindIs second)) ⌝ }
+    ensures { λ r. ⌜ now (draft .exit) ≡ putCode (now (draft .entry)) k (branchTail (kindIs first) (kindIs second)) ⌝ }
 {
     if first == second {
         return k;
@@ -193,7 +193,7 @@ fn promoted(draft: &mut [u64], k: usize, first: u64, second: u64) -> usize
 // After the condition of IF, at whose end a place was kept: the jump over the first branch.
 pub fn decided(draft: &mut [u64], condition: u64, first: u64)
     requires { ⌜ readEnd condition < readEnd first ⌝ }
-    ensures { λ _. ⌜ now (draft .exit) ≡ puts (now (draft .entry)) (readEnd condition) (JumpIf false (readEnd first - readEnd condition)) ⌝ }
+    ensures { λ _. ⌜ now (draft .exit) ≡ putInstr (now (draft .entry)) (readEnd condition) (JumpIf false (readEnd first - readEnd condition)) ⌝ }
 {
     let j = results::end_of(condition);
     put(
@@ -208,7 +208,7 @@ pub fn decided(draft: &mut [u64], condition: u64, first: u64)
 // After the branches of IF: the jump from the first over the second.
 pub fn chosen(draft: &mut [u64], condition: u64, first: u64, second: u64) -> u64
     requires { ⌜ (readEnd first < readEnd second) × (readEnd second < 65000) ⌝ }
-    ensures { λ r. ⌜ readOf r ≡ Done (readNext second) (readEnd second + length (tail (readKind first) (readKind second))) (join (readKind first) (readKind second)) (earlier (readWrong condition) (earlier (readWrong first) (readWrong second))) ⌝ }
+    ensures { λ r. ⌜ readOf r ≡ Done (readNext second) (readEnd second + length (branchTail (readKind first) (readKind second))) (join (readKind first) (readKind second)) (earlier (readWrong condition) (earlier (readWrong first) (readWrong second))) ⌝ }
     ensures { λ r. ⌜ now (draft .exit) ≡ chosenCode (now (draft .entry)) (readEnd first) (readEnd second) (readKind first) (readKind second) ⌝ }
 {
     let j = results::end_of(first);

@@ -2,11 +2,11 @@
 ghost use mathlib.Core.Path.{_≡_};
 ghost use Prim.Native.Nat.{_<_};
 ghost use Rattle.operators.specs.Kinds.{join, unaryKind, unaryTakes, binaryKind, binaryTakes};
-ghost use Rattle.token_table.specs.Table.{wordPlace};
+ghost use Rattle.token_table.specs.private.Table.{wordPlace};
 ghost use Rattle.grammar.specs.Tree.{earlier, unless};
-ghost use Rattle.tree_code.specs.Code.{over};
-ghost use Rattle.compiler.specs.Results.{kindIs, placed};
-ghost use Rattle.compiler.specs.Words.{unaryAt, binaryAt};
+ghost use Rattle.tree_code.specs.Code.{branchTailSkip};
+ghost use Rattle.compiler.specs.private.Results.{kindIs, placed};
+ghost use Rattle.compiler.specs.private.Words.{unaryAt, binaryAt};
 use crate::results::NOWHERE;
 
 // Real where either is.
@@ -70,7 +70,7 @@ pub fn binary_takes(op: u8, left: u64, right: u64) -> bool
 // How many instructions of what follows the branches of IF the first branch skips.
 pub fn skipped(first: u64, second: u64) -> usize
     requires { ⌜ (first < 2) × (second < 2) ⌝ }
-    ensures { λ r. ⌜ r ≡ over (kindIs first) (kindIs second) ⌝ }
+    ensures { λ r. ⌜ r ≡ branchTailSkip (kindIs first) (kindIs second) ⌝ }
 {
     if first == second { 0 } else { 1 }
 }

@@ -2,7 +2,7 @@
 ghost use mathlib.Core.Path.{_≡_};
 ghost use Prim.Native.Nat.{_*_, _<_, _≤_};
 ghost use lib.ListN.{length};
-ghost use Rattle.token_table.specs.Table.{Tokens};
+ghost use Rattle.token_table.specs.private.Table.{TokenWords};
 ghost use Rattle.text.specs.Judge.{judge};
 ghost use Rattle.text.specs.Theorems.{Sized};
 ghost use Rattle.compiler.specs.Compile.{compiling, codedAnswer, codedBytes};
@@ -26,7 +26,7 @@ pub const LEAST_CODE: usize = 16384;
 // A text of one to 1,024 bytes, with a table lent for its tokens and a draft for two instructions a byte.
 fn compile_in(text: &[u8], table: &mut [u64], draft: &mut [u64], code: &mut [u8]) -> Coded
     requires { ⌜ Sized (now text) × (length (now text) < length (now table)) × (length (now table) ≤ 1025) ⌝ }
-    requires { ⌜ Tokens (now table) ⌝ }
+    requires { ⌜ TokenWords (now table) ⌝ }
     requires { ⌜ (2 * length (now text) ≤ length (now draft)) × (16384 ≤ length (now code)) ⌝ }
     ensures { λ r. ⌜ r ≡ codedAnswer (judge (now (text .entry))) ⌝ }
     ensures { λ r. ⌜ now (code .exit) ≡ codedBytes (now (code .entry)) (judge (now (text .entry))) ⌝ }

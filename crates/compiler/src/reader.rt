@@ -6,16 +6,16 @@ ghost use mathlib.Core.Bool.{true};
 ghost use mathlib.Core.List.{List, []};
 ghost use Prim.Native.Nat.{ℕ, _+_, _<_};
 ghost use lib.ListN.{length};
-ghost use Rattle.token_table.specs.Table.{listed};
+ghost use Rattle.token_table.specs.private.Table.{listed};
 ghost use Rattle.grammar.specs.Tree.{Tree, nowhere, wrongKind};
 ghost use Rattle.grammar.specs.Symbols.{loosest};
 ghost use Rattle.grammar.specs.Parse.{ok, enter, expression, operand, bracket, parse};
-ghost use Rattle.text.specs.Judge.{ofParse};
+ghost use Rattle.text.specs.Judge.{judgeParse};
 ghost use Rattle.compiler.specs.Compile.{codedAnswer, codedBytes};
-ghost use Rattle.compiler.specs.Results.{isDone, readNext, readEnd, readOf};
-ghost use Rattle.compiler.specs.Words.{functionAt, Signs};
-ghost use Rattle.compiler.specs.Draft.{Unaries};
-ghost use Rattle.compiler.specs.Reading.{Fits, Reads, primaryOf, and, callOf, Branches, Holds};
+ghost use Rattle.compiler.specs.private.Results.{isDone, readNext, readEnd, readOf};
+ghost use Rattle.compiler.specs.private.Words.{functionAt, Signs};
+ghost use Rattle.compiler.specs.private.Draft.{Unaries};
+ghost use Rattle.compiler.specs.private.Reading.{Fits, ReaderAgrees, primaryOf, thenSymbol, callOf, Branches, CodeFits};
 use crate::Coded;
 use crate::ahead;
 use crate::draft;
@@ -47,7 +47,7 @@ fn signed(table: &[u64], draft: &mut [u64], at: usize, first: usize, inner: u64)
 // expression: operand { infix expression of a tighter group }
 fn expression(table: &[u64], draft: &mut [u64], at: usize, pc: usize, room: u8, level: u8) -> u64
     requires { ⌜ Fits (now table) at pc ⌝ }
-    ensures { λ r. ⌜ Reads (λ f ts. expression f room level ts) 3 (now (table .entry)) at pc (now (draft .entry)) (now (draft .exit)) (readOf r) ⌝ }
+    ensures { λ r. ⌜ ReaderAgrees (λ f ts. expression f room level ts) 3 (now (table .entry)) at pc (now (draft .entry)) (now (draft .exit)) (readOf r) ⌝ }
 {
     let mut left = operand(table, draft, at, pc, room);
     if !results::is_done(left) {
@@ -75,7 +75,7 @@ fn expression(table: &[u64], draft: &mut [u64], at: usize, pc: usize, room: u8, 
 // operand: { - | ~ | ! } primary. Most operands are numbers and cells: they need no further call.
 fn operand(table: &[u64], draft: &mut [u64], at: usize, pc: usize, room: u8) -> u64
     requires { ⌜ Fits (now table) at pc ⌝ }
-    ensures { λ r. ⌜ Reads (λ f ts. operand f room ts) 2 (now (table .entry)) at pc (now (draft .entry)) (now (draft .exit)) (readOf r) ⌝ }
+    ensures { λ r. ⌜ ReaderAgrees (λ f ts. operand f room ts) 2 (now (table .entry)) at pc (now (draft .entry)) (now (draft .exit)) (readOf r) ⌝ }
 {
     let w = token_table::word_at(table, at);
     if ahead::is_leaf(w) {
@@ -92,7 +92,7 @@ fn operand(table: &[u64], draft: &mut [u64], at: usize, pc: usize, room: u8) -> 
 // primary: number | cell | letter [ expression ] | name ( arguments ) | ( expression )
 fn primary(table: &[u64], draft: &mut [u64], at: usize, pc: usize, room: u8) -> u64
     requires { ⌜ Fits (now table) at pc ⌝ }
-    ensures { λ r. ⌜ Reads (λ f ts. primaryOf f room ts) 1 (now (table .entry)) at pc (now (draft .entry)) (now (draft .exit)) (readOf r) ⌝ }
+    ensures { λ r. ⌜ ReaderAgrees (λ f ts. primaryOf f room ts) 1 (now (table .entry)) at pc (now (draft .entry)) (now (draft .exit)) (readOf r) ⌝ }
 {
     let w = token_table::word_at(table, at);
     let n = token_table::operand_of(w);
@@ -115,7 +115,7 @@ fn primary(table: &[u64], draft: &mut [u64], at: usize, pc: usize, room: u8) -> 
 // enclosed: expression closer. An argument, or what a bracket encloses, with the symbol behind it.
 fn enclosed(table: &[u64], draft: &mut [u64], at: usize, pc: usize, room: u8, closer: u8) -> u64
     requires { ⌜ Fits (now table) at pc ⌝ }
-    ensures { λ r. ⌜ Reads (λ f ts. and closer (expression f room loosest ts)) 3 (now (table .entry)) at pc (now (draft .entry)) (now (draft .exit)) (readOf r) ⌝ }
+    ensures { λ r. ⌜ ReaderAgrees (λ f ts. thenSymbol closer (expression f room loosest ts)) 3 (now (table .entry)) at pc (now (draft .entry)) (now (draft .exit)) (readOf r) ⌝ }
 {
     let inner = expression(table, draft, at, pc, room, LOOSEST);
     if !results::is_done(inner) {
@@ -139,7 +139,7 @@ fn bracket(
     closer: u8,
 ) -> u64
     requires { ⌜ Fits (now table) at pc ⌝ }
-    ensures { λ r. ⌜ Reads (λ f ts. enter room opener ts (λ e q. bracket f e closer q)) 0 (now (table .entry)) at pc (now (draft .entry)) (now (draft .exit)) (readOf r) ⌝ }
+    ensures { λ r. ⌜ ReaderAgrees (λ f ts. enter room opener ts (λ e q. bracket f e closer q)) 0 (now (table .entry)) at pc (now (draft .entry)) (now (draft .exit)) (readOf r) ⌝ }
 {
     if !ahead::expected(table, at, opener) {
         return results::bad(at);
@@ -154,7 +154,7 @@ fn bracket(
 fn arguments(table: &[u64], draft: &mut [u64], at: usize, pc: usize, room: u8, f: u8) -> u64
     requires { ⌜ Fits (now table) at pc ⌝ }
     requires { ⌜ f < 9 ⌝ }
-    ensures { λ r. ⌜ ((p : ℕ) → Reads (λ n ts. callOf (functionAt f) p room n ts) 0 (now (table .entry)) at pc (now (draft .entry)) (now (draft .exit)) (readOf r)) ⌝ }
+    ensures { λ r. ⌜ ((p : ℕ) → ReaderAgrees (λ n ts. callOf (functionAt f) p room n ts) 0 (now (table .entry)) at pc (now (draft .entry)) (now (draft .exit)) (readOf r)) ⌝ }
 {
     if !ahead::expected(table, at, symbols::OPEN) {
         return results::bad(at);
@@ -209,8 +209,8 @@ fn branches(table: &[u64], draft: &mut [u64], condition: u64, room: u8) -> u64
 // The whole table, of a text of `size` bytes: an expression, and nothing after it. Only then is the draft copied.
 pub fn formula(table: &[u64], draft: &mut [u64], size: usize, code: &mut [u8]) -> Coded
     requires { ⌜ Fits (now table) 0 0 ⌝ }
-    requires { ⌜ ((t : Tree) → parse (listed (now table)) ≡ ok t [] → wrongKind t ≡ nowhere → Holds (length (now draft)) (length (now code)) t) ⌝ }
-    ensures { λ r. ⌜ ((s : List ℕ) → length s ≡ size → (r ≡ codedAnswer (ofParse s (parse (listed (now (table .entry)))))) × (now (code .exit) ≡ codedBytes (now (code .entry)) (ofParse s (parse (listed (now (table .entry))))))) ⌝ }
+    requires { ⌜ ((t : Tree) → parse (listed (now table)) ≡ ok t [] → wrongKind t ≡ nowhere → CodeFits (length (now draft)) (length (now code)) t) ⌝ }
+    ensures { λ r. ⌜ ((s : List ℕ) → length s ≡ size → (r ≡ codedAnswer (judgeParse s (parse (listed (now (table .entry)))))) × (now (code .exit) ≡ codedBytes (now (code .entry)) (judgeParse s (parse (listed (now (table .entry))))))) ⌝ }
 {
     let whole = expression(table, draft, 0, 0, MOST_OPEN, LOOSEST);
     let at = results::next_of(whole);

@@ -1,7 +1,7 @@
 // What reading returns, in one word: structs and enums are returned through memory, which costs more than the packing. specs/Results.antt says which bits are which.
 ghost use mathlib.Core.Path.{_≡_};
 ghost use Prim.Native.Nat.{_<_};
-ghost use Rattle.compiler.specs.Results.{Done, Bad, Deep, isDone, further, refusal, kindIs, placed, readNext, readEnd, readKind, readWrong, readOf};
+ghost use Rattle.compiler.specs.private.Results.{Done, Bad, Deep, isDone, further, refusal, kindIs, placed, readNext, readEnd, readKind, readWrong, readOf};
 
 // The place of no wrong kind: every place in a text is less.
 pub const NOWHERE: u64 = 65536;

@@ -11,16 +11,16 @@ use Rattle.operations.specs.declared.Answer.{Answer}
 use Rattle.operations.specs.declared.Report.{Report}
 use Rattle.operations.specs.Operations.{reportOf}
 
-abbrev pub kindNumber : Value → ℕ
-kindNumber (Int z) = 0
-kindNumber (Real x) = 1
+abbrev pub kindWord : Value → ℕ
+kindWord (Int z) = 0
+kindWord (Real x) = 1
 
 abbrev pub bitsOf : Value → ℕ
 bitsOf (Int z) = lowBits 32 z
 bitsOf (Real x) = Ieee.toBits binary32 x
 
 abbrev pub wordsOf : Report → List ℕ
-wordsOf r = r .answer ∷ r .place % 2 ^ 32 ∷ kindNumber (r .value) ∷ bitsOf (r .value) ∷ r .count % 2 ^ 32 ∷ []
+wordsOf r = r .answer ∷ r .place % 2 ^ 32 ∷ kindWord (r .value) ∷ bitsOf (r .value) ∷ r .count % 2 ^ 32 ∷ []
 
-abbrev pub told : Answer → List ℕ
-told a = wordsOf (reportOf a)
+abbrev pub reportWords : Answer → List ℕ
+reportWords a = wordsOf (reportOf a)

@@ -6,13 +6,13 @@ ghost use lib.Ieee.{binary32, rem};
 ghost use lib.ListN.{length};
 ghost use Rattle.compiler.specs.Compile.{compiling, codedBytes};
 ghost use Rattle.operations.specs.Operations.{compileAnswer, checkAnswer, runAnswer, runMemory, request, performed, performedMemory, performedCode};
-ghost use Rattle.formula_c.specs.Words.{kindNumber, bitsOf, told};
+ghost use Rattle.formula_c.specs.Words.{kindWord, bitsOf, reportWords};
 use operations::Answer;
 use values::Kind;
 use values::Value;
 
 fn kind_number(v: Value) -> u32
-    ensures { λ r. ⌜ r ≡ kindNumber v ⌝ }
+    ensures { λ r. ⌜ r ≡ kindWord v ⌝ }
 {
     match v {
         Value::Int(_) => 0,
@@ -35,8 +35,8 @@ fn low(n: usize) -> u32
     (n % 4294967296) as u32
 }
 
-fn tell(a: Answer, report: &mut [u32; 5])
-    ensures { λ _. ⌜ now (report .exit) ≡ told a ⌝ }
+fn fill_report(a: Answer, report: &mut [u32; 5])
+    ensures { λ _. ⌜ now (report .exit) ≡ reportWords a ⌝ }
 {
     let r = operations::reported(a);
     let value = r.value;
@@ -47,19 +47,19 @@ fn tell(a: Answer, report: &mut [u32; 5])
 
 #[no_mangle]
 pub extern "C" fn formula_compile(expr: &[u8], code: &mut [u8], report: &mut [u32; 5])
-    ensures { λ _. ⌜ now (report .exit) ≡ told (compileAnswer (compiling (length (now (code .entry))) (now (expr .entry)))) ⌝ }
+    ensures { λ _. ⌜ now (report .exit) ≡ reportWords (compileAnswer (compiling (length (now (code .entry))) (now (expr .entry)))) ⌝ }
     ensures { λ _. ⌜ now (code .exit) ≡ codedBytes (now (code .entry)) (compiling (length (now (code .entry))) (now (expr .entry))) ⌝ }
 {
     let answer = operations::compile(expr, code);
-    tell(answer, report);
+    fill_report(answer, report);
 }
 
 #[no_mangle]
 pub extern "C" fn formula_check(code: &[u8], instructions: usize, report: &mut [u32; 5])
-    ensures { λ _. ⌜ now (report .exit) ≡ told (checkAnswer (now (code .entry)) instructions) ⌝ }
+    ensures { λ _. ⌜ now (report .exit) ≡ reportWords (checkAnswer (now (code .entry)) instructions) ⌝ }
 {
     let answer = operations::check(code, instructions);
-    tell(answer, report);
+    fill_report(answer, report);
 }
 
 #[no_mangle]
@@ -70,11 +70,11 @@ pub extern "C" fn formula_run(
     target: &[u8],
     report: &mut [u32; 5],
 )
-    ensures { λ _. ⌜ now (report .exit) ≡ told (runAnswer (now (code .entry)) instructions (now (target .entry)) (now (memory .entry))) ⌝ }
+    ensures { λ _. ⌜ now (report .exit) ≡ reportWords (runAnswer (now (code .entry)) instructions (now (target .entry)) (now (memory .entry))) ⌝ }
     ensures { λ _. ⌜ now (memory .exit) ≡ runMemory (now (code .entry)) instructions (now (target .entry)) (now (memory .entry)) ⌝ }
 {
     let answer = operations::run(code, instructions, memory, target);
-    tell(answer, report);
+    fill_report(answer, report);
 }
 
 #[no_mangle]
@@ -85,12 +85,12 @@ pub extern "C" fn formula_compile_and_run(
     code: &mut [u8],
     report: &mut [u32; 5],
 )
-    ensures { λ _. ⌜ now (report .exit) ≡ told (performed (now (memory .entry)) (request (now (target .entry)) (now (expr .entry)) (now (memory .entry)) (now (code .entry)))) ⌝ }
+    ensures { λ _. ⌜ now (report .exit) ≡ reportWords (performed (now (memory .entry)) (request (now (target .entry)) (now (expr .entry)) (now (memory .entry)) (now (code .entry)))) ⌝ }
     ensures { λ _. ⌜ now (memory .exit) ≡ performedMemory (now (memory .entry)) (request (now (target .entry)) (now (expr .entry)) (now (memory .entry)) (now (code .entry))) ⌝ }
     ensures { λ _. ⌜ now (code .exit) ≡ performedCode (now (code .entry)) (request (now (target .entry)) (now (expr .entry)) (now (memory .entry)) (now (code .entry))) ⌝ }
 {
     let answer = operations::compile_and_run(target, expr, memory, code);
-    tell(answer, report);
+    fill_report(answer, report);
 }
 
 // In the place of the C library's fmodf it makes an archive that needs no library: include/build.sh.

@@ -12,7 +12,7 @@ use Rattle.tokens.specs.declared.Token.the-variants.{Number, Cell, Letter, Name
 use Rattle.tokens.specs.Scan.{Tok}
 use Rattle.grammar.specs.Tree.{Tree, literal, cell, indexed, unary}
 use Rattle.grammar.specs.Symbols.{groupNumber, loosest, openParen, closeParen, openIndex, closeIndex, comma, prefixOf, prefixSymbol, is, none, infixTree, moreArguments, Arguments, one, more, callTree}
-use Rattle.grammar.specs.Grammar.{tok, E, number, name, index, parenthesis, call, prefixed, up, infixed, last, next}
+use Rattle.grammar.specs.Grammar.{tok, Derives, number, name, index, parenthesis, call, prefixed, up, infixed, last, next}
 use Rattle.grammar.specs.Parse.{Result, ok, expect, expression, climb, operand, primary, bracket, arguments}
 use Rattle.grammar.proofs.Tests.{Follow, at-end, before, follow-less, binds-yes, binds-no}
 
@@ -120,7 +120,7 @@ r-next m q w v t ts g g′ d rest n (suc f) c =
     let j = length-append v rest in
     rw (append-assoc, before-symbol comma q w t refl g d (v ++ rest) (omega arith) f (omega arith)) (rw (g′ d rest (omega arith) f (omega arith)))
 
-complete : {m : ℕ} {w : List Tok} {t : Tree} → E m w t → Reads m w t
+complete : {m : ℕ} {w : List Tok} {t : Tree} → Derives m w t → Reads m w t
 unfolding primary
 complete a = elim a as (λ m w t a. Reads m w t) (λ m w ts a. ReadsAll m w ts) [
   | number {v} {p} ↦ r-primary (tok (Number v) p) [] (literal p v) refl (λ d rest n f c. refl)
@@ -135,5 +135,5 @@ complete a = elim a as (λ m w t a. Reads m w t) (λ m w ts a. ReadsAll m w ts) 
   | next {m} q {w} {v} {t} {ts} (a → h) (b → h′) ↦ r-next m q w v t ts h h′
 ]
 
-pub accepts : {w : List Tok} {t : Tree} → E loosest w t → (d f : ℕ) → length w ≤ d → length w * 4 + 2 ≤ f → expression f d loosest w ≡ ok t []
+pub accepts : {w : List Tok} {t : Tree} → Derives loosest w t → (d f : ℕ) → length w ≤ d → length w * 4 + 2 ≤ f → expression f d loosest w ≡ ok t []
 accepts {w} {t} a d f n c = rw append-nil at (full loosest loosest w t (complete a) d [] n (omega arith) at-end f (omega arith))

@@ -13,7 +13,7 @@ use Rattle.tokens.specs.declared.Token.the-variants.{Number, Cell, Letter, Name
 use Rattle.tokens.specs.Scan.{Tok}
 use Rattle.grammar.specs.Tree.{Tree, literal, indexed, unary}
 use Rattle.grammar.specs.Symbols.{group, loosest, openParen, closeParen, openIndex, closeIndex, comma, prefixOf, moreArguments, Arguments, one, more, callTree}
-use Rattle.grammar.specs.Grammar.{tok, E, number, name, index, parenthesis, call, A, last, next}
+use Rattle.grammar.specs.Grammar.{tok, Derives, number, name, index, parenthesis, call, DerivesArguments, last, next}
 use Rattle.grammar.specs.Parse.{binds, expression, climb, operand, primary, bracket, arguments, mostOpen}
 use Rattle.grammar.specs.Theorems.{isOpener, isCloser}
 use Rattle.grammar.proofs.Tests.{Follow, before, follow-less, follow-any, binds-true}
@@ -29,10 +29,10 @@ zeroTok = tok (Number (Int (pos 0))) 0
 abbrev zeroTree : Tree
 zeroTree = literal 0 (Int (pos 0))
 
-zero-is : E loosest (zeroTok ∷ []) zeroTree
+zero-is : Derives loosest (zeroTok ∷ []) zeroTree
 zero-is = lift 0 loosest (lit≤ tt) number
 
-fill : (m : ℕ) → (v : List Tok) × (us : Arguments) × A m v us
+fill : (m : ℕ) → (v : List Tok) × (us : Arguments) × DerivesArguments m v us
 fill zero = (zeroTok ∷ tok (Symbol closeParen) 0 ∷ [], one zeroTree, last 0 zero-is)
 fill (suc m) =
     let h = fill m in
@@ -40,35 +40,35 @@ fill (suc m) =
 
 -- an expression and the closing symbol n
 data Closed (n : ℕ) : List Tok → Tree → Type 0 where
-  closed : (q : ℕ) {w : List Tok} {t : Tree} → E loosest w t → Closed n (w ++ tok (Symbol n) q ∷ []) t
+  closed : (q : ℕ) {w : List Tok} {t : Tree} → Derives loosest w t → Closed n (w ++ tok (Symbol n) q ∷ []) t
 
 zero-closed : (n : ℕ) → Closed n (zeroTok ∷ tok (Symbol n) 0 ∷ []) zeroTree
 zero-closed n = closed 0 zero-is
 
-in-parentheses : {w : List Tok} {t : Tree} (p : ℕ) → Closed closeParen w t → E 0 (tok (Symbol openParen) p ∷ w) t
+in-parentheses : {w : List Tok} {t : Tree} (p : ℕ) → Closed closeParen w t → Derives 0 (tok (Symbol openParen) p ∷ w) t
 in-parentheses p (closed q a) = parenthesis q a
 
-in-brackets : {w : List Tok} {t : Tree} (b : Bank) (p q : ℕ) → Closed closeIndex w t → E 0 (tok (Letter b) p ∷ tok (Symbol openIndex) q ∷ w) (indexed b t)
+in-brackets : {w : List Tok} {t : Tree} (b : Bank) (p q : ℕ) → Closed closeIndex w t → Derives 0 (tok (Letter b) p ∷ tok (Symbol openIndex) q ∷ w) (indexed b t)
 in-brackets b p q (closed r a) = index r a
 
 mutual
   unfolding expression
 
-  pub sound-expression : (f room d l : ℕ) (ts : List Tok) → room + d ≡ mostOpen → Good d d (E l) ts (expression f room l ts)
+  pub sound-expression : (f room d l : ℕ) (ts : List Tok) → room + d ≡ mostOpen → Good d d (Derives l) ts (expression f room l ts)
   sound-expression zero room d l ts m = dry
   sound-expression (suc f) room d l ts m =
       bind _ (sound-operand f room d ts m) [] [] (λ t. t) nothing refl (λ w t a. rw append-nil (lift 0 l (omega arith) a))
       (λ w t r _ e a s. sound-climb f room d l 0 t r ts w m (omega arith) e a s (follow-any r))
 
   -- after the tokens w, whose group g no operator that follows is tighter than
-  sound-climb : (f room d l g : ℕ) (t : Tree) (ts all w : List Tok) → room + d ≡ mostOpen → g ≤ l → all ≡ w ++ ts → E g w t → Spans d w d → Follow g ts
-      → Good d d (E l) all (climb f room l t ts)
+  sound-climb : (f room d l g : ℕ) (t : Tree) (ts all w : List Tok) → room + d ≡ mostOpen → g ≤ l → all ≡ w ++ ts → Derives g w t → Spans d w d → Follow g ts
+      → Good d d (Derives l) all (climb f room l t ts)
   sound-climb zero room d l g t ts all w m le e a s h = dry
   sound-climb (suc f) room d l g t [] all w m le e a s h = took w e (lift g l le a) s
   sound-climb (suc f) room d l g t (x ∷ xs) all w m le e a s (before h) =
       test (binds l (x .token))
       (λ b. let (lo, hi) = binds-true l (x .token) b in
-      let a′ : E (group (x .token)) w t = lift g (group (x .token)) (h lo) a in
+      let a′ : Derives (group (x .token)) w t = lift g (group (x .token)) (h lo) a in
       let p : Spans d (x ∷ []) d = operator x lo in
       bind _ (sound-expression f room d (group (x .token) - 1) xs m) (w ++ x ∷ []) [] (joinedTree x t) (along s p) (e ∙ sym (append-assoc w (x ∷ []) xs))
       (λ v u c. simp (append-assoc, append-nil) (lift (group (x .token)) l hi (joined x lo a′ c)))
@@ -77,14 +77,14 @@ mutual
       (follow-less (omega (arith, lo)) (expression-ends f room (group (x .token) - 1) xs q))))
       (λ b. took w e (lift g l le a) s)
 
-  sound-operand : (f room d : ℕ) (ts : List Tok) → room + d ≡ mostOpen → Good d d (E 0) ts (operand f room ts)
+  sound-operand : (f room d : ℕ) (ts : List Tok) → room + d ≡ mostOpen → Good d d (Derives 0) ts (operand f room ts)
   sound-operand zero room d ts m = dry
   sound-operand (suc f) room d [] m = stop (zeroTok ∷ []) (record { read = []; tree = zeroTree; split = refl; whole = number; spans = nothing })
   sound-operand (suc f) room d (x ∷ xs) m =
       prefixes (prefixOf (x .token)) (λ o i. wrap (x ∷ []) (λ t. unary (x .place) o t) (sound-operand f room d xs m) (prefix x i) refl (λ w t a. signed x i a))
       (sound-primary f room d (x .token) (x .place) xs m)
 
-  sound-primary : (f room d : ℕ) (k : Token) (p : ℕ) (xs : List Tok) → room + d ≡ mostOpen → Good d d (E 0) (tok k p ∷ xs) (primary f room (tok k p) xs)
+  sound-primary : (f room d : ℕ) (k : Token) (p : ℕ) (xs : List Tok) → room + d ≡ mostOpen → Good d d (Derives 0) (tok k p ∷ xs) (primary f room (tok k p) xs)
   sound-primary zero room d k p xs m = dry
   sound-primary (suc f) room d (Number v) p xs m = took (tok (Number v) p ∷ []) refl number (passing refl refl nothing)
   sound-primary (suc f) room d (Cell b i) p xs m = took (tok (Cell b i) p ∷ []) refl name (passing refl refl nothing)
@@ -112,7 +112,7 @@ mutual
       bind _ (sound-expression f room (suc d) loosest ts m) [] (tok (Symbol n) 0 ∷ []) (λ t. t) nothing refl (λ w t a. closed 0 a)
       (λ w t r _ e a s. closes n w r t i j s e (λ p. closed p a))
 
-  sound-arguments : (f room d n : ℕ) (ts : List Tok) → room + suc d ≡ mostOpen → Good (suc d) d (A n) ts (arguments f room n ts)
+  sound-arguments : (f room d n : ℕ) (ts : List Tok) → room + suc d ≡ mostOpen → Good (suc d) d (DerivesArguments n) ts (arguments f room n ts)
   sound-arguments zero room d n ts m = dry
   sound-arguments (suc f) room d zero ts m =
       bind _ (sound-expression f room (suc d) loosest ts m) [] (tok (Symbol closeParen) 0 ∷ []) one nothing refl (λ w t a. last 0 a)

@@ -1,4 +1,4 @@
--- The grammar (paper 01, "Grammar and grouping"), as a relation between tokens and trees: `E l w t` says that the tokens w are an expression of group l at the loosest, with the tree t.
+-- The grammar (paper 01, "Grammar and grouping"), as a relation between tokens and trees: `Derives l w t` says that the tokens w are an expression of group l at the loosest, with the tree t.
 -- "Every binary operator groups to the left, `**` too. A primary is a numeral, a cell, a bank letter with an expression in square brackets, an expression in parentheses, or a function
 -- with exactly its arguments". Length, nesting and kinds are no part of it.
 use mathlib.Core.Path.{_≡_}
@@ -18,24 +18,24 @@ abbrev pub tok : Token → ℕ → Tok
 tok x p = record { token = x; place = p }
 
 mutual
-  pub data E : ℕ → List Tok → Tree → Type 0 where
-    number : {v : Value} {p : ℕ} → E 0 (tok (Number v) p ∷ []) (literal p v)
-    name : {b : Bank} {i p : ℕ} → E 0 (tok (Cell b i) p ∷ []) (cell b i)
-    index : {b : Bank} {p q : ℕ} (r : ℕ) {w : List Tok} {t : Tree} → E loosest w t → E 0 (tok (Letter b) p ∷ tok (Symbol openIndex) q ∷ (w ++ tok (Symbol closeIndex) r ∷ [])) (indexed b t)
-    parenthesis : {p : ℕ} (q : ℕ) {w : List Tok} {t : Tree} → E loosest w t → E 0 (tok (Symbol openParen) p ∷ (w ++ tok (Symbol closeParen) q ∷ [])) t
-    call : {f : Function} {p q : ℕ} {w : List Tok} {ts : Arguments} → A (moreArguments f) w ts → E 0 (tok (Name f) p ∷ tok (Symbol openParen) q ∷ w) (callTree f p ts)
-    prefixed : {n p : ℕ} {o : UnaryOp} {w : List Tok} {t : Tree} → prefixSymbol n ≡ is o → E 0 w t → E 0 (tok (Symbol n) p ∷ w) (unary p o t)
-    up : {l : ℕ} {w : List Tok} {t : Tree} → E l w t → E (suc l) w t
-    infixed : {l : ℕ} (n p : ℕ) {w v : List Tok} {t u : Tree} → groupNumber n ≡ suc l → E (suc l) w t → E l v u → E (suc l) (w ++ tok (Symbol n) p ∷ v) (infixTree n p t u)
+  pub data Derives : ℕ → List Tok → Tree → Type 0 where
+    number : {v : Value} {p : ℕ} → Derives 0 (tok (Number v) p ∷ []) (literal p v)
+    name : {b : Bank} {i p : ℕ} → Derives 0 (tok (Cell b i) p ∷ []) (cell b i)
+    index : {b : Bank} {p q : ℕ} (r : ℕ) {w : List Tok} {t : Tree} → Derives loosest w t → Derives 0 (tok (Letter b) p ∷ tok (Symbol openIndex) q ∷ (w ++ tok (Symbol closeIndex) r ∷ [])) (indexed b t)
+    parenthesis : {p : ℕ} (q : ℕ) {w : List Tok} {t : Tree} → Derives loosest w t → Derives 0 (tok (Symbol openParen) p ∷ (w ++ tok (Symbol closeParen) q ∷ [])) t
+    call : {f : Function} {p q : ℕ} {w : List Tok} {ts : Arguments} → DerivesArguments (moreArguments f) w ts → Derives 0 (tok (Name f) p ∷ tok (Symbol openParen) q ∷ w) (callTree f p ts)
+    prefixed : {n p : ℕ} {o : UnaryOp} {w : List Tok} {t : Tree} → prefixSymbol n ≡ is o → Derives 0 w t → Derives 0 (tok (Symbol n) p ∷ w) (unary p o t)
+    up : {l : ℕ} {w : List Tok} {t : Tree} → Derives l w t → Derives (suc l) w t
+    infixed : {l : ℕ} (n p : ℕ) {w v : List Tok} {t u : Tree} → groupNumber n ≡ suc l → Derives (suc l) w t → Derives l v u → Derives (suc l) (w ++ tok (Symbol n) p ∷ v) (infixTree n p t u)
 
   -- so many arguments after the first, and the closing parenthesis
-  pub data A : ℕ → List Tok → Arguments → Type 0 where
-    last : (q : ℕ) {w : List Tok} {t : Tree} → E loosest w t → A 0 (w ++ tok (Symbol closeParen) q ∷ []) (one t)
-    next : {m : ℕ} (q : ℕ) {w v : List Tok} {t : Tree} {ts : Arguments} → E loosest w t → A m v ts → A (suc m) (w ++ tok (Symbol comma) q ∷ v) (more t ts)
+  pub data DerivesArguments : ℕ → List Tok → Arguments → Type 0 where
+    last : (q : ℕ) {w : List Tok} {t : Tree} → Derives loosest w t → DerivesArguments 0 (w ++ tok (Symbol closeParen) q ∷ []) (one t)
+    next : {m : ℕ} (q : ℕ) {w v : List Tok} {t : Tree} {ts : Arguments} → Derives loosest w t → DerivesArguments m v ts → DerivesArguments (suc m) (w ++ tok (Symbol comma) q ∷ v) (more t ts)
 
 -- a formula, its nesting and kinds apart
 abbrev pub Formula : List Tok → Tree → Type 0
-Formula w t = E loosest w t
+Formula w t = Derives loosest w t
 
 -- some formula begins with the tokens w
 abbrev pub Viable : List Tok → Type 0

@@ -7,7 +7,7 @@ use Prim.Native.Nat.{ℕ, zero, suc, _+_, _-_, _*_, _/_, _%_, _≤_, _<_}
 use native.Mathlib.Omega.{arith}
 use lib.Dec.{eqb}
 use borrow.Author.Tests.{lt-ltb, le-leb, eq-eqb, ne-eqb}
-use Rattle.memory.specs.Names.{isDigit, allDigits, plain, decimalFrom, decimal}
+use Rattle.memory.specs.Names.{isDigit, allDigits, noLeadingZero, decimalFrom, decimalValue}
 use Rattle.memory.proofs.names.Decimals.{digit-range}
 use Rattle.lines.specs.Printing.{widthOf, decimalText}
 use Rattle.lines.proofs.Tests.{both, no}
@@ -47,7 +47,7 @@ first c e =
     let n : 0 * 10 + (c - 48) ≡ c - 48 = omega arith in
     rw n (single (c - 48) (b .0) ∙ rw (b .1))
 
-pub text-of : (cs : List ℕ) → plain cs ≡ true → allDigits cs ≡ true → decimalText (decimal cs) ≡ cs
+pub text-of : (cs : List ℕ) → noLeadingZero cs ≡ true → allDigits cs ≡ true → decimalText (decimalValue cs) ≡ cs
 text-of [] p d = no p
 text-of (c ∷ []) p d = first c (both (isDigit c) true d .0)
 text-of (c ∷ e ∷ s) p d =
@@ -64,19 +64,19 @@ from-last : (n : ℕ) (s : List ℕ) (c : ℕ) → decimalFrom n (s ++ (c ∷ []
 from-last n [] c = refl
 from-last n (b ∷ s) c = from-last (n * 10 + (b - 48)) s c
 
-plain-last : (s : List ℕ) (c : ℕ) → plain s ≡ true → 0 < decimal s → plain (s ++ (c ∷ [])) ≡ true
+plain-last : (s : List ℕ) (c : ℕ) → noLeadingZero s ≡ true → 0 < decimalValue s → noLeadingZero (s ++ (c ∷ [])) ≡ true
 plain-last [] c p z = no p
 plain-last (b ∷ []) c p z = rw (ne-eqb b 48 (λ e. omega arith))
 plain-last (b ∷ d ∷ s) c p z = p
 
 is-digit : (d : ℕ) → d < 10 → isDigit (48 + d) ≡ true
-is-digit d h = rw (le-leb 48 (48 + d) (omega arith), lt-ltb (48 + d) 58 (omega arith))
+is-digit d h = rw (le-leb 48 (48 + d) (omega arith), le-leb (48 + d) 57 (omega arith))
 
 -- the text is plain digits, and they make the number
 pub record Text (n : ℕ) : Type 0 where
-  pub plainly : plain (decimalText n) ≡ true
+  pub plainly : noLeadingZero (decimalText n) ≡ true
   pub digits : allDigits (decimalText n) ≡ true
-  pub value : decimal (decimalText n) ≡ n
+  pub value : decimalValue (decimalText n) ≡ n
 
 short : (d : ℕ) → d < 10 → Text d
 short d h =

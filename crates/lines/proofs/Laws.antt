@@ -9,13 +9,13 @@ use borrow.Author.Tests.{not-true, ltb-true, ltb-false, lt-ltb, le-ltb, ne-eqb, 
 use Rattle.values.specs.Patterns.{signedOf}
 use Rattle.memory.specs.declared.Bank.{Bank}
 use Rattle.memory.specs.declared.Bank.the-variants.{X, C, «V», N, D, R}
-use Rattle.memory.specs.Names.{isDigit, allDigits, plain, decimal, numberBelow}
+use Rattle.memory.specs.Names.{isDigit, allDigits, noLeadingZero, decimalValue, numberBelow}
 use Rattle.memory.specs.Cells.{bitOf}
 use Rattle.memory.proofs.names.Decimals.{digit-range}
 use Rattle.lines.specs.declared.forms.Form.the-variants.{Pattern}
 use Rattle.lines.specs.Forms.{naturalForm, negativeForm, signedForm, patternOf}
 use Rattle.lines.specs.Printing.{decimalText, signedText, cellText}
-use Rattle.lines.specs.Steps.{halfText}
+use Rattle.lines.specs.private.Steps.{halfText}
 use Rattle.lines.specs.Laws.{patterns, FormLaws}
 use Rattle.lines.proofs.Decimals.{text, text-of}
 use Rattle.lines.proofs.Patterns.{pattern-back}
@@ -33,15 +33,15 @@ record Read (m : ℕ) (cs : List ℕ) (n : ℕ) : Type 0 where
   below : n < m
   same-text : cs ≡ decimalText n
 
-number-read : (m : ℕ) (cs : List ℕ) (n : ℕ) → numberBelow m cs ≡ true → decimal cs ≡ n → Read m cs n
+number-read : (m : ℕ) (cs : List ℕ) (n : ℕ) → numberBelow m cs ≡ true → decimalValue cs ≡ n → Read m cs n
 number-read m cs n t e =
-    let h = both (plain cs && allDigits cs) (ltb (decimal cs) m) t in
-    let g = both (plain cs) (allDigits cs) (h .0) in
-    record { below = omega (arith, ltb-true (decimal cs) m (h .1)); same-text = sym (text-of cs (g .0) (g .1)) ∙ ap decimalText e }
+    let h = both (noLeadingZero cs && allDigits cs) (ltb (decimalValue cs) m) t in
+    let g = both (noLeadingZero cs) (allDigits cs) (h .0) in
+    record { below = omega (arith, ltb-true (decimalValue cs) m (h .1)); same-text = sym (text-of cs (g .0) (g .1)) ∙ ap decimalText e }
 
 natural-only : (m : ℕ) (cs : List ℕ) (n : ℕ) → naturalForm m cs ≡ Pattern n → Read m cs n
 natural-only m cs n e =
-    let h = picked (numberBelow m cs) (decimal cs) n (sym e) in number-read m cs n (h .0) (h .1)
+    let h = picked (numberBelow m cs) (decimalValue cs) n (sym e) in number-read m cs n (h .0) (h .1)
 
 -- ---- a bit
 bit-text : (n : ℕ) → n < 2 → decimalText n ≡ signedText (bitOf n)
@@ -57,7 +57,7 @@ bit-only cs n e =
     let r = natural-only 2 cs n e in r .same-text ∙ bit-text n (r .below)
 
 -- ---- a number with a sign
-no-sign : (half : ℕ) (cs : List ℕ) → plain cs ≡ true → allDigits cs ≡ true → signedForm half cs ≡ naturalForm half cs
+no-sign : (half : ℕ) (cs : List ℕ) → noLeadingZero cs ≡ true → allDigits cs ≡ true → signedForm half cs ≡ naturalForm half cs
 no-sign half [] p d = no p
 no-sign half (c ∷ cs) p d =
     let r = digit-range c (both (isDigit c) (allDigits cs) d .0) in
@@ -90,12 +90,12 @@ module _ (half : ℕ) where
 
   minus : (cs : List ℕ) (n : ℕ) → negativeForm half cs ≡ Pattern n → Signed half (45 ∷ cs) n
   minus cs n e =
-      let h = picked (numberBelow (suc half) cs && not (eqb (decimal cs) 0)) (2 * half - decimal cs) n (sym e) in
-      let g = both (numberBelow (suc half) cs) (not (eqb (decimal cs) 0)) (h .0) in
-      let r = number-read (suc half) cs (decimal cs) (g .0) refl in
+      let h = picked (numberBelow (suc half) cs && not (eqb (decimalValue cs) 0)) (2 * half - decimalValue cs) n (sym e) in
+      let g = both (numberBelow (suc half) cs) (not (eqb (decimalValue cs) 0)) (h .0) in
+      let r = number-read (suc half) cs (decimalValue cs) (g .0) refl in
       let b = r .below in
-      let z = eqb-false (decimal cs) 0 (not-true (eqb (decimal cs) 0) (g .1)) in
-      let back : 2 * half - n ≡ decimal cs = omega (arith, h .1) in
+      let z = eqb-false (decimalValue cs) 0 (not-true (eqb (decimalValue cs) 0) (g .1)) in
+      let back : 2 * half - n ≡ decimalValue cs = omega (arith, h .1) in
       record {
         below = omega (arith, h .1, z);
         same-text = ap (λ (l : List ℕ). 45 ∷ l) (r .same-text) ∙ rw (le-ltb n half (omega (arith, h .1)), back);

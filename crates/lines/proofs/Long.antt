@@ -14,7 +14,7 @@ use Rattle.memory.specs.declared.names.Letter.the-variants as L
 use Rattle.memory.specs.declared.names.Named.{Named}
 use Rattle.memory.specs.declared.names.Named.the-variants.{Cell, Other}
 use Rattle.memory.specs.Layout.{layoutOf}
-use Rattle.memory.specs.Names.{bankOf, plain, allDigits, decimal, numberBelow, cellOf, namedRule, storable, targetRule}
+use Rattle.memory.specs.Names.{bankOf, noLeadingZero, allDigits, decimalValue, numberBelow, cellAfterLetter, namedRule, storable, targetRule}
 use Rattle.tokens.specs.Bytes.{all}
 use Rattle.tokens.specs.Numerals.{isHex, hexFrom, isHexRun}
 use Rattle.lines.specs.declared.forms.Form.the-variants as Form
@@ -28,10 +28,10 @@ use Rattle.lines.proofs.printing.Widths.{at-most}
 -- ---- a number below 10 ^ k has at most k digits
 digits : (k n : ℕ) (cs : List ℕ) → n ≤ 10 ^ suc k → numberBelow n cs ≡ true → length cs ≤ suc k
 digits k n cs h t =
-    let b = both (plain cs && allDigits cs) (ltb (decimal cs) n) t in
-    let p = both (plain cs) (allDigits cs) (b .0) in
-    let width : length cs ≡ widthOf (decimal cs) = sym (ap length (text-of cs (p .0) (p .1))) ∙ length-digits 10 (widthOf (decimal cs)) (decimal cs) in
-    omega (arith, at-most k (decimal cs) (omega (arith, ltb-true (decimal cs) n (b .1))), width)
+    let b = both (noLeadingZero cs && allDigits cs) (ltb (decimalValue cs) n) t in
+    let p = both (noLeadingZero cs) (allDigits cs) (b .0) in
+    let width : length cs ≡ widthOf (decimalValue cs) = sym (ap length (text-of cs (p .0) (p .1))) ∙ length-digits 10 (widthOf (decimalValue cs)) (decimalValue cs) in
+    omega (arith, at-most k (decimalValue cs) (omega (arith, ltb-true (decimalValue cs) n (b .1))), width)
 
 pub no-number : (k n : ℕ) (cs : List ℕ) → n ≤ 10 ^ suc k → suc k < length cs → numberBelow n cs ≡ false
 no-number k n cs h l = by (numberBelow n cs) refl
@@ -49,7 +49,7 @@ few N = omega arith
 few D = omega arith
 few R = omega arith
 
-no-element : (cs : List ℕ) (l : Letter) → 3 < length cs → cellOf cs l ≡ Other
+no-element : (cs : List ℕ) (l : Letter) → 3 < length cs → cellAfterLetter cs l ≡ Other
 no-element cs (L.Of b) h = rw (no-number 2 (layoutOf b .elements) cs (few b) h)
 no-element cs L.Other h = refl
 

@@ -7,7 +7,7 @@ use native.Mathlib.Nat.{pow-suc}
 use native.Mathlib.Omega.{arith}
 use lib.Dec.{ltb}
 use lib.ListN.{length}
-use borrow.Author.Tests.{ltb-true, ltb-false, lt-ltb, le-ltb, le-leb, lt-leb}
+use borrow.Author.Tests.{ltb-true, ltb-false, le-leb, lt-leb}
 use Rattle.tokens.specs.Bytes.{all}
 use Rattle.tokens.specs.Numerals.{isHex, hexDigit, hexFrom}
 use Rattle.lines.specs.declared.forms.Form.the-variants.{Pattern}
@@ -23,10 +23,10 @@ byte d h = by (ltb d 10) refl
     by : (t : Bool) → ltb d 10 ≡ t → (isHex (cond t (48 + d) (55 + d)) ≡ true) × (hexDigit (cond t (48 + d) (55 + d)) ≡ d)
     by true e =
         let s = ltb-true d 10 e in
-        (rw (le-leb 48 (48 + d) (omega arith), lt-ltb (48 + d) 58 (omega arith)), rw (le-leb (48 + d) 57 (omega arith)) (omega arith))
+        (rw (le-leb 48 (48 + d) (omega arith), le-leb (48 + d) 57 (omega arith)), rw (le-leb (48 + d) 57 (omega arith)) (omega arith))
     by false e =
         let s = ltb-false d 10 e in (
-          rw (le-ltb (55 + d) 58 (omega arith), le-leb 65 (55 + d) (omega arith), le-leb (55 + d) 70 (omega arith), and-false),
+          rw (lt-leb (55 + d) 57 (omega arith), le-leb 65 (55 + d) (omega arith), le-leb (55 + d) 70 (omega arith), and-false),
           rw (lt-leb (55 + d) 57 (omega arith), le-leb (55 + d) 70 (omega arith)) (omega arith),
         )
 

@@ -7,7 +7,7 @@ use native.Mathlib.Numerals.{add-one}
 use native.Mathlib.Omega.{arith}
 use lib.ListN.{length, set, length-set, length-append}
 use lib.Seq.{sets, set-comm, length-sets}
-use Rattle.lines.specs.Steps.{Puts}
+use Rattle.lines.specs.private.Steps.{Puts}
 
 sets-last : (l : List ℕ) (i : ℕ) (vs : List ℕ) (a : ℕ) → sets l i (vs ++ (a ∷ [])) ≡ sets (set l (i + length vs) a) i vs
 sets-last l i [] a = rw (add-zero i)

@@ -7,24 +7,25 @@ use lib.Dec.{eqb}
 use lib.ListN.{length, drop}
 use Rattle.memory.specs.declared.Bank.{Bank}
 use Rattle.memory.specs.declared.Bank.the-variants.{X, C, «V», N, D, R}
-use Rattle.memory.specs.Names.{decimal, numberBelow}
+use Rattle.memory.specs.Names.{decimalValue, numberBelow}
 use Rattle.tokens.specs.Bytes.{all}
 use Rattle.tokens.specs.Numerals.{isHex, hexFrom, isHexRun}
 use Rattle.lines.specs.declared.forms.Form.{Form}
 use Rattle.lines.specs.declared.forms.Form.the-variants.{Pattern, Other}
+use Rattle.words.specs.Ascii.{byte}
 
 -- digits without a leading zero, whose number is below n; no `+`
 abbrev pub naturalForm : ℕ → List ℕ → Form
-naturalForm n cs = cond (numberBelow n cs) (Pattern (decimal cs)) Other
+naturalForm n cs = cond (numberBelow n cs) (Pattern (decimalValue cs)) Other
 
 -- the digits after a `-`: from 1, since there is no -0, to half of the 2 * half patterns; in two's complement the number is taken from 2 * half
 abbrev pub negativeForm : ℕ → List ℕ → Form
-negativeForm half cs = cond (numberBelow (suc half) cs && not (eqb (decimal cs) 0)) (Pattern (2 * half - decimal cs)) Other
+negativeForm half cs = cond (numberBelow (suc half) cs && not (eqb (decimalValue cs) 0)) (Pattern (2 * half - decimalValue cs)) Other
 
 -- an integer from -half to half - 1
 abbrev pub signedForm : ℕ → List ℕ → Form
 signedForm half [] = Other
-signedForm half (c ∷ cs) = cond (eqb c 45) (negativeForm half cs) (naturalForm half (c ∷ cs))
+signedForm half (c ∷ cs) = cond (eqb c (byte "-")) (negativeForm half cs) (naturalForm half (c ∷ cs))
 
 -- `0x` and exactly eight hexadecimal digits
 abbrev pub hexForm : List ℕ → Form

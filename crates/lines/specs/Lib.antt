@@ -1,5 +1,5 @@
 pub mod Lines
 pub mod Forms
 pub mod Printing
-pub mod Steps
 pub mod Laws
+pub mod private

@@ -2,7 +2,7 @@
 ghost use mathlib.Core.Path.{_≡_};
 ghost use Prim.Native.Nat.{_≤_, _<_};
 ghost use Rattle.lines.specs.Forms.{naturalForm, negativeForm, signedForm, hexForm, patternOf};
-ghost use Rattle.lines.specs.Steps.{valueForm, tokenForm, scannedForm};
+ghost use Rattle.lines.specs.private.Steps.{valueForm, tokenForm, scannedForm};
 use memory::Bank;
 use tokens::Scanned;
 use tokens::Token;

@@ -5,8 +5,8 @@ ghost use Prim.Native.Nat.{_+_, _*_, _^_, _≤_, _<_};
 ghost use lib.ListN.{length};
 ghost use Rattle.memory.specs.Layout.{layoutOf};
 ghost use Rattle.memory.specs.Cells.{bitOf};
-ghost use Rattle.lines.specs.Printing.{numeralByte, digitsOf, widthOf, decimalText, signedText, cellText, letterOf, cellName};
-ghost use Rattle.lines.specs.Steps.{Puts, halfText};
+ghost use Rattle.lines.specs.Printing.{numeralByte, digitsOf, widthOf, decimalText, signedText, cellText, letterByte, cellName};
+ghost use Rattle.lines.specs.private.Steps.{Puts, halfText};
 use memory::Bank;
 
 pub fn put_all(out: &mut [u8], at: usize, text: &[u8]) -> usize
@@ -120,7 +120,7 @@ pub fn put_value(out: &mut [u8], at: usize, bank: Bank, n: u64) -> usize
 }
 
 fn letter(bank: Bank) -> u8
-    ensures { λ r. ⌜ r ≡ letterOf bank ⌝ }
+    ensures { λ r. ⌜ r ≡ letterByte bank ⌝ }
 {
     match bank {
         Bank::X => b'X',

@@ -12,7 +12,7 @@ use lib.Ieee.Scale.{round-same}
 use lib.ListN.{length, getD}
 use borrow.Author.Needs.{needs}
 use Rattle.literals.specs.declared.Mixed.{Mixed}
-use Rattle.literals.specs.MixedNumbers.{numerator, Represents}
+use Rattle.literals.specs.private.MixedNumbers.{numerator, Represents}
 use Rattle.literals.proofs.MixedNumbers.{whole-lt}
 
 -- ---- a table of the powers from 10 ^ j on: one test over the whole of it

@@ -11,7 +11,7 @@ use lib.Pow.{pow-add, pow-pos, pow-mono, pow-lt}
 use lib.Ieee.{binary32, round, toBits}
 use lib.Ieee.Nearest.{closest}
 use Rattle.literals.specs.declared.Mixed.{Mixed}
-use Rattle.literals.specs.MixedNumbers.{Normalized, TiesToEven}
+use Rattle.literals.specs.private.MixedNumbers.{Normalized, TiesToEven}
 use Rattle.literals.proofs.MixedNumbers.{parts, left-lt}
 use Rattle.literals.proofs.Halves.{kept}
 use Rattle.literals.proofs.Patterns.{most-digits, pattern-is}

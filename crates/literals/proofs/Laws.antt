@@ -12,12 +12,12 @@ use Rattle.reals.specs.Singles.{Single, Has}
 use Rattle.reals.specs.Rounding.{Rounds, end}
 use Rattle.reals.proofs.Bridge.{within}
 use Rattle.reals.proofs.Laws.{real-laws}
-use Rattle.literals.specs.Literals.{decimalFraction, literalReal, isScale}
+use Rattle.literals.specs.Literals.{scaledDecimal, nearestDecimal, isScale}
 use Rattle.literals.specs.Laws.{LiteralLaws}
 use Rattle.literals.proofs.Decimals.{ten-pos}
 use Rattle.literals.proofs.Scales.{zero-real}
 
-rounds : (n : ℕ) (z : ℤ) → Rounds (decimalFraction n z) (literalReal n z)
+rounds : (n : ℕ) (z : ℤ) → Rounds (scaledDecimal n z) (nearestDecimal n z)
 rounds n (pos e) = real-laws .fraction false (n * 10 ^ e) 1 (le-refl 1)
 rounds n (negsuc k) = real-laws .fraction false n (10 ^ suc k) (ten-pos (suc k))
 
@@ -27,7 +27,7 @@ below n e N E =
     lt-of-le-of-lt (mul-le-mul-right (2 ^ 149) (mul-le-mul (le-of-lt N) (pow-le-pow-right {n = 10} (lit≤ tt) E)))
     (lit< {m = 2 ^ 32 * 10 ^ 20 * 2 ^ 149} {n = end * 1} tt)
 
-single : (n : ℕ) (z : ℤ) → n < 2 ^ 32 → isScale z ≡ true → Single (literalReal n z)
+single : (n : ℕ) (z : ℤ) → n < 2 ^ 32 → isScale z ≡ true → Single (nearestDecimal n z)
 single n (pos e) N t = within (below n e N (leb-true e 20 t)) (rounds n (pos e)) .single
 single n (negsuc k) N t =
     let small : n * 2 ^ 149 < end * 1 = rw (mul-one n) at (below n 0 N zero-le) in
@@ -41,6 +41,6 @@ pub literal-laws : LiteralLaws
 literal-laws = record {
   rounds = rounds;
   single = single;
-  decode = λ n z N t. rw t (real-laws .decode-encode (literalReal n z) (single n z N t));
+  decode = λ n z N t. rw t (real-laws .decode-encode (nearestDecimal n z) (single n z N t));
   zero = λ z. rw (zero-real z) zero;
 }

@@ -5,7 +5,7 @@ use native.Mathlib.Nat.{le-of-lt, le-trans, lt-of-le-of-lt, lt-of-lt-of-le, lt-o
 use native.Mathlib.Omega.{arith}
 use lib.Pow.{pow-add, pow-mono}
 use Rattle.literals.specs.declared.Mixed.{Mixed}
-use Rattle.literals.specs.MixedNumbers.{numerator, Represents}
+use Rattle.literals.specs.private.MixedNumbers.{numerator, Represents}
 
 -- ---- n / (b * a)
 pub splits : (n b a : ℕ) → 0 < b → 0 < a → Represents b a n (record { whole = n / a / b; high = n / a % b; low = n % a })

@@ -10,7 +10,7 @@ use lib.Signed.{ltZ}
 use lib.Ieee.{binary32, round, toBits}
 use lib.Ieee.Scale.{round-same}
 use borrow.Author.Tests.{ltb-true, ltb-false, le-leb, lt-leb}
-use Rattle.literals.specs.Literals.{literalReal, isScale, literalPattern}
+use Rattle.literals.specs.Literals.{nearestDecimal, isScale, literalPattern}
 use Rattle.literals.proofs.Decimals.{ten-pos}
 
 -- ---- no digits
@@ -18,14 +18,14 @@ zero-bits : toBits binary32 (round binary32 false 0 1) ≡ 0
 unfolding toBits round
 zero-bits = refl
 
-pub zero-real : (z : ℤ) → literalReal 0 z ≡ round binary32 false 0 1
+pub zero-real : (z : ℤ) → nearestDecimal 0 z ≡ round binary32 false 0 1
 zero-real (pos e) = rw zero-mul
 zero-real (negsuc k) = round-same binary32 false 0 (10 ^ suc k) 0 1 (ten-pos (suc k)) (lit< tt) (sym (zero-mul (10 ^ suc k)))
 
 pub zero-pattern : (n : ℕ) (z : ℤ) → n ≡ 0 → 0 ≡ literalPattern n z
 zero-pattern n z e = rw e (go (isScale z))
   where
-    go : (t : Bool) → 0 ≡ cond t (toBits binary32 (literalReal 0 z)) 0
+    go : (t : Bool) → 0 ≡ cond t (toBits binary32 (nearestDecimal 0 z)) 0
     go true = sym (ap (toBits binary32) (zero-real z) ∙ zero-bits)
     go false = refl
 

@@ -1,3 +1,3 @@
 pub mod Literals
 pub mod Laws
-pub mod MixedNumbers
+pub mod private

@@ -6,7 +6,7 @@ ghost use mathlib.Core.Bool.{false};
 ghost use Prim.Native.Nat.{_*_, _^_, _≤_, _<_};
 ghost use lib.Ieee.{binary32, round, toBits};
 ghost use Rattle.literals.specs.Literals.{literalPattern};
-ghost use Rattle.literals.specs.MixedNumbers.{numerator, Represents, Normalized, TiesToEven};
+ghost use Rattle.literals.specs.private.MixedNumbers.{numerator, Represents, Normalized, TiesToEven};
 
 // The powers of ten from 1 on.
 const TENS: [u64; 15] = [

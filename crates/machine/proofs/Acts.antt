@@ -23,13 +23,13 @@ use Rattle.code.specs.Encode.{Encodable, push-int, push-real, load, load-indexe
 use Rattle.code.proofs.Laws.{decode-encodable}
 use Rattle.machine.specs.declared.Ended.the-variants.{Stopped, Stuck}
 use Rattle.machine.specs.declared.Step.{Step}
-use Rattle.machine.specs.Machine.{most, Next, goes, halts, pushed, given, act}
-use Rattle.machine.specs.Steps.{stuckStep, stopStep, skipStep, pushStep, pushing, taking, outcomeStep, givenStep, jumpStep, stepOf}
+use Rattle.machine.specs.Machine.{maxHeight, Next, goes, halts, pushValue, pushOutcome, act}
+use Rattle.machine.specs.private.Steps.{stuckStep, stopStep, skipStep, pushStep, pushOrStuck, taking, outcomeStep, givenStep, jumpStep, stepOf}
 use Rattle.machine.proofs.Held.{none, held, length-held}
 
 -- of h values in the array s
 pub data Leads (s : List Value) (h : ℕ) : Next → Step → Type 0 where
-  push : (k : ℕ) (v : Value) → k ≤ h → k < most → Leads s h (goes 0 (v ∷ held k s)) (pushStep k v)
+  push : (k : ℕ) (v : Value) → k ≤ h → k < maxHeight → Leads s h (goes 0 (v ∷ held k s)) (pushStep k v)
   skip : (k d : ℕ) → k ≤ h → d < 2 ^ 32 → Leads s h (goes d (held k s)) (skipStep k d)
   stop : (f : Fault) → Leads s h (halts (Stopped f)) (stopStep f)
   stick : Leads s h (halts Stuck) stuckStep
@@ -63,14 +63,14 @@ last : (h : ℕ) → suc h - 1 ≡ h
 last h = omega arith
 
 module _ (s : List Value) (h : ℕ) where
-  push-leads : (k : ℕ) (v : Value) → k ≤ h → Leads s h (pushed v (held k s)) (pushing k v)
-  push-leads k v p = rw (length-held k s) (by (ltb k most) refl)
+  push-leads : (k : ℕ) (v : Value) → k ≤ h → Leads s h (pushValue v (held k s)) (pushOrStuck k v)
+  push-leads k v p = rw (length-held k s) (by (ltb k maxHeight) refl)
     where
-      by : (t : Bool) → ltb k most ≡ t → Leads s h (cond t (goes 0 (v ∷ held k s)) (halts Stuck)) (cond t (pushStep k v) stuckStep)
-      by true e = push k v p (ltb-true k most e)
+      by : (t : Bool) → ltb k maxHeight ≡ t → Leads s h (cond t (goes 0 (v ∷ held k s)) (halts Stuck)) (cond t (pushStep k v) stuckStep)
+      by true e = push k v p (ltb-true k maxHeight e)
       by false e = stick
 
-  given-leads : (k : ℕ) (o : Outcome) → k ≤ h → Leads s h (given o (held k s)) (outcomeStep k o)
+  given-leads : (k : ℕ) (o : Outcome) → k ≤ h → Leads s h (pushOutcome o (held k s)) (outcomeStep k o)
   given-leads k (Outcome.Done v) p = push-leads k v p
   given-leads k (Outcome.Stopped f) p = stop f
   given-leads k Outcome.WrongKind p = stick
@@ -80,11 +80,11 @@ module _ (s : List Value) (h : ℕ) where
   jump-leads k d false p q = skip k 0 p (omega arith)
 
   -- t of the values are taken, and k kept
-  taken-leads : (k t : ℕ) (o : Outcome) → t ≤ h → k ≤ h → Leads s h (given o (held k s)) (taking h t (outcomeStep k o))
+  taken-leads : (k t : ℕ) (o : Outcome) → t ≤ h → k ≤ h → Leads s h (pushOutcome o (held k s)) (taking h t (outcomeStep k o))
   taken-leads k t o q p = rw (le-ltb h t q) (given-leads k o p)
 
 module _ (E : Environment) (s : List Value) where
-  one-leads : (h : ℕ) (f : Value → Outcome) → Leads s (suc h) (given (f (getD s h none)) (held h s)) (givenStep (suc h) 1 (f (getD s (suc h - 1) none)))
+  one-leads : (h : ℕ) (f : Value → Outcome) → Leads s (suc h) (pushOutcome (f (getD s h none)) (held h s)) (givenStep (suc h) 1 (f (getD s (suc h - 1) none)))
   one-leads h f = rw (last h) (taken-leads s (suc h) h 1 (f (getD s h none)) (omega arith) (omega arith))
 
   pub leads : (i : Instr) (h : ℕ) → distance i < 2 ^ 32 → Leads s h (act E i (held h s)) (stepOf E i h (getD s (h - 2) none) (getD s (h - 1) none))

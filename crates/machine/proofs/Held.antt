@@ -11,7 +11,7 @@ use borrow.Author.Tests.{ne-eqb}
 use Rattle.values.specs.declared.Value.{Value}
 use Rattle.values.specs.declared.Value.the-variants.{Int}
 use Rattle.machine.specs.Machine.{finish}
-use Rattle.machine.specs.Steps.{finishOf}
+use Rattle.machine.specs.private.Steps.{finishOf}
 
 -- what is read past the end
 abbrev pub none : Value

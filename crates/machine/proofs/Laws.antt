@@ -8,12 +8,12 @@ use Rattle.values.specs.declared.Value.{Value}
 use Rattle.memory.specs.Environment.{Environment}
 use Rattle.code.specs.declared.Instr.{Instr}
 use Rattle.machine.specs.declared.Ran.{Ran}
-use Rattle.machine.specs.Machine.{Next, goes, halts, act, counted, exec}
+use Rattle.machine.specs.Machine.{Next, goes, halts, act, countOne, exec}
 
 module _ (E : Environment) where
   -- what an instruction leads to, with the code c after it
   abbrev pub onward : List Instr → Next → Ran
-  onward c x = elim x as (λ x. Ran) [ goes k st ↦ counted (exec E c k st) | halts e ↦ record { end = e; count = 1 } ]
+  onward c x = elim x as (λ x. Ran) [ goes k st ↦ countOne (exec E c k st) | halts e ↦ record { end = e; count = 1 } ]
 
   -- the run of an instruction that is not skipped
   pub exec-next : (i : Instr) (c : List Instr) (st : List Value) → exec E (i ∷ c) 0 st ≡ onward c (act E i st)

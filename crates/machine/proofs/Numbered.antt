@@ -9,8 +9,8 @@ use borrow.Author.Tests.{le-ltb, ne-eqb, eqb-true, eqb-false}
 use Rattle.code.specs.declared.Instr.{Instr}
 use Rattle.code.specs.declared.Instr.the-variants.{Unknown}
 use Rattle.code.specs.Instructions.{alone, instruction}
-use Rattle.code.specs.Fetch.{instructionOf}
-use Rattle.machine.specs.Steps.{operandOf, wordOf, intBy, realBy, loadBy, indexedBy, unaryBy, binaryBy, jumpBy, jumpIfBy}
+use Rattle.code.specs.private.Fetch.{instructionOf}
+use Rattle.machine.specs.private.Steps.{operandOf, wordOf, intBy, realBy, loadBy, indexedBy, unaryBy, binaryBy, jumpBy, jumpIfBy}
 
 neither : (t : Bool) {i j : Instr} → i ≡ Unknown → j ≡ Unknown → cond t i j ≡ Unknown
 neither true p q = p

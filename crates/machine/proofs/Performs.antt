@@ -30,7 +30,7 @@ use Rattle.code.specs.declared.Instr.the-variants.{Load, JumpIf, Unknown}
 use Rattle.code.specs.Instructions.{alone, pushReal, loadOf, indexedOf, unaryInstr, binaryInstr}
 use Rattle.code.proofs.Finite.{finite-pushed, infinite-unknown}
 use Rattle.machine.specs.declared.Step.{Step}
-use Rattle.machine.specs.Steps.{stuckStep, skipStep, pushing, outcomeStep, givenStep, jumpStep, stepOf, bankStep}
+use Rattle.machine.specs.private.Steps.{stuckStep, skipStep, pushOrStuck, outcomeStep, givenStep, jumpStep, stepOf, bankStep}
 
 -- k is the layout of the bank that the code looks up
 module _ (E : Environment) (h : ℕ) (b : Bank) (d : ℕ) {k : Layout} (is : k ≡ layoutOf b) where
@@ -63,7 +63,7 @@ module _ (E : Environment) (h : ℕ) (l r : Value) where
   unknown-made i e = ap made (sym e)
 
   -- ---- pushed singles
-  pub finite-made : (n : ℕ) {x : Step} → (exponent n ≡ 255 → ⊥) → x ≡ pushing h (Real (ofBits binary32 n)) → x ≡ made (pushReal n)
+  pub finite-made : (n : ℕ) {x : Step} → (exponent n ≡ 255 → ⊥) → x ≡ pushOrStuck h (Real (ofBits binary32 n)) → x ≡ made (pushReal n)
   finite-made n p e = rw (finite-pushed n p) e
 
   pub infinite-made : (n : ℕ) → exponent n ≡ 255 → stuckStep ≡ made (pushReal n)

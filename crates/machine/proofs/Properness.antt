@@ -24,7 +24,7 @@ use Rattle.code.specs.Encode.{Encodable, push-int, push-real, load, load-indexe
 use Rattle.code.proofs.Laws.{decode-encodable}
 use Rattle.machine.specs.declared.Ended.{Ended}
 use Rattle.machine.specs.declared.Ended.the-variants.{Done, Stopped, Stuck}
-use Rattle.machine.specs.Machine.{most, Next, goes, halts, pushed, given, act, finish, exec, runs}
+use Rattle.machine.specs.Machine.{maxHeight, Next, goes, halts, pushValue, pushOutcome, act, finish, exec, runs}
 use Rattle.machine.proofs.Laws.{onward}
 
 data AllHeld : List Value → Type 0 where
@@ -43,14 +43,14 @@ data ProperNext : Next → Type 0 where
 -- ---- one instruction
 
 module _ {st : List Value} (held : AllHeld st) where
-  pushes : {v : Value} → Proper v → ProperNext (pushed v st)
-  pushes {v} p = by (ltb (length st) most)
+  pushes : {v : Value} → Proper v → ProperNext (pushValue v st)
+  pushes {v} p = by (ltb (length st) maxHeight)
     where
       by : (b : Bool) → ProperNext (cond b (goes 0 (v ∷ st)) (halts Stuck))
       by true = on (more p held)
       by false = end stuck
 
-  gives : {o : Outcome} → AllProper o → ProperNext (given o st)
+  gives : {o : Outcome} → AllProper o → ProperNext (pushOutcome o st)
   gives (done v p) = pushes p
   gives (stopped f) = end fault
   gives wrong = end stuck

@@ -17,8 +17,8 @@ use Rattle.code.proofs.Parts.{decode-beyond}
 use Rattle.machine.specs.declared.Ended.{Ended}
 use Rattle.machine.specs.declared.Ended.the-variants.{Stuck}
 use Rattle.machine.specs.declared.Ran.{Ran}
-use Rattle.machine.specs.Machine.{Next, goes, halts, act, finish, counted, exec}
-use Rattle.machine.specs.Steps.{lesserOf, endedAt, stuckAt, finishOf, finishedAt}
+use Rattle.machine.specs.Machine.{Next, goes, halts, act, finish, countOne, exec}
+use Rattle.machine.specs.private.Steps.{lesserOf, endedAt, stuckAt, finishOf, finishedAt}
 use Rattle.machine.proofs.Laws.{onward, exec-next}
 
 -- k instructions begun before
@@ -28,7 +28,7 @@ adding k r = endedAt (k + r .count) (r .end)
 adding-none : (r : Ran) → adding 0 r ≡ r
 adding-none r = ap (λ (x : ℕ). endedAt x (r .end)) (zero-add (r .count))
 
-adding-one : (k : ℕ) (r : Ran) → adding (k + 1) r ≡ adding k (counted r)
+adding-one : (k : ℕ) (r : Ran) → adding (k + 1) r ≡ adding k (countOne r)
 adding-one k r =
     let e : k + 1 + r .count ≡ k + suc (r .count) = omega arith in
     ap (λ (x : ℕ). endedAt x (r .end)) e

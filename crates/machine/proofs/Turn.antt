@@ -13,13 +13,13 @@ use Rattle.words.specs.Laws.{Bytes}
 use Rattle.memory.specs.Environment.{Environment}
 use Rattle.code.specs.declared.Instr.{Instr}
 use Rattle.code.specs.Instructions.{decodeAt}
-use Rattle.code.specs.Fetch.{fetched, instructionOf}
+use Rattle.code.specs.private.Fetch.{fetched, instructionOf}
 use Rattle.code.proofs.Fetches.{decode-fetched}
 use Rattle.machine.specs.declared.How.{How}
 use Rattle.machine.specs.declared.How.the-variants as How
 use Rattle.machine.specs.declared.Step.{Step}
-use Rattle.machine.specs.Machine.{most, Next, act}
-use Rattle.machine.specs.Steps.{wordOf, stepOf, failedAt}
+use Rattle.machine.specs.Machine.{maxHeight, Next, act}
+use Rattle.machine.specs.private.Steps.{wordOf, stepOf, failedAt}
 use Rattle.machine.proofs.How.{the-type}
 use Rattle.machine.proofs.Held.{none, held, held-push}
 use Rattle.machine.proofs.Acts.{Leads, push, skip, stop, stick, decoded-near, leads}
@@ -64,7 +64,7 @@ module _ {s : List Value} {h : ℕ} where
 module _ (E : Environment) (code : List ℕ) (n p : ℕ) (s : List Value) (k : ℕ) (x : Step) where
   -- what follows from how a step goes on
   abbrev pub Onward : How → Type 0
-  Onward How.Push = (x .height < most) × (length s ≡ most → Stands E code n (p + (1 + x .skip)) (held (x .height + 1) (set s (x .height) (x .value))) (k + 1))
+  Onward How.Push = (x .height < maxHeight) × (length s ≡ maxHeight → Stands E code n (p + (1 + x .skip)) (held (x .height + 1) (set s (x .height) (x .value))) (k + 1))
   Onward How.Skip = Stands E code n (p + (1 + x .skip)) (held (x .height) s) (k + 1)
   Onward How.Stop = failedAt How.Stop (x .fault) (k + 1) ≡ wholeRun E code n
   Onward How.Stuck = failedAt How.Stuck (x .fault) (k + 1) ≡ wholeRun E code n

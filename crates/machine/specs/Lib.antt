@@ -1,3 +1,3 @@
 pub mod Machine
 pub mod Configurations
-pub mod Steps
+pub mod private

@@ -20,37 +20,43 @@ use Rattle.machine.specs.declared.Ended.the-variants.{Done, Stopped, Stu
 use Rattle.machine.specs.declared.Ran.{Ran}
 
 -- "the height never exceeds 128"
-abbrev pub most : ℕ
-most = 128
+abbrev pub maxHeight : ℕ
+maxHeight = 128
 
 -- what an instruction leads to: instructions to skip and values held, or the end
 pub data Next : Type 0 where
   goes : ℕ → List Value → Next
   halts : Ended → Next
 
-abbrev pub pushed : Value → List Value → Next
-pushed v st = cond (ltb (length st) most) (goes 0 (v ∷ st)) (halts Stuck)
+abbrev pub pushValue : Value → List Value → Next
+pushValue v st = cond (ltb (length st) maxHeight) (goes 0 (v ∷ st)) (halts Stuck)
 
-abbrev pub given : Outcome → List Value → Next
-given (Outcome.Done v) st = pushed v st
-given (Outcome.Stopped f) st = halts (Stopped f)
-given Outcome.WrongKind st = halts Stuck
+abbrev pub pushOutcome : Outcome → List Value → Next
+pushOutcome (Outcome.Done v) st = pushValue v st
+pushOutcome (Outcome.Stopped f) st = halts (Stopped f)
+pushOutcome Outcome.WrongKind st = halts Stuck
 
 unfoldable pub act : Environment → Instr → List Value → Next
-act E (PushInt z) st = pushed (Int z) st
-act E (PushReal x) st = pushed (Real x) st
-act E (Load b i) st = given (E .cell b i) st
+act E (PushInt z) st = pushValue (Int z) st
+act E (PushReal x) st = pushValue (Real x) st
+act E (Load b i) st = pushOutcome (E .cell b i) st
 act E (LoadIndexed b) [] = halts Stuck
-act E (LoadIndexed b) (v ∷ st) = given (E .indexed b v) st
+act E (LoadIndexed b) (v ∷ st) = pushOutcome (E .indexed b v) st
 act E (Unary o) [] = halts Stuck
-act E (Unary o) (v ∷ st) = given (unaryRule o v) st
+act E (Unary o) (v ∷ st) = pushOutcome (unaryRule o v) st
 act E (Binary o) [] = halts Stuck
 act E (Binary o) (w ∷ []) = halts Stuck
-act E (Binary o) (w ∷ (v ∷ st)) = given (binaryRule o v w) st
+act E (Binary o) (w ∷ (v ∷ st)) = pushOutcome (binaryRule o v w) st
 act E (Jump d) st = goes d st
 act E (JumpIf t d) [] = halts Stuck
 act E (JumpIf t d) (v ∷ st) = cond (Bool·beq (truthRule v) t) (goes d st) (goes 0 st)
 act E Unknown st = halts Stuck
+
+-- how a run ends that gives an outcome
+abbrev pub endOf : Outcome → Ended
+endOf (Outcome.Done v) = Done v
+endOf (Outcome.Stopped f) = Stopped f
+endOf Outcome.WrongKind = Stuck
 
 -- "the end has one value"
 abbrev pub finish : List Value → Ended
@@ -58,8 +64,8 @@ finish [] = Stuck
 finish (v ∷ []) = Done v
 finish (v ∷ (w ∷ st)) = Stuck
 
-abbrev pub counted : Ran → Ran
-counted r = record { end = r .end; count = suc (r .count) }
+abbrev pub countOne : Ran → Ran
+countOne r = record { end = r .end; count = suc (r .count) }
 
 -- the instructions left, how many of them to skip, the values held
 unfoldable pub exec : Environment → List Instr → ℕ → List Value → Ran
@@ -67,7 +73,7 @@ unfolding act
 exec E [] zero st = record { end = finish st; count = 0 }
 exec E [] (suc k) st = record { end = Stuck; count = 0 }
 exec E (i ∷ c) (suc k) st = exec E c k st
-exec E (i ∷ c) zero st = elim (act E i st) [ goes k st′ ↦ counted (exec E c k st′) | halts e ↦ record { end = e; count = 1 } ]
+exec E (i ∷ c) zero st = elim (act E i st) [ goes k st′ ↦ countOne (exec E c k st′) | halts e ↦ record { end = e; count = 1 } ]
 
 -- the first n instructions of the code, from no values held
 abbrev pub runs : List ℕ → ℕ → List ℕ → Ran

@@ -4,8 +4,8 @@ ghost use mathlib.Core.Path.{_≡_};
 ghost use Prim.Native.Nat.{_-_, _≤_};
 ghost use Rattle.memory.specs.Environment.{memoryOf};
 ghost use Rattle.machine.specs.Machine.{runs};
-ghost use Rattle.machine.specs.Steps.{operandOf, wordOf, intBy, realBy, loadBy, indexedBy, unaryBy, binaryBy, jumpBy, jumpIfBy};
-ghost use Rattle.machine.specs.Steps.{lesserOf, pushing, skipStep, stopStep, stuckStep, outcomeStep, bankStep, Does, DoesOn, DoesOnBoth, Loads, LoadsOn, stuckAt, failedAt, finishedAt};
+ghost use Rattle.machine.specs.private.Steps.{operandOf, wordOf, intBy, realBy, loadBy, indexedBy, unaryBy, binaryBy, jumpBy, jumpIfBy};
+ghost use Rattle.machine.specs.private.Steps.{lesserOf, pushOrStuck, skipStep, stopStep, stuckStep, outcomeStep, bankStep, IsStep, IsStepOn, IsStepOnBoth, IsLoad, IsLoadOn, stuckAt, failedAt, finishedAt};
 use memory::Bank;
 use memory::numbers;
 use memory::numbers::BankOf;
@@ -62,7 +62,7 @@ fn sticks() -> Step
 
 // No more than 128 values are held.
 fn pushes(height: usize, value: Value) -> Step
-    ensures { λ r. ⌜ r ≡ pushing height value ⌝ }
+    ensures { λ r. ⌜ r ≡ pushOrStuck height value ⌝ }
 {
     if 128 <= height {
         return sticks();
@@ -126,7 +126,7 @@ fn operand_of(w: u64) -> u32
 
 // One function for each class of instruction, as in the crate code, with h values held. Whatever it does not look at may be anything.
 fn push_int(w: u64, h: usize) -> Step
-    ensures { λ x. ⌜ Does (intBy w) h x ⌝ }
+    ensures { λ x. ⌜ IsStep (intBy w) h x ⌝ }
 {
     if operand_of(w) != 0 {
         return sticks();
@@ -135,7 +135,7 @@ fn push_int(w: u64, h: usize) -> Step
 }
 
 fn push_real(w: u64, h: usize) -> Step
-    ensures { λ x. ⌜ Does (realBy w) h x ⌝ }
+    ensures { λ x. ⌜ IsStep (realBy w) h x ⌝ }
 {
     if operand_of(w) != 0 {
         return sticks();
@@ -159,7 +159,7 @@ fn load_from(bank: Bank, word: u32, image: &[u8], h: usize) -> Step
 
 // An arm for each bank, so that a bank's layout is known where its cell is read.
 fn load(w: u64, image: &[u8], h: usize) -> Step
-    ensures { λ x. ⌜ Loads (memoryOf (now (image .entry))) (loadBy w) h x ⌝ }
+    ensures { λ x. ⌜ IsLoad (memoryOf (now (image .entry))) (loadBy w) h x ⌝ }
 {
     let word = word_of(w);
     match operand_of(w) {
@@ -175,7 +175,7 @@ fn load(w: u64, image: &[u8], h: usize) -> Step
 
 // v is the last of h values, and left the one before it; where there are fewer, they may be anything.
 fn load_indexed(w: u64, image: &[u8], h: usize, v: Value) -> Step
-    ensures { λ x. ⌜ LoadsOn (memoryOf (now (image .entry))) (indexedBy w) h v x ⌝ }
+    ensures { λ x. ⌜ IsLoadOn (memoryOf (now (image .entry))) (indexedBy w) h v x ⌝ }
 {
     let operand = operand_of(w);
     if h < 1 {
@@ -194,7 +194,7 @@ fn load_indexed(w: u64, image: &[u8], h: usize, v: Value) -> Step
 }
 
 fn unary(w: u64, h: usize, v: Value) -> Step
-    ensures { λ x. ⌜ DoesOn (unaryBy w) h v x ⌝ }
+    ensures { λ x. ⌜ IsStepOn (unaryBy w) h v x ⌝ }
 {
     let operand = operand_of(w);
     if h < 1 {
@@ -213,7 +213,7 @@ fn unary(w: u64, h: usize, v: Value) -> Step
 }
 
 fn binary(w: u64, h: usize, left: Value, v: Value) -> Step
-    ensures { λ x. ⌜ DoesOnBoth (binaryBy w) h left v x ⌝ }
+    ensures { λ x. ⌜ IsStepOnBoth (binaryBy w) h left v x ⌝ }
 {
     let operand = operand_of(w);
     if h < 2 {
@@ -232,7 +232,7 @@ fn binary(w: u64, h: usize, left: Value, v: Value) -> Step
 }
 
 fn jump(w: u64, h: usize) -> Step
-    ensures { λ x. ⌜ Does (jumpBy w) h x ⌝ }
+    ensures { λ x. ⌜ IsStep (jumpBy w) h x ⌝ }
 {
     if operand_of(w) != 0 {
         return sticks();
@@ -242,7 +242,7 @@ fn jump(w: u64, h: usize) -> Step
 
 // A jump if the truth of v is t.
 fn jump_if(w: u64, h: usize, v: Value, t: bool) -> Step
-    ensures { λ x. ⌜ DoesOn (jumpIfBy t w) h v x ⌝ }
+    ensures { λ x. ⌜ IsStepOn (jumpIfBy t w) h v x ⌝ }
 {
     if operand_of(w) != 0 {
         return sticks();

@@ -12,7 +12,7 @@ use borrow.Author.Tests.{eq-eqb}
 use Rattle.values.specs.declared.Fault.{Fault}
 use Rattle.values.specs.declared.Fault.the-variants.{DividedByZero, Overflow, OutOfRange, IndexError}
 use Rattle.memory.specs.Layout.{imageSize, flagAt}
-use Rattle.memory.specs.Store.{flagged}
+use Rattle.memory.specs.Store.{withFlag}
 use Rattle.memory.proofs.Kept.{flag-kept}
 
 flag-inside : (f : Fault) → flagAt f < imageSize
@@ -21,7 +21,7 @@ flag-inside Overflow = omega arith
 flag-inside OutOfRange = omega arith
 flag-inside IndexError = omega arith
 
-pub flag-set : (s : List ℕ) (f : Fault) → length s ≡ imageSize → getD (flagged s f) (flagAt f) 0 ≡ 1
+pub flag-set : (s : List ℕ) (f : Fault) → length s ≡ imageSize → getD (withFlag s f) (flagAt f) 0 ≡ 1
 flag-set s f e = rw (eq-eqb (length s) imageSize e) (getD-set-same s (flagAt f) 1 0 (omega (arith, flag-inside f)))
 
 -- the fault of a flag's byte
@@ -35,5 +35,5 @@ fault-back Overflow = refl
 fault-back OutOfRange = refl
 fault-back IndexError = refl
 
-pub flag-other : (s : List ℕ) (f g : Fault) → g ≢ f → getD (flagged s f) (flagAt g) 0 ≡ getD s (flagAt g) 0
+pub flag-other : (s : List ℕ) (f g : Fault) → g ≢ f → getD (withFlag s f) (flagAt g) 0 ≡ getD s (flagAt g) 0
 flag-other s f g n = flag-kept s f (flagAt g) (λ e. n (sym (fault-back g) ∙ ap faultAt e ∙ fault-back f))

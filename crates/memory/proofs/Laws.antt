@@ -16,8 +16,8 @@ use Rattle.memory.specs.declared.Bank.{Bank}
 use Rattle.memory.specs.declared.store.Encoded.the-variants.{Pattern}
 use Rattle.memory.specs.Layout.{layoutOf, cellAt, hasCell}
 use Rattle.memory.specs.Cells.{bytesAt, cellValue, readRule}
-use Rattle.memory.specs.Store.{encode, storeImage}
-use Rattle.memory.specs.Laws.{Within, Representable, MemoryLaws}
+use Rattle.memory.specs.Store.{encodeCell, storeImage}
+use Rattle.memory.specs.Laws.{InCell, Representable, MemoryLaws}
 use Rattle.memory.proofs.Places.{cell-within, no-flag, apart}
 use Rattle.memory.proofs.Runs.{run-written}
 use Rattle.memory.proofs.Kept.{same-length, cell-kept, flag-kept, read-other, read-flagged}
@@ -27,7 +27,7 @@ use Rattle.memory.proofs.store.Encodings.{below, bit-stored}
 use Rattle.memory.proofs.Representations.{represents}
 
 -- ---- what was stored is read back
-module _ (s : List ℕ) (b : Bank) (i : ℕ) (v : Value) (p : ℕ) (h : T (hasCell s b i)) (e : encode b v ≡ Pattern p) where
+module _ (s : List ℕ) (b : Bank) (i : ℕ) (v : Value) (p : ℕ) (h : T (hasCell s b i)) (e : encodeCell b v ≡ Pattern p) where
   stored : storeImage s b i v ≡ sets s (cellAt b i) (bytesOf (layoutOf b .width) p)
   stored = rw (is-true (hasCell s b i) h, e)
 
@@ -40,9 +40,9 @@ module _ (s : List ℕ) (b : Bank) (i : ℕ) (v : Value) (p : ℕ) (h : T (hasCe
   read-stored : Proper v → readRule (storeImage s b i v) b i ≡ cellValue b p
   read-stored q =
       let n : p % 256 ^ layoutOf b .width ≡ p = mod-eq-of-lt (below b v p q e) in
-      rw (number-back, same-length s b i v, is-true (hasCell s b i) h, word-laws .back (layoutOf b .width) p, n)
+      rw (number-back, same-length s b i v, is-true (hasCell s b i) h, word-laws .decode-encode (layoutOf b .width) p, n)
 
-  others-kept : (k : ℕ) → (Within b i k → ⊥) → getD (storeImage s b i v) k 0 ≡ getD s k 0
+  others-kept : (k : ℕ) → (InCell b i k → ⊥) → getD (storeImage s b i v) k 0 ≡ getD s k 0
   others-kept k w = rw stored (cell-kept s b i p k w)
 
 read-back : (s : List ℕ) (b : Bank) (i : ℕ) (v : Value) → T (hasCell s b i) → Representable b v → readRule (storeImage s b i v) b i ≡ Done v
@@ -53,7 +53,7 @@ read-back s b i v h r =
 pub memory-laws : MemoryLaws
 memory-laws =
     record {
-      apart = apart;
+      disjoint = apart;
       no-flag = no-flag;
       read-stored = λ s b i v p h q e. read-stored s b i v p h e q;
       read-other = read-other;

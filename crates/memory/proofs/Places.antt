@@ -15,7 +15,7 @@ use Rattle.memory.specs.declared.Bank.{Bank}
 use Rattle.memory.specs.declared.Bank.the-variants.{X, C, «V», N, D, R}
 use Rattle.memory.specs.declared.Layout.{Layout}
 use Rattle.memory.specs.Layout.{layoutOf, cellAt, hasCell, flagAt}
-use Rattle.memory.specs.Laws.{Distinct, Within}
+use Rattle.memory.specs.Laws.{Distinct, InCell}
 
 -- ---- an image that has the cell
 module _ (s : List ℕ) (b : Bank) (i : ℕ) where
@@ -48,14 +48,14 @@ flag-end OutOfRange = omega arith
 flag-end Overflow = omega arith
 flag-end DividedByZero = omega arith
 
-pub no-flag : (b : Bank) (i : ℕ) (f : Fault) → i < layoutOf b .elements → Within b i (flagAt f) → ⊥
+pub no-flag : (b : Bank) (i : ℕ) (f : Fault) → i < layoutOf b .elements → InCell b i (flagAt f) → ⊥
 no-flag b i f h w = omega (arith, cell-end b i h, flag-end f .0, w .to)
 
 -- ---- the bank and the element of a byte
 abbrev bankAt : ℕ → Bank
 bankAt k = cond (ltb k 64) X (cond (ltb k 128) C (cond (ltb k 640) «V» (cond (ltb k 1152) N (cond (ltb k 2176) D R))))
 
-bank-at : (b : Bank) (i k : ℕ) → i < layoutOf b .elements → Within b i k → bankAt k ≡ b
+bank-at : (b : Bank) (i k : ℕ) → i < layoutOf b .elements → InCell b i k → bankAt k ≡ b
 bank-at X i k h w = rw (lt-ltb k 64 (omega arith))
 bank-at C i k h w = rw (le-ltb k 64 (omega arith), lt-ltb k 128 (omega arith))
 bank-at «V» i k h w = rw (le-ltb k 64 (omega arith), le-ltb k 128 (omega arith), lt-ltb k 640 (omega arith))
@@ -68,7 +68,7 @@ bank-at R i k h w =
 abbrev elementAt : Bank → ℕ → ℕ
 elementAt b k = (k - layoutOf b .place) / layoutOf b .width
 
-element-at : (b : Bank) (i k : ℕ) → Within b i k → elementAt b k ≡ i
+element-at : (b : Bank) (i k : ℕ) → InCell b i k → elementAt b k ≡ i
 element-at X i k w = omega arith
 element-at C i k w = omega arith
 element-at «V» i k w = omega arith
@@ -76,7 +76,7 @@ element-at N i k w = omega arith
 element-at D i k w = omega arith
 element-at R i k w = omega arith
 
-pub apart : (b : Bank) (i : ℕ) (c : Bank) (j k : ℕ) → i < layoutOf b .elements → j < layoutOf c .elements → Distinct b i c j → Within b i k → Within c j k → ⊥
+pub apart : (b : Bank) (i : ℕ) (c : Bank) (j k : ℕ) → i < layoutOf b .elements → j < layoutOf c .elements → Distinct b i c j → InCell b i k → InCell c j k → ⊥
 apart b i c j k h g d v w =
     let same : b ≡ c = sym (bank-at b i k h v) ∙ bank-at c j k g w in
     let alike : i ≡ j = sym (element-at b i k v) ∙ ap (λ (x : Bank). elementAt x k) same ∙ element-at c j k w in

@@ -107,4 +107,3 @@ position-proper s b (P.Stopped f) h = AllProper.stopped f
 
 pub indexed-proper : (s : List ℕ) (b : Bank) (v : Value) → Bytes s → AllProper (indexedRule s b v)
 indexed-proper s b v h = position-proper s b (positionRule b v) h
-

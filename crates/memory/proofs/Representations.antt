@@ -22,7 +22,7 @@ use Rattle.operators.specs.Laws.{Proper}
 use Rattle.memory.specs.declared.Bank.{Bank}
 use Rattle.memory.specs.declared.store.Encoded.the-variants.{Pattern}
 use Rattle.memory.specs.Cells.{finiteOr13, cellValue}
-use Rattle.memory.specs.Store.{encode}
+use Rattle.memory.specs.Store.{encodeCell}
 use Rattle.memory.specs.Laws.{Representable, off, on, unsigned, signed, integer, real}
 use Rattle.memory.proofs.cells.Exponents.{single-reads}
 use Rattle.memory.proofs.cells.Signs.{signed-range}
@@ -30,7 +30,7 @@ use Rattle.memory.proofs.cells.Signs.{signed-range}
 pub record Represents (b : Bank) (v : Value) : Type 0 where
   pub proper : Proper v
   pub pattern : ℕ
-  pub written : encode b v ≡ Pattern pattern
+  pub written : encodeCell b v ≡ Pattern pattern
   pub read : cellValue b pattern ≡ Done v
 
 proper-int : (z : ℤ) → inRange z ≡ true → Proper (Int z)

@@ -13,55 +13,56 @@ use Rattle.memory.specs.declared.names.Element.the-variants as E
 use Rattle.memory.specs.declared.names.Named.{Named}
 use Rattle.memory.specs.declared.names.Named.the-variants as A
 use Rattle.memory.specs.Layout.{layoutOf}
+use Rattle.words.specs.Ascii.{byte}
 
--- the six letters, by their bytes
+-- the six letters
 unfoldable pub bankOf : ℕ → Letter
 bankOf c =
-    cond (eqb c 88) (L.Of X)
-    (cond (eqb c 67) (L.Of C)
-    (cond (eqb c 86) (L.Of «V»)
-    (cond (eqb c 78) (L.Of N)
-    (cond (eqb c 68) (L.Of D)
-    (cond (eqb c 82) (L.Of R)
+    cond (eqb c (byte "X")) (L.Of X)
+    (cond (eqb c (byte "C")) (L.Of C)
+    (cond (eqb c (byte "V")) (L.Of «V»)
+    (cond (eqb c (byte "N")) (L.Of N)
+    (cond (eqb c (byte "D")) (L.Of D)
+    (cond (eqb c (byte "R")) (L.Of R)
     L.Other)))))
 
 abbrev pub isDigit : ℕ → Bool
-isDigit c = leb 48 c && ltb c 58
+isDigit c = leb (byte "0") c && leb c (byte "9")
 
 abbrev pub allDigits : List ℕ → Bool
 allDigits [] = true
 allDigits (c ∷ cs) = isDigit c && allDigits cs
 
 -- there is a digit, and no leading zero but in `0` itself
-abbrev pub plain : List ℕ → Bool
-plain [] = false
-plain (c ∷ []) = true
-plain (c ∷ d ∷ cs) = cond (eqb c 48) false true
+abbrev pub noLeadingZero : List ℕ → Bool
+noLeadingZero [] = false
+noLeadingZero (c ∷ []) = true
+noLeadingZero (c ∷ d ∷ cs) = cond (eqb c (byte "0")) false true
 
 -- the number of decimal digits, after those that make n
 abbrev pub decimalFrom : ℕ → List ℕ → ℕ
 decimalFrom n [] = n
-decimalFrom n (c ∷ cs) = decimalFrom (n * 10 + (c - 48)) cs
+decimalFrom n (c ∷ cs) = decimalFrom (n * 10 + (c - byte "0")) cs
 
-abbrev pub decimal : List ℕ → ℕ
-decimal cs = decimalFrom 0 cs
+abbrev pub decimalValue : List ℕ → ℕ
+decimalValue cs = decimalFrom 0 cs
 
 -- a decimal number without a leading zero, below n
 abbrev pub numberBelow : ℕ → List ℕ → Bool
-numberBelow n cs = plain cs && allDigits cs && ltb (decimal cs) n
+numberBelow n cs = noLeadingZero cs && allDigits cs && ltb (decimalValue cs) n
 
 abbrev pub elementRule : List ℕ → Element
-elementRule cs = cond (numberBelow 256 cs) (E.At (decimal cs)) E.Other
+elementRule cs = cond (numberBelow 256 cs) (E.At (decimalValue cs)) E.Other
 
 -- the digits cs after a bank letter
-abbrev pub cellOf : List ℕ → Letter → Named
-cellOf cs (L.Of b) = cond (numberBelow (layoutOf b .elements) cs) (A.Cell b (decimal cs)) A.Other
-cellOf cs L.Other = A.Other
+abbrev pub cellAfterLetter : List ℕ → Letter → Named
+cellAfterLetter cs (L.Of b) = cond (numberBelow (layoutOf b .elements) cs) (A.Cell b (decimalValue cs)) A.Other
+cellAfterLetter cs L.Other = A.Other
 
 unfoldable pub namedRule : List ℕ → Named
 unfolding bankOf
 namedRule [] = A.Other
-namedRule (c ∷ cs) = cellOf cs (bankOf c)
+namedRule (c ∷ cs) = cellAfterLetter cs (bankOf c)
 
 -- X is read only
 abbrev pub storable : Named → Named

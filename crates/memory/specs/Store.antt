@@ -44,36 +44,36 @@ integerOf (Int z) = Whole z
 integerOf (Real x) = truncated x
 
 -- the pattern that a bank holds of a value that is finite
-abbrev pub encodeFinite : Bank → Value → Encoded
-encodeFinite X v = E.Pattern (boolPattern (truthRule v))
-encodeFinite C v = E.Pattern (boolPattern (truthRule v))
-encodeFinite «V» v = lowCut 16 (integerOf v)
-encodeFinite N v = lowCut 16 (integerOf v)
-encodeFinite D v = lowCut 32 (integerOf v)
-encodeFinite R v = E.Pattern (Ieee.toBits binary32 (asReal v))
+abbrev pub encodeFiniteCell : Bank → Value → Encoded
+encodeFiniteCell X v = E.Pattern (boolPattern (truthRule v))
+encodeFiniteCell C v = E.Pattern (boolPattern (truthRule v))
+encodeFiniteCell «V» v = lowCut 16 (integerOf v)
+encodeFiniteCell N v = lowCut 16 (integerOf v)
+encodeFiniteCell D v = lowCut 32 (integerOf v)
+encodeFiniteCell R v = E.Pattern (Ieee.toBits binary32 (asReal v))
 
 abbrev pub isFinite : Value → Bool
 isFinite (Int z) = true
 isFinite (Real x) = finite x
 
-abbrev pub encode : Bank → Value → Encoded
-encode b v = cond (isFinite v) (encodeFinite b v) (E.Stopped OutOfRange)
+abbrev pub encodeCell : Bank → Value → Encoded
+encodeCell b v = cond (isFinite v) (encodeFiniteCell b v) (E.Stopped OutOfRange)
 
 -- the flag's byte is 1, every other byte as it was
-abbrev pub flagged : List ℕ → Fault → List ℕ
-flagged s f = cond (eqb (length s) imageSize) (set s (flagAt f) 1) s
+abbrev pub withFlag : List ℕ → Fault → List ℕ
+withFlag s f = cond (eqb (length s) imageSize) (set s (flagAt f) 1) s
 
 -- `sets s at bs`: the bytes bs from the place at on, every other byte as it was
-abbrev pub written : List ℕ → Bank → ℕ → Encoded → List ℕ
-written s b i (E.Pattern p) = sets s (cellAt b i) (bytesOf (layoutOf b .width) p)
-written s b i (E.Stopped f) = flagged s f
+abbrev pub writeCell : List ℕ → Bank → ℕ → Encoded → List ℕ
+writeCell s b i (E.Pattern p) = sets s (cellAt b i) (bytesOf (layoutOf b .width) p)
+writeCell s b i (E.Stopped f) = withFlag s f
 
 abbrev pub storeImage : List ℕ → Bank → ℕ → Value → List ℕ
-storeImage s b i v = cond (hasCell s b i) (written s b i (encode b v)) (flagged s IndexError)
+storeImage s b i v = cond (hasCell s b i) (writeCell s b i (encodeCell b v)) (withFlag s IndexError)
 
 abbrev pub answerOf : Encoded → Stored
 answerOf (E.Pattern p) = S.Done
 answerOf (E.Stopped f) = S.Stopped f
 
 abbrev pub storeAnswer : List ℕ → Bank → ℕ → Value → Stored
-storeAnswer s b i v = cond (hasCell s b i) (answerOf (encode b v)) (S.Stopped IndexError)
+storeAnswer s b i v = cond (hasCell s b i) (answerOf (encodeCell b v)) (S.Stopped IndexError)

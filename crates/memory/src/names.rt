@@ -38,7 +38,7 @@ pub fn is_digit(b: u8) -> bool
     if b < 48 {
         return false;
     }
-    b < 58
+    b <= 57
 }
 
 // A decimal number below 256 without a leading zero. It is left early above that: more digits make no number smaller.

@@ -6,7 +6,7 @@ ghost use lib.ListN.{length};
 ghost use lib.Seq.{sets};
 ghost use Rattle.words.specs.Words.{bytesOf};
 ghost use Rattle.memory.specs.Layout.{hasCell};
-ghost use Rattle.memory.specs.Store.{boolPattern, lowCut, integerOf, isFinite, encode, flagged, written, storeAnswer, storeImage};
+ghost use Rattle.memory.specs.Store.{boolPattern, lowCut, integerOf, isFinite, encodeCell, withFlag, writeCell, storeAnswer, storeImage};
 use crate::Bank;
 use crate::IMAGE_SIZE;
 use values::Cut;
@@ -72,7 +72,7 @@ fn is_finite(v: Value) -> bool
 }
 
 pub fn pattern_of(bank: Bank, v: Value) -> Encoded
-    ensures { λ r. ⌜ r ≡ encode bank v ⌝ }
+    ensures { λ r. ⌜ r ≡ encodeCell bank v ⌝ }
 {
     if !is_finite(v) {
         return Encoded::Stopped(Fault::OutOfRange);
@@ -104,7 +104,7 @@ fn put32(image: &mut [u8], at: usize, n: u32)
 }
 
 pub fn set_flag(image: &mut [u8], f: Fault)
-    ensures { λ r. ⌜ now (image .exit) ≡ flagged (now (image .entry)) f ⌝ }
+    ensures { λ r. ⌜ now (image .exit) ≡ withFlag (now (image .entry)) f ⌝ }
 {
     if image.len() == IMAGE_SIZE {
         image[crate::flag_at(f)] = 1;
@@ -114,7 +114,7 @@ pub fn set_flag(image: &mut [u8], f: Fault)
 // The bytes of a cell that the image has.
 fn put(image: &mut [u8], bank: Bank, element: u32, pattern: u32)
     requires { ⌜ T (hasCell (now image) bank element) ⌝ }
-    ensures { λ r. ⌜ now (image .exit) ≡ written (now (image .entry)) bank element (Encoded.Pattern pattern) ⌝ }
+    ensures { λ r. ⌜ now (image .exit) ≡ writeCell (now (image .entry)) bank element (Encoded.Pattern pattern) ⌝ }
 {
     let row = crate::layout_of(bank);
     let at = row.place + (element as usize) * row.width;

@@ -10,7 +10,7 @@ use Rattle.memory.specs.Environment.{memoryOf}
 use Rattle.memory.proofs.Runs.{other-kept}
 use Rattle.grammar.specs.Tree.{Tree, treeKind}
 use Rattle.text.specs.Judge.{Judgement, accepted, refused}
-use Rattle.text.specs.Theorems.{Accepts}
+use Rattle.text.specs.Theorems.{AcceptedFormula}
 use Rattle.code.specs.Instructions.{instructions}
 use Rattle.code.proofs.Parts.{decode-length}
 use Rattle.machine.specs.Machine.{runs}
@@ -55,7 +55,7 @@ module _ (code : List ℕ) (n : ℕ) where
 
 -- ---- compiled code
 
-module _ {text : List ℕ} {t : Tree} (code : List ℕ) (a : Accepts text t) where
+module _ {text : List ℕ} {t : Tree} (code : List ℕ) (a : AcceptedFormula text t) where
   in-buffer : 16384 ≤ length code → Faithful text t (codedBytes code (accepted t)) (length (codeOf t))
   in-buffer room =
       let q = is-formula a in

@@ -1,4 +1,4 @@
--- Where a run ends well, what is stored or flagged: `Gives`. The target's element is one of its bank, so the store finds its cell.
+-- Where a run ends well, what is stored or flagged: `StoredOrFault`. The target's element is one of its bank, so the store finds its cell.
 use mathlib.Core.Path.{_≡_, refl}
 use mathlib.Core.Bool.{Bool, true, false, _&&_, cond, and-eq-true-iff}
 use mathlib.Core.List.{List, [], _∷_}
@@ -20,15 +20,15 @@ use Rattle.memory.specs.declared.names.Named.the-variants.{Cell, Other}
 use Rattle.memory.specs.declared.store.Encoded.{Encoded}
 use Rattle.memory.specs.declared.store.Encoded.the-variants as Encoded
 use Rattle.memory.specs.Layout.{imageSize, layoutOf, hasCell, flagAt}
-use Rattle.memory.specs.Names.{plain, allDigits, decimal, bankOf, numberBelow, cellOf, namedRule, storable, targetRule}
-use Rattle.memory.specs.Store.{encode, flagged, written, answerOf}
+use Rattle.memory.specs.Names.{noLeadingZero, allDigits, decimalValue, bankOf, numberBelow, cellAfterLetter, namedRule, storable, targetRule}
+use Rattle.memory.specs.Store.{encodeCell, withFlag, writeCell, answerOf}
 use Rattle.machine.specs.declared.Ended.{Ended}
 use Rattle.machine.specs.declared.Ended.the-variants as Ended
 use Rattle.verifier.specs.Safety.{EndsWell, value, fault}
-use Rattle.tree_code.specs.Demand.{endOf}
+use Rattle.machine.specs.Machine.{endOf}
 use Rattle.operations.specs.Operations.{afterStore, finished, memoryAfter}
 use Rattle.operations.specs.Terms as Term
-use Rattle.operations.specs.Terms.{Gives}
+use Rattle.operations.specs.Terms.{StoredOrFault}
 
 -- ---- the target
 
@@ -37,11 +37,11 @@ data Stands : Named → Type 0 where
   cell : (b : Bank) (i : ℕ) → i < layoutOf b .elements → Stands (Cell b i)
   other : Stands Other
 
-stands : (cs : List ℕ) (l : Letter) → Stands (cellOf cs l)
+stands : (cs : List ℕ) (l : Letter) → Stands (cellAfterLetter cs l)
 stands cs (L.Of b) = by (numberBelow (layoutOf b .elements) cs) refl
   where
-    by : (t : Bool) → numberBelow (layoutOf b .elements) cs ≡ t → Stands (cond t (Cell b (decimal cs)) Other)
-    by true e = cell b (decimal cs) (ltb-true (decimal cs) _ (and-eq-true-iff (plain cs && allDigits cs) _ .0 e .1))
+    by : (t : Bool) → numberBelow (layoutOf b .elements) cs ≡ t → Stands (cond t (Cell b (decimalValue cs)) Other)
+    by true e = cell b (decimalValue cs) (ltb-true (decimalValue cs) _ (and-eq-true-iff (noLeadingZero cs && allDigits cs) _ .0 e .1))
     by false e = other
 stands cs L.Other = other
 
@@ -76,16 +76,16 @@ ends-well (done v e) = value v e
 ends-well (stopped f) = fault f
 
 module _ (m : List ℕ) (b : Bank) (i n : ℕ) (size : length m ≡ imageSize) (element : i < layoutOf b .elements) where
-  flag : (f : FaultName) → flagged m f ≡ set m (flagAt f) 1
+  flag : (f : FaultName) → withFlag m f ≡ set m (flagAt f) 1
   flag f = rw (eq-eqb (length m) imageSize size)
 
   there : hasCell m b i ≡ true
   there = rw (eq-eqb (length m) imageSize size, lt-ltb i (layoutOf b .elements) element)
 
-  kept : (v : Value) (x : Encoded) → encode b v ≡ x → Gives m b i n (Ended.Done v) (afterStore v n (answerOf x)) (written m b i x)
+  kept : (v : Value) (x : Encoded) → encodeCell b v ≡ x → StoredOrFault m b i n (Ended.Done v) (afterStore v n (answerOf x)) (writeCell m b i x)
   kept v (Encoded.Pattern p) e = Term.stored e
   kept v (Encoded.Stopped f) e = rw (flag f) (Term.unstored e)
 
-  pub gives : {k : Kind} {e : Ended} → EndsWell k e → Gives m b i n e (finished m b i e n) (memoryAfter m b i e)
-  gives (value v e) = rw there (kept v (encode b v) refl)
+  pub gives : {k : Kind} {e : Ended} → EndsWell k e → StoredOrFault m b i n e (finished m b i e n) (memoryAfter m b i e)
+  gives (value v e) = rw there (kept v (encodeCell b v) refl)
   gives (fault f) = rw (flag f) Term.stopped

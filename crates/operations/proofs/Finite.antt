@@ -12,16 +12,15 @@ use Rattle.words.proofs.Laws.{word-laws}
 use Rattle.operators.specs.Laws.{Proper}
 use Rattle.memory.specs.Environment.{memoryOf}
 use Rattle.grammar.specs.Tree.{Tree}
-use Rattle.grammar.specs.Worth.{worth}
+use Rattle.grammar.specs.Eval.{eval}
 use Rattle.text.specs.Judge.{accepted}
-use Rattle.text.specs.Theorems.{Accepts}
+use Rattle.text.specs.Theorems.{AcceptedFormula}
 use Rattle.machine.specs.declared.Ended.{Ended}
-use Rattle.machine.specs.Machine.{runs}
+use Rattle.machine.specs.Machine.{runs, endOf}
 use Rattle.machine.proofs.Properness.{ProperEnd, value, fault, stuck, runs-proper}
 use Rattle.tree_code.specs.Code.{codeOf}
-use Rattle.tree_code.specs.Demand.{endOf}
 use Rattle.compiler.specs.Compile.{encoded, codedBytes}
-use Rattle.compiler.specs.Draft.{codeWords, wordBytes}
+use Rattle.compiler.specs.private.Draft.{codeWords, wordBytes}
 use Rattle.compiler.proofs.Bytes.{words-encoded}
 use Rattle.operations.specs.Terms.{Finite}
 use Rattle.operations.proofs.Requests.{run-tree}
@@ -70,7 +69,7 @@ enough n = omega (arith, length-replicate {A = ℕ} n 0)
 
 -- ---- a formula
 
-pub finite : {text : List ℕ} {t : Tree} (m : List ℕ) → Accepts text t → Bytes m → Finite (endOf (worth (memoryOf m) t))
+pub finite : {text : List ℕ} {t : Tree} (m : List ℕ) → AcceptedFormula text t → Bytes m → Finite (endOf (eval (memoryOf m) t))
 finite {text} {t} m a h =
     let code : List ℕ = replicate 16384 0 in
     let long : 16384 ≤ length code = enough 16384 in

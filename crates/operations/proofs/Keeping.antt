@@ -16,7 +16,7 @@ use Rattle.memory.specs.declared.names.Named.{Named}
 use Rattle.memory.specs.declared.names.Named.the-variants.{Cell, Other}
 use Rattle.memory.specs.Layout.{imageSize, layoutOf, cellAt, flagAt}
 use Rattle.memory.specs.Names.{targetRule}
-use Rattle.memory.specs.Laws.{Within}
+use Rattle.memory.specs.Laws.{InCell}
 use Rattle.memory.specs.Environment.{memoryOf}
 use Rattle.memory.proofs.Kept.{cell-kept}
 use Rattle.text.specs.Judge.{Judgement, accepted, refused, judge}
@@ -35,8 +35,8 @@ use Rattle.operations.specs.declared.Answer.{Answer}
 use Rattle.operations.specs.declared.Answer.the-variants.{Done, Fault, Refused}
 use Rattle.operations.specs.Operations.{compileAnswer, verdictAnswer, checkAnswer, Goal, to, none, goal, ranAnswer, ranMemory, runAnswer, runMemory}
 use Rattle.operations.specs.Operations.{Request, ofTarget, ofText, request, performed, performedMemory, performedCode}
-use Rattle.operations.specs.Terms.{compiled, compiledCode, Refusal, Gives, stored, unstored, stopped}
-use Rattle.operations.specs.Promises.{Operation, compile, check, run, compile-and-run, resultOf, Keeps}
+use Rattle.operations.specs.Terms.{compiled, compiledCode, Refusal, StoredOrFault, stored, unstored, stopped}
+use Rattle.operations.specs.Promises.{Operation, compile, check, run, compile-and-run, resultOf, FrameConditions}
 use Rattle.operations.proofs.Numbers.{either, Numbered, formula, three-to-nine, numbered, fault-range, no-fault, own-number}
 use Rattle.operations.proofs.Verdicts.{Aims, at-cell, at-none, aims}
 use Rattle.operations.proofs.Requests.{no-memory, no-room, named}
@@ -44,7 +44,7 @@ use Rattle.operations.proofs.Endings.{target-element, ends-well, gives}
 
 -- the byte k is none of the target's cell
 abbrev Elsewhere : List ℕ → ℕ → Type 0
-Elsewhere target k = (b : Bank) (i : ℕ) → targetRule target ≡ Cell b i → Within b i k → ⊥
+Elsewhere target k = (b : Bank) (i : ℕ) → targetRule target ≡ Cell b i → InCell b i k → ⊥
 
 data Sorted (target m code : List ℕ) : Answer → List ℕ → List ℕ → Type 0 where
   done : {v : Value} {n : ℕ} {m′ code′ : List ℕ} → ((k : ℕ) → Elsewhere target k → getD m′ k 0 ≡ getD m k 0) → length m′ ≡ length m → length code′ ≡ length code
@@ -57,7 +57,7 @@ data Sorted (target m code : List ℕ) : Answer → List ℕ → List ℕ → Ty
 small : (a : ℕ) → Refusal a → a ≤ 15
 small a (l, h) = ⊎-elim (λ l. omega arith) (λ l. omega arith) h
 
-keeps : {target m code m′ code′ : List ℕ} {r : Answer} → Sorted target m code r m′ code′ → Keeps target m code (record { answer = r; memory = m′; code = code′ })
+keeps : {target m code m′ code′ : List ℕ} {r : Answer} → Sorted target m code r m′ code′ → FrameConditions target m code (record { answer = r; memory = m′; code = code′ })
 keeps (done h l w) = record {
   listed = omega arith;
   refused = λ x. absurd (omega arith);
@@ -87,7 +87,7 @@ module _ (target m code : List ℕ) where
   low a p l h = refusal a p (l, inl h)
 
   -- after a run that ends well
-  sorted-end : {b : Bank} {i n : ℕ} {e : Ended} {r : Answer} {m′ code′ : List ℕ} → targetRule target ≡ Cell b i → length code′ ≡ length code → Gives m b i n e r m′
+  sorted-end : {b : Bank} {i n : ℕ} {e : Ended} {r : Answer} {m′ code′ : List ℕ} → targetRule target ≡ Cell b i → length code′ ≡ length code → StoredOrFault m b i n e r m′
       → Sorted target m code r m′ code′
   sorted-end {b} {i} t w (stored {p = p} e) = done (λ k h. cell-kept m b i p k (h b i t)) (length-sets m (cellAt b i) (bytesOf (layoutOf b .width) p)) w
   sorted-end t w (unstored e) = fault w
@@ -145,7 +145,7 @@ module _ (target m code : List ℕ) where
       by (yes h) (yes l) = subst⁻¹ Performs (no-room target text m code h l) (low 10 0 (omega arith) (omega arith))
       by (yes h) (no l) = subst⁻¹ Performs (named target text m code h (omega arith) refl) (sorted-target text h (targetRule target) refl)
 
-pub kept : (o : Operation) (target m code : List ℕ) → Keeps target m code (resultOf o target m code)
+pub kept : (o : Operation) (target m code : List ℕ) → FrameConditions target m code (resultOf o target m code)
 kept (compile text) target m code = keeps (sorted-compile target m code text)
 kept (check n) target m code = keeps (sorted-check target m code n)
 kept (run n) target m code = keeps (sorted-run target m code n)

@@ -14,20 +14,20 @@ use Rattle.memory.specs.declared.names.Letter.{Letter}
 use Rattle.memory.specs.declared.names.Letter.the-variants as L
 use Rattle.memory.specs.declared.names.Named.{Named}
 use Rattle.memory.specs.declared.names.Named.the-variants as A
-use Rattle.memory.specs.Names.{isDigit, decimal, bankOf, namedRule}
+use Rattle.memory.specs.Names.{isDigit, decimalValue, bankOf, namedRule}
 use Rattle.tokens.specs.declared.Function.{Function}
 use Rattle.tokens.specs.declared.Token.{Token}
 use Rattle.tokens.specs.declared.Scanned.{Scanned}
 use Rattle.tokens.specs.declared.Scanned.the-variants.{Good, Bad}
 use Rattle.tokens.specs.Bytes.{all, isLetter, isWord, isRun, runLen}
-use Rattle.tokens.specs.Symbols.{same, symbolCount, longest}
-use Rattle.tokens.specs.Numerals.{some, digits, isHex, isHexRun, hexOf, notDot, realOf, numeralOf}
-use Rattle.tokens.specs.Words.{nameOf, named, functions, letterWord, cellWord, otherWord, wordOf}
-use Rattle.tokens.specs.Scan.{Lexeme, Found, Wrong, End, lexeme, lexemeOf, blanks, lexemeAt, Tok, Scan, tokens, wrong, before, scanFrom, scan}
+use Rattle.tokens.specs.Symbols.{equalBytes, symbolCount, longest}
+use Rattle.tokens.specs.Numerals.{nonEmpty, digits, isHex, isHexRun, hexOf, notDot, realOf, numeralOf}
+use Rattle.tokens.specs.Words.{nameOf, functionNamed, functions, letterWord, cellWord, otherWord, wordToken}
+use Rattle.tokens.specs.Scan.{Lexeme, Found, Wrong, End, lexeme, lexemeOf, blanks, lexemeAt, Tok, Scan, tokens, wrong, consToken, scanFrom, scan}
 use Rattle.grammar.specs.Tree.{Tree}
 use Rattle.text.specs.Judge.{Judgement, accepted, refused}
 use Rattle.text.specs.Theorems as Text
-use Rattle.text.specs.Theorems.{Outcome}
+use Rattle.text.specs.Theorems.{HasJudgement}
 
 -- ---- what holds of both choices holds of the one that a test makes
 pub either : {A : Type 0} (P : A → Type 0) (t : Bool) {x y : A} → P x → P y → P (cond t x y)
@@ -53,14 +53,14 @@ six : Marked (Bad 6)
 six = bad 6 (omega arith, omega arith)
 
 hex : (cs : List ℕ) → Marked (hexOf cs)
-hex cs = either Marked (some cs && all isHex cs) (either Marked (leb (length cs) 8) good five) four
+hex cs = either Marked (nonEmpty cs && all isHex cs) (either Marked (leb (length cs) 8) good five) four
 
 real : (whole part : List ℕ) → Marked (realOf whole part)
 real whole part = either Marked (digits whole && digits part) (either Marked (leb (length whole + length part) 7) good five) four
 
 numeral : (cs : List ℕ) → Marked (numeralOf cs)
 numeral cs =
-    either Marked (digits cs) (either Marked (leb (decimal cs) 2147483647) good five)
+    either Marked (digits cs) (either Marked (leb (decimalValue cs) 2147483647) good five)
     (either Marked (isHexRun cs) (hex (drop 2 cs)) (real (take (runLen notDot cs) cs) (drop (suc (runLen notDot cs)) cs)))
 
 letter : (l : Letter) → Marked (letterWord l)
@@ -77,12 +77,12 @@ another [] = six
 another (c ∷ []) = letter (bankOf c)
 another (c ∷ d ∷ cs) = cell (namedRule (c ∷ d ∷ cs))
 
-name : (fs : List Function) (cs : List ℕ) {o : Scanned} → Marked o → Marked (named fs cs o)
+name : (fs : List Function) (cs : List ℕ) {o : Scanned} → Marked o → Marked (functionNamed fs cs o)
 name [] cs w = w
-name (f ∷ fs) cs w = either Marked (same (nameOf f) cs) good (name fs cs w)
+name (f ∷ fs) cs w = either Marked (equalBytes (nameOf f) cs) good (name fs cs w)
 
-word : (cs : List ℕ) → Marked (wordOf cs)
-unfolding wordOf
+word : (cs : List ℕ) → Marked (wordToken cs)
+unfolding wordToken
 word cs = name functions cs (another cs)
 
 data Told : Lexeme → Type 0 where
@@ -106,7 +106,7 @@ data Read : Scan → Type 0 where
   whole : {ts : List Tok} → Read (tokens ts)
   broken : (a p : ℕ) → Bound a → Read (wrong a p)
 
-after : (t : Tok) {x : Scan} → Read x → Read (before t x)
+after : (t : Tok) {x : Scan} → Read x → Read (consToken t x)
 after t whole = whole
 after t (broken a p b) = broken a p b
 
@@ -116,7 +116,7 @@ scans zero s at = whole
 scans (suc f) s at = next (lexemeAt s at) (lexemes (drop (at + blanks s at) s) (at + blanks s at)) (λ e. scans f s e)
   where
     next : (l : Lexeme) → Told l → ((e : ℕ) → Read (scanFrom f s e))
-        → Read (elim l as (λ _. Scan) [ Found t p e ↦ before (record { token = t; place = p }) (scanFrom f s e) | Wrong a p ↦ wrong a p | End ↦ tokens [] ])
+        → Read (elim l as (λ _. Scan) [ Found t p e ↦ consToken (record { token = t; place = p }) (scanFrom f s e) | Wrong a p ↦ wrong a p | End ↦ tokens [] ])
     next (Found t p e) found rest = after (record { token = t; place = p }) (rest e)
     next (Wrong _ _) (wrong-at a p b) rest = broken a p b
     next End end rest = whole
@@ -131,7 +131,7 @@ wrong-number : {a p : ℕ} (x : Scan) → Read x → x ≡ wrong a p → Numbere
 wrong-number x whole e = let z : _≡_ {A = ℕ} 0 1 = cc in absurd (omega arith)
 wrong-number {a} {p} x (broken b q h) e = let z : b ≡ a = cc in three-to-nine a p (omega arith) (omega arith)
 
-pub numbered : {s : List ℕ} {j : Judgement} → Outcome s j → Numbered j
+pub numbered : {s : List ℕ} {j : Judgement} → HasJudgement s j → Numbered j
 numbered (Text.wrong-size h) = three-to-nine 3 0 (omega arith) (omega arith)
 numbered {s} (Text.wrong-token h e) = wrong-number (scan s) (scans (suc (length s)) s 0) e
 numbered {s} (Text.wrong-end w r v n l) = three-to-nine 7 (length s) (omega arith) (omega arith)

@@ -15,15 +15,14 @@ use Rattle.memory.specs.Layout.{imageSize}
 use Rattle.memory.specs.Names.{targetRule}
 use Rattle.memory.specs.Environment.{memoryOf}
 use Rattle.grammar.specs.Tree.{Tree}
-use Rattle.grammar.specs.Worth.{worth}
+use Rattle.grammar.specs.Eval.{eval}
 use Rattle.text.specs.Judge.{Judgement, accepted, refused, judge}
 use Rattle.machine.specs.declared.Ran.{Ran}
-use Rattle.machine.specs.Machine.{exec, runs}
+use Rattle.machine.specs.Machine.{exec, runs, endOf}
 use Rattle.verifier.proofs.Safe.{memory-kinded}
 use Rattle.compiler.specs.declared.Coded.{Coded}
 use Rattle.compiler.specs.declared.Coded.the-variants as Coded
 use Rattle.tree_code.specs.Code.{codeOf}
-use Rattle.tree_code.specs.Demand.{endOf}
 use Rattle.compiler.specs.Compile.{compiling, codedAnswer, codedBytes}
 use Rattle.compiler.proofs.Theorems.{compile-theorems}
 use Rattle.operations.specs.declared.Answer.{Answer}
@@ -73,7 +72,7 @@ module _ (s : List ℕ) (t : Tree) (e : judge s ≡ accepted t) (m : List ℕ) w
   pub run-code : (code : List ℕ) → 16384 ≤ length code → runs (codedBytes code (accepted t)) (length (codeOf t)) m ≡ exec (memoryOf m) (codeOf t) 0 []
   run-code code h = ap (λ c. exec (memoryOf m) c 0 []) (compile-theorems .there s code t e h)
 
-  pub run-tree : (code : List ℕ) → 16384 ≤ length code → runs (codedBytes code (accepted t)) (length (codeOf t)) m .end ≡ endOf (worth (memoryOf m) t)
+  pub run-tree : (code : List ℕ) → 16384 ≤ length code → runs (codedBytes code (accepted t)) (length (codeOf t)) m .end ≡ endOf (eval (memoryOf m) t)
   run-tree code h = ap (λ x. x .end) (run-code code h) ∙ compile-theorems .demand s t e .same (memoryOf m) (memory-kinded m)
 
 -- the judgement j of the text s was compiled, and what was written was run on m; then came the store or the flag

@@ -9,7 +9,7 @@ use Rattle.memory.specs.Environment.{memoryOf}
 use Rattle.memory.proofs.Runs.{run-written}
 use Rattle.grammar.specs.Tree.{Tree}
 use Rattle.text.specs.Judge.{accepted, judge}
-use Rattle.text.specs.Theorems.{Accepts}
+use Rattle.text.specs.Theorems.{AcceptedFormula}
 use Rattle.code.specs.Instructions.{instructions}
 use Rattle.machine.specs.Machine.{runs}
 use Rattle.verifier.proofs.Safe.{safe, memory-kinded}
@@ -20,7 +20,7 @@ use Rattle.compiler.proofs.Bytes.{encoded-length}
 use Rattle.compiler.proofs.Theorems as Compile
 use Rattle.operations.specs.Operations.{checkAnswer, to, goal, finished, memoryAfter, ranAnswer, ranMemory}
 use Rattle.operations.specs.Operations.{runAnswer, runMemory, performed, performedMemory}
-use Rattle.operations.specs.Terms.{compiled, compiledCode, doneWith, Ready, Room, Gives}
+use Rattle.operations.specs.Terms.{compiled, compiledCode, doneWith, Ready, Room, StoredOrFault}
 use Rattle.operations.specs.Promises.{run, compile-and-run, resultOf, Agree}
 use Rattle.operations.proofs.Verdicts.{accepted-by, named, Finishes}
 use Rattle.operations.proofs.Requests.{run-code, written}
@@ -45,15 +45,15 @@ module _ {target m : List ℕ} {b : Bank} {i : ℕ} (ready : Ready target m b i)
     finishes : Finishes m b i (runs code n m) (runAnswer code n target m) (runMemory code n target m)
     finishes = let g = the-goal code n e in (ap (ranAnswer m (runs code n m)) g, ap (ranMemory m (runs code n m)) g)
 
-    pub runs-code : Gives m b i (runs code n m .count) (runs code n m .end) (runAnswer code n target m) (runMemory code n target m)
+    pub runs-code : StoredOrFault m b i (runs code n m .count) (runs code n m .end) (runAnswer code n target m) (runMemory code n target m)
     runs-code =
         let a = accepted-by code n e in
         let w = safe .ends (memoryOf m) (instructions code n) (a .0) (memory-kinded m) (a .1) in
         let x = runs code n m in
-        subst⁻¹ (λ g. Gives m b i (x .count) (x .end) (ranAnswer m x g) (ranMemory m x g)) (the-goal code n e)
+        subst⁻¹ (λ g. StoredOrFault m b i (x .count) (x .end) (ranAnswer m x g) (ranMemory m x g)) (the-goal code n e)
         (gives m b i (x .count) (ready .memory) (target-element target (ready .cell)) w)
 
-  agree : {text : List ℕ} {t : Tree} (desk box : List ℕ) {n : ℕ} → Accepts text t → Room box → compiled text desk ≡ doneWith n
+  agree : {text : List ℕ} {t : Tree} (desk box : List ℕ) {n : ℕ} → AcceptedFormula text t → Room box → compiled text desk ≡ doneWith n
       → Agree n (resultOf (run n) target m (compiledCode text desk)) (resultOf (compile-and-run text) target m box)
   agree {text} {t} desk box {n} a room e =
       let q = is-formula a in

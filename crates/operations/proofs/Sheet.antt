@@ -2,17 +2,17 @@
 use mathlib.Core.Path.{refl}
 use lib.Ieee as Ieee
 use Rattle.memory.specs.Names.{bankOf, namedRule}
-use Rattle.tokens.specs.Words.{otherWord, wordOf}
+use Rattle.tokens.specs.Words.{otherWord, wordToken}
 use Rattle.tokens.specs.Scan.{lexemeOf, scanFrom}
 use Rattle.grammar.specs.Symbols.{groupNumber}
 use Rattle.grammar.specs.Tree.{treeKind, wrongKind}
 use Rattle.grammar.specs.Parse.{expression, parse}
-use Rattle.grammar.specs.Worth.{worth}
-use Rattle.text.specs.Judge.{ofParse, ofScan, judge}
+use Rattle.grammar.specs.Eval.{eval}
+use Rattle.text.specs.Judge.{judgeParse, judgeScan, judge}
 use Rattle.machine.specs.Machine.{exec, act}
 use Rattle.tree_code.specs.Code.{codeOf}
-use Rattle.operations.specs.Sheet.{Sums, sheet, ascii}
+use Rattle.operations.specs.Sheet.{Sums, sheet}
 
 pub sums : Sums sheet
-unfolding Ieee.ofBits Ieee.toBits Ieee.ofInt Ieee.add Ieee.div Ieee.eq ascii bankOf namedRule otherWord wordOf lexemeOf scanFrom groupNumber treeKind wrongKind expression parse worth ofParse ofScan judge exec act codeOf
+unfolding Ieee.ofBits Ieee.toBits Ieee.ofInt Ieee.add Ieee.div Ieee.eq bankOf namedRule otherWord wordToken lexemeOf scanFrom groupNumber treeKind wrongKind expression parse eval judgeParse judgeScan judge exec act codeOf
 sums = (refl, (refl, (refl, (refl, (refl, (refl, (refl, (refl, (refl, (refl, (refl, (refl, tt))))))))))))

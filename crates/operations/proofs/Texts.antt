@@ -8,26 +8,25 @@ use lib.ListN.{length}
 use Rattle.memory.specs.declared.Bank.{Bank}
 use Rattle.memory.specs.Environment.{memoryOf}
 use Rattle.grammar.specs.Tree.{Tree}
-use Rattle.grammar.specs.Worth.{worth}
+use Rattle.grammar.specs.Eval.{eval}
 use Rattle.text.specs.Judge.{Judgement, accepted, refused, judge}
-use Rattle.text.specs.Theorems.{Accepts}
+use Rattle.text.specs.Theorems.{AcceptedFormula}
 use Rattle.text.proofs.Theorems.{text-theorems}
 use Rattle.machine.specs.declared.Ended.{Ended}
-use Rattle.machine.specs.Machine.{runs}
+use Rattle.machine.specs.Machine.{runs, endOf}
 use Rattle.verifier.proofs.Safe.{memory-kinded}
 use Rattle.tree_code.specs.Code.{codeOf}
-use Rattle.tree_code.specs.Demand.{endOf}
 use Rattle.compiler.specs.Compile.{codedBytes}
 use Rattle.compiler.proofs.Theorems.{compile-theorems}
 use Rattle.operations.specs.declared.Answer.{Answer}
 use Rattle.operations.specs.declared.Answer.the-variants.{Refused}
 use Rattle.operations.specs.Operations.{compileAnswer, ofText, request, performed, performedMemory, performedCode}
-use Rattle.operations.specs.Terms.{compiled, compiledCode, doneWith, number, Refusal, Ready, Room, Gives, stored, unstored, stopped}
+use Rattle.operations.specs.Terms.{compiled, compiledCode, doneWith, answerNumber, Refusal, Ready, Room, StoredOrFault, stored, unstored, stopped}
 use Rattle.operations.proofs.Numbers.{Numbered, three-to-nine, numbered, no-fault}
 use Rattle.operations.proofs.Endings.{target-element, ends-well, gives}
 use Rattle.operations.proofs.Requests.{named, with-room, has-room, written}
 
-pub is-formula : {text : List ℕ} {t : Tree} → Accepts text t → judge text ≡ accepted t
+pub is-formula : {text : List ℕ} {t : Tree} → AcceptedFormula text t → judge text ≡ accepted t
 is-formula {text} {t} a = text-theorems .accepts text t .1 a
 
 -- the number that refuses a text
@@ -37,45 +36,45 @@ low text q = of (subst Numbered q (numbered (text-theorems .outcome text)))
     of : {a p : ℕ} → Numbered (refused a p) → (3 ≤ a) × (a ≤ 9)
     of (three-to-nine a p l h) = (l, h)
 
-pub compiles : (text code : List ℕ) → 16384 ≤ length code → number (compiled text code) ≡ 0 ↔ ((t : Tree) × Accepts text t)
+pub compiles : (text code : List ℕ) → 16384 ≤ length code → answerNumber (compiled text code) ≡ 0 ↔ ((t : Tree) × AcceptedFormula text t)
 compiles text code h = rw (with-room code text h) (only (judge text) refl, λ x. rw (is-formula (x .1)) refl)
   where
-    only : (j : Judgement) → judge text ≡ j → number (compileAnswer j) ≡ 0 → (t : Tree) × Accepts text t
+    only : (j : Judgement) → judge text ≡ j → answerNumber (compileAnswer j) ≡ 0 → (t : Tree) × AcceptedFormula text t
     only (accepted t) q e = (t, text-theorems .accepts text t .0 q)
     only (refused a p) q e = absurd (omega (arith, low text q))
 
 -- a run that ends well is no refusal
-no-refusal : {m m′ : List ℕ} {b : Bank} {i n : ℕ} {e : Ended} {r : Answer} → Gives m b i n e r m′ → Refusal (number r) → ⊥
+no-refusal : {m m′ : List ℕ} {b : Bank} {i n : ℕ} {e : Ended} {r : Answer} → StoredOrFault m b i n e r m′ → Refusal (answerNumber r) → ⊥
 no-refusal (stored e) x = omega arith
 no-refusal (unstored {f = f} e) x = no-fault f (x .1) refl
 no-refusal (stopped {f}) x = no-fault f (x .1) refl
 
 -- what compile takes is a formula
-pub formula : (text code : List ℕ) {n : ℕ} → compiled text code ≡ doneWith n → (t : Tree) × Accepts text t
-formula text code e = compiles text code (has-room code text e) .0 (ap number e)
+pub formula : (text code : List ℕ) {n : ℕ} → compiled text code ≡ doneWith n → (t : Tree) × AcceptedFormula text t
+formula text code e = compiles text code (has-room code text e) .0 (ap answerNumber e)
 
 module _ {target m : List ℕ} {b : Bank} {i : ℕ} (ready : Ready target m b i) where
   the-text : (text code : List ℕ) → Room code → request target text m code ≡ ofText code b i (judge text)
   the-text text code room = named target text m code (ready .memory) room (ready .cell)
 
-  pub the-tree : {text : List ℕ} {t : Tree} (code : List ℕ) → Room code → Accepts text t → request target text m code ≡ ofText code b i (accepted t)
+  pub the-tree : {text : List ℕ} {t : Tree} (code : List ℕ) → Room code → AcceptedFormula text t → request target text m code ≡ ofText code b i (accepted t)
   the-tree {text} code room a = the-text text code room ∙ ap (ofText code b i) (is-formula a)
 
-  pub answers : {text : List ℕ} {t : Tree} {n : ℕ} (code : List ℕ) → Accepts text t → compiled text code ≡ doneWith n
-      → Gives m b i (runs (compiledCode text code) n m .count) (endOf (worth (memoryOf m) t))
+  pub answers : {text : List ℕ} {t : Tree} {n : ℕ} (code : List ℕ) → AcceptedFormula text t → compiled text code ≡ doneWith n
+      → StoredOrFault m b i (runs (compiledCode text code) n m .count) (endOf (eval (memoryOf m) t))
       (performed m (request target text m code)) (performedMemory m (request target text m code))
   answers {text} {t} code a e =
       let w = written text code (is-formula a) e in
       let kind = compile-theorems .demand text t (is-formula a) .kind (memoryOf m) (memory-kinded m) in
       rw (the-tree code (w .room) a, w .bytes, ← w .count) (gives m b i _ (ready .memory) (target-element target (ready .cell)) (ends-well kind))
 
-  pub performs : (text code : List ℕ) → Room code → (Refusal (number (performed m (request target text m code))) → ⊥) ↔ ((t : Tree) × Accepts text t)
+  pub performs : (text code : List ℕ) → Room code → (Refusal (answerNumber (performed m (request target text m code))) → ⊥) ↔ ((t : Tree) × AcceptedFormula text t)
   performs text code room = (rw (the-text text code room) (only (judge text) refl), λ x. no-refusal (answers code (x .1) (taken (x .1))))
     where
-      taken : {t : Tree} → Accepts text t → compiled text code ≡ doneWith (length (codeOf t))
+      taken : {t : Tree} → AcceptedFormula text t → compiled text code ≡ doneWith (length (codeOf t))
       taken a = ap compileAnswer (with-room code text room ∙ is-formula a)
 
-      only : (j : Judgement) → judge text ≡ j → (Refusal (number (performed m (ofText code b i j))) → ⊥) → (t : Tree) × Accepts text t
+      only : (j : Judgement) → judge text ≡ j → (Refusal (answerNumber (performed m (ofText code b i j))) → ⊥) → (t : Tree) × AcceptedFormula text t
       only (accepted t) q e = (t, text-theorems .accepts text t .0 q)
       only (refused a p) q e = absurd (let h = low text q in e (omega arith, inl (omega arith)))
 

@@ -16,21 +16,20 @@ use Rattle.memory.specs.declared.store.Stored.{Stored}
 use Rattle.memory.specs.declared.store.Stored.the-variants as Stored
 use Rattle.memory.specs.Layout.{imageSize}
 use Rattle.memory.specs.Names.{targetRule}
-use Rattle.memory.specs.Store.{flagged, storeAnswer, storeImage}
+use Rattle.memory.specs.Store.{withFlag, storeAnswer, storeImage}
 use Rattle.memory.specs.Environment.{memoryOf}
 use Rattle.grammar.specs.Tree.{Tree}
-use Rattle.grammar.specs.Worth.{worth}
+use Rattle.grammar.specs.Eval.{eval}
 use Rattle.text.specs.Judge.{Judgement, accepted, refused, judge}
 use Rattle.code.specs.Instructions.{instructions}
 use Rattle.machine.specs.declared.Ended.{Ended}
 use Rattle.machine.specs.declared.Ended.the-variants as Ended
 use Rattle.machine.specs.declared.Ran.{Ran}
-use Rattle.machine.specs.Machine.{runs}
+use Rattle.machine.specs.Machine.{runs, endOf}
 use Rattle.verifier.specs.declared.Verdict.{Verdict}
 use Rattle.verifier.specs.declared.Verdict.the-variants as Verdict
 use Rattle.verifier.specs.Verdicts.{verdict}
 use Rattle.tree_code.specs.Code.{codeOf}
-use Rattle.tree_code.specs.Demand.{endOf}
 use Rattle.compiler.specs.Compile.{codedBytes}
 use Rattle.operations.specs.declared.Answer.{Answer}
 use Rattle.operations.specs.declared.Answer.the-variants.{Done, Fault, Refused}
@@ -73,7 +72,7 @@ finished m b i Ended.Stuck n = Refused 15 0
 -- "11 to 14 set their flag's byte to 1 and change nothing else in memory"
 abbrev pub memoryAfter : List ℕ → Bank → ℕ → Ended → List ℕ
 memoryAfter m b i (Ended.Done v) = storeImage m b i v
-memoryAfter m b i (Ended.Stopped f) = flagged m f
+memoryAfter m b i (Ended.Stopped f) = withFlag m f
 memoryAfter m b i Ended.Stuck = m
 
 -- where a run's value goes, or the first refusal in the order 1 "memory not 3,204 bytes", 2 "target is not exactly one word that is a C, V, N, D or R cell, no
@@ -127,11 +126,11 @@ request target text m code = cond (eqb (length m) imageSize) (cond (ltb (length 
 
 -- "Its answer, or its fault, is the one that the written rules give" for the tree; the count is that of a run of the code
 abbrev pub performed : List ℕ → Request → Answer
-performed m (stores b i t code n) = finished m b i (endOf (worth (memoryOf m) t)) (runs code n m .count)
+performed m (stores b i t code n) = finished m b i (endOf (eval (memoryOf m) t)) (runs code n m .count)
 performed m (stops a p) = Refused a p
 
 abbrev pub performedMemory : List ℕ → Request → List ℕ
-performedMemory m (stores b i t code n) = memoryAfter m b i (endOf (worth (memoryOf m) t))
+performedMemory m (stores b i t code n) = memoryAfter m b i (endOf (eval (memoryOf m) t))
 performedMemory m (stops a p) = m
 
 -- "Compile-and-run writes the code on 0 and on 11 to 14"

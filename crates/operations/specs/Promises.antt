@@ -1,6 +1,6 @@
 -- The user's three demands, as theorems about the four operations: read this first. `resultOf` gathers the operations' contracts of src/lib.rt; that each of
--- them ends, whatever it is given, is part of every function's proof. What is written, the demands' word, is `Accepts` and `Outcome` for texts, `worth` for
--- trees and `Code.Accepts` for code. proofs/Promises.antt proves `Promises`.
+-- them ends, whatever it is given, is part of every function's proof. What is written, the demands' word, is `AcceptedFormula` and `HasJudgement` for texts,
+-- `eval` for trees and `Code.Accepts` for code. proofs/Promises.antt proves `Promises`.
 use mathlib.Core.Path.{_≡_}
 use mathlib.Core.Logic.{_↔_}
 use mathlib.Core.List.{List}
@@ -14,20 +14,19 @@ use Rattle.memory.specs.declared.Bank.{Bank}
 use Rattle.memory.specs.declared.names.Named.the-variants.{Cell}
 use Rattle.memory.specs.Layout.{flagAt}
 use Rattle.memory.specs.Names.{targetRule}
-use Rattle.memory.specs.Laws.{Within}
+use Rattle.memory.specs.Laws.{InCell}
 use Rattle.memory.specs.Environment.{memoryOf}
 use Rattle.grammar.specs.Tree.{Tree, treeKind}
-use Rattle.grammar.specs.Worth.{worth}
-use Rattle.text.specs.Judge.{judge}
-use Rattle.text.specs.Theorems.{Accepts, Outcome}
+use Rattle.grammar.specs.Eval.{eval}
+use Rattle.text.specs.Judge.{Judgement, refused, judge}
+use Rattle.text.specs.Theorems.{AcceptedFormula, HasJudgement}
 use Rattle.code.specs.Instructions.{instructions}
-use Rattle.machine.specs.Machine.{runs}
+use Rattle.machine.specs.Machine.{runs, endOf}
 use Rattle.verifier.specs.Accepts as Code
-use Rattle.tree_code.specs.Demand.{endOf}
 use Rattle.operations.specs.declared.Answer.{Answer}
 use Rattle.operations.specs.declared.Answer.the-variants.{Refused}
 use Rattle.operations.specs.Operations.{checkAnswer, runAnswer, runMemory, request, performed, performedMemory, performedCode}
-use Rattle.operations.specs.Terms.{compiled, compiledCode, doneWith, number, Refusal, Ready, Room, Gives, Finite, Ends}
+use Rattle.operations.specs.Terms.{compiled, compiledCode, doneWith, answerNumber, Refusal, Ready, Room, StoredOrFault, Finite, Ends}
 
 -- "compile alone (expression, code buffer), check (code buffer, number of instructions), run (those, memory, target), and compile-and-run (all but the number)"
 pub data Operation : Type 0 where
@@ -53,22 +52,22 @@ resultOf (compile-and-run text) target m code =
     record { answer = performed m q; memory = performedMemory m q; code = performedCode code q }
 
 -- demand 1, of an operation's result
-pub record Keeps (target m code : List ℕ) (x : OperationResult) : Type 0 where
+pub record FrameConditions (target m code : List ℕ) (x : OperationResult) : Type 0 where
   -- "each operation ends with an answer from the numbered list"
-  pub listed : number (x .answer) ≤ 15
+  pub listed : answerNumber (x .answer) ≤ 15
   -- "A refusal of the request writes nothing."
-  pub refused : Refusal (number (x .answer)) → (x .memory ≡ m) × (x .code ≡ code)
+  pub refused : Refusal (answerNumber (x .answer)) → (x .memory ≡ m) × (x .code ≡ code)
   -- "In the memory, a fault of a run, its store included, turns on its one flag and writes nothing else,"
-  pub fault : (f : Fault) → number (x .answer) ≡ faultNumber f → x .memory ≡ set m (flagAt f) 1
+  pub fault : (f : Fault) → answerNumber (x .answer) ≡ faultNumber f → x .memory ≡ set m (flagAt f) 1
   -- "and a successful run writes the target cell only."
-  pub done : number (x .answer) ≡ 0 → (k : ℕ) → ((b : Bank) (i : ℕ) → targetRule target ≡ Cell b i → Within b i k → ⊥) → getD (x .memory) k 0 ≡ getD m k 0
+  pub done : answerNumber (x .answer) ≡ 0 → (k : ℕ) → ((b : Bank) (i : ℕ) → targetRule target ≡ Cell b i → InCell b i k → ⊥) → getD (x .memory) k 0 ≡ getD m k 0
   -- neither grows nor shrinks
   pub sizes : (length (x .memory) ≡ length m) × (length (x .code) ≡ length code)
 
 -- demand 3, of n instructions compiled from a text whose tree is t
 pub record Faithful (text : List ℕ) (t : Tree) (code : List ℕ) (n : ℕ) : Type 0 where
   -- "its compiled code gives what the written rules give for the formula's tree on that memory"
-  pub same : (m : List ℕ) → runs code n m .end ≡ endOf (worth (memoryOf m) t)
+  pub same : (m : List ℕ) → runs code n m .end ≡ endOf (eval (memoryOf m) t)
   -- "The code check accepts that code,"
   pub accepted : checkAnswer code n ≡ doneWith 0
   -- "which executes at most two instructions for each character and never holds more than 128 values."
@@ -84,24 +83,28 @@ pub record Agree (n : ℕ) (x y : OperationResult) : Type 0 where
 
 pub record Promises : Type 0 where
   -- 1. "Any text, any memory, any code bytes"
-  pub keeps : (o : Operation) (target m code : List ℕ) → Keeps target m code (resultOf o target m code)
+  pub keeps : (o : Operation) (target m code : List ℕ) → FrameConditions target m code (resultOf o target m code)
   -- "Compiling writes only its code, into the buffer lent for it."
   pub only-code : (text code : List ℕ) (n k : ℕ) → compiled text code ≡ doneWith n → 8 * n ≤ k → getD (compiledCode text code) k 0 ≡ getD code k 0
   -- 2. "A formula is accepted exactly if it follows the written grammar, names, number ranges, length, nesting and kinds of number.", by compile and by
   -- compile-and-run; why any other text is not
-  pub compiles : (text code : List ℕ) → Room code → number (compiled text code) ≡ 0 ↔ ((t : Tree) × Accepts text t)
+  pub compiles : (text code : List ℕ) → Room code → answerNumber (compiled text code) ≡ 0 ↔ ((t : Tree) × AcceptedFormula text t)
   pub performs : (text code : List ℕ) {target m : List ℕ} {b : Bank} {i : ℕ} → Ready target m b i → Room code
-      → (Refusal (number (resultOf (compile-and-run text) target m code .answer)) → ⊥) ↔ ((t : Tree) × Accepts text t)
-  pub judged : (text : List ℕ) → Outcome text (judge text)
+      → (Refusal (answerNumber (resultOf (compile-and-run text) target m code .answer)) → ⊥) ↔ ((t : Tree) × AcceptedFormula text t)
+  pub judged : (text : List ℕ) → HasJudgement text (judge text)
+  -- "Given exactly if": no text has another judgement; the place of a refusal lies in the text
+  pub judged-only : (text : List ℕ) (j : Judgement) → HasJudgement text j → j ≡ judge text
+  pub places : (text : List ℕ) (a p : ℕ) → judge text ≡ refused a p → (p ≤ length text) × (p ≤ 1024)
   -- "Its answer, or its fault, is the one that the written rules give"; the count is that of its code
-  pub answers : {text target m : List ℕ} (code : List ℕ) {b : Bank} {i n : ℕ} {t : Tree} → Ready target m b i → Accepts text t → compiled text code ≡ doneWith n
+  pub answers : {text target m : List ℕ} (code : List ℕ) {b : Bank} {i n : ℕ} {t : Tree}
+      → Ready target m b i → AcceptedFormula text t → compiled text code ≡ doneWith n
       → let x = resultOf (compile-and-run text) target m code in
-      Gives m b i (runs (compiledCode text code) n m .count) (endOf (worth (memoryOf m) t)) (x .answer) (x .memory)
+      StoredOrFault m b i (runs (compiledCode text code) n m .count) (endOf (eval (memoryOf m) t)) (x .answer) (x .memory)
   -- "an infinite result is 12", "Reading an R cell that holds an infinity or NaN is 13": so a formula gives none, and nor does any code
-  pub finite : {text : List ℕ} {t : Tree} (m : List ℕ) → Accepts text t → Bytes m → Finite (endOf (worth (memoryOf m) t))
+  pub finite : {text : List ℕ} {t : Tree} (m : List ℕ) → AcceptedFormula text t → Bytes m → Finite (endOf (eval (memoryOf m) t))
   pub finite-code : (code : List ℕ) (n : ℕ) (m : List ℕ) → Bytes code → Bytes m → Finite (runs code n m .end)
   -- 3. "For every accepted formula, and whatever a memory of the right size holds"
-  pub faithful : {text : List ℕ} {t : Tree} {n : ℕ} (code : List ℕ) → Accepts text t → compiled text code ≡ doneWith n
+  pub faithful : {text : List ℕ} {t : Tree} {n : ℕ} (code : List ℕ) → AcceptedFormula text t → compiled text code ≡ doneWith n
       → Faithful text t (compiledCode text code) n
   -- "compile-and-run, where none of 1, 2 and 10 holds, writes and runs the same": no more "one way on the desk and another in the box". The desk
   -- compiles into a buffer of its own, and the box runs that code or compiles the text itself.
@@ -118,4 +121,4 @@ pub record Promises : Type 0 where
   pub safe : (code : List ℕ) (n : ℕ) → checkAnswer code n ≡ doneWith 0 → (k : Kind) × Ends code n n k
   pub runs-code : (code : List ℕ) (n : ℕ) {target m : List ℕ} {b : Bank} {i : ℕ} → Ready target m b i → checkAnswer code n ≡ doneWith 0
       → let x = resultOf (run n) target m code in
-      Gives m b i (runs code n m .count) (runs code n m .end) (x .answer) (x .memory)
+      StoredOrFault m b i (runs code n m .count) (runs code n m .end) (x .answer) (x .memory)

@@ -3,9 +3,8 @@
 use mathlib.Core.Path.{_≡_}
 use mathlib.Core.List.{List, [], _∷_}
 use Prim.Native.Nat.{ℕ}
-use Prim.Native.Char.{code}
-use Prim.Native.String as Text
 use Prim.Native.String.{String}
+use Rattle.words.specs.Ascii.{ascii}
 use lib.IntN.{pos, negsuc}
 use lib.ListN.{replicate}
 use lib.Ieee as Ieee
@@ -18,11 +17,6 @@ use Rattle.memory.specs.declared.Bank.{Bank}
 use Rattle.memory.specs.declared.Bank.the-variants.{«V», N, D, R}
 use Rattle.memory.specs.Environment.{memoryOf}
 use Rattle.operations.specs.Operations.{reportOf, Request, request, performed, performedMemory}
-
--- the bytes of a text
-unfoldable pub ascii : String → List ℕ
-ascii Text.[] = []
-ascii (Text._∷_ c s) = code c ∷ ascii s
 
 -- every byte is 1, so that no cell holds beforehand what is stored to it
 abbrev pub ones : List ℕ
@@ -47,13 +41,13 @@ effect b q =
     let r = reportOf (performed ones q) in
     record { answer = r .answer; value = r .value; cell = memoryOf (performedMemory ones q) .cell b 0 }
 
-abbrev pub Holds : Sum → Type 0
-Holds (is target text b v w) = effect b (asked target text) ≡ record { answer = 0; value = v; cell = Done w }
-Holds (gets target text a) = reportOf (performed ones (asked target text)) .answer ≡ a
+abbrev pub SumHolds : Sum → Type 0
+SumHolds (is target text b v w) = effect b (asked target text) ≡ record { answer = 0; value = v; cell = Done w }
+SumHolds (gets target text a) = reportOf (performed ones (asked target text)) .answer ≡ a
 
 abbrev pub Sums : List Sum → Type 0
 Sums [] = Unit {0}
-Sums (s ∷ ss) = Holds s × Sums ss
+Sums (s ∷ ss) = SumHolds s × Sums ss
 
 abbrev int : ℕ → Value
 int n = Int (pos n)

@@ -17,7 +17,7 @@ use Rattle.memory.specs.declared.names.Named.the-variants.{Cell}
 use Rattle.memory.specs.declared.store.Encoded.the-variants as Encoded
 use Rattle.memory.specs.Layout.{imageSize, layoutOf, cellAt, flagAt}
 use Rattle.memory.specs.Names.{targetRule}
-use Rattle.memory.specs.Store.{encode}
+use Rattle.memory.specs.Store.{encodeCell}
 use Rattle.memory.specs.Environment.{memoryOf}
 use Rattle.code.specs.Instructions.{instructions}
 use Rattle.machine.specs.declared.Ended.{Ended}
@@ -42,8 +42,8 @@ abbrev pub doneWith : ℕ → Answer
 doneWith n = Done (Int (pos 0)) n
 
 -- the answer's number in paper 01's list
-abbrev pub number : Answer → ℕ
-number r = reportOf r .answer
+abbrev pub answerNumber : Answer → ℕ
+answerNumber r = reportOf r .answer
 
 -- "1 to 10 and 15 change nothing"
 abbrev pub Refusal : ℕ → Type 0
@@ -60,10 +60,10 @@ Room code = 16384 ≤ length code
 
 -- what a run's end makes of the memory m, and its answer, with the count n: the value is in the target's bytes; or it does not fit there, or the run met
 -- a fault, and that flag is set
-pub data Gives (m : List ℕ) (b : Bank) (i n : ℕ) : Ended → Answer → List ℕ → Type 0 where
-  stored : {v : Value} {p : ℕ} → encode b v ≡ Encoded.Pattern p → Gives m b i n (Ended.Done v) (Done v n) (sets m (cellAt b i) (bytesOf (layoutOf b .width) p))
-  unstored : {v : Value} {f : FaultName} → encode b v ≡ Encoded.Stopped f → Gives m b i n (Ended.Done v) (Fault f n) (set m (flagAt f) 1)
-  stopped : {f : FaultName} → Gives m b i n (Ended.Stopped f) (Fault f n) (set m (flagAt f) 1)
+pub data StoredOrFault (m : List ℕ) (b : Bank) (i n : ℕ) : Ended → Answer → List ℕ → Type 0 where
+  stored : {v : Value} {p : ℕ} → encodeCell b v ≡ Encoded.Pattern p → StoredOrFault m b i n (Ended.Done v) (Done v n) (sets m (cellAt b i) (bytesOf (layoutOf b .width) p))
+  unstored : {v : Value} {f : FaultName} → encodeCell b v ≡ Encoded.Stopped f → StoredOrFault m b i n (Ended.Done v) (Fault f n) (set m (flagAt f) 1)
+  stopped : {f : FaultName} → StoredOrFault m b i n (Ended.Stopped f) (Fault f n) (set m (flagAt f) 1)
 
 -- a value that is given is an integer of 32 bits or a finite single
 abbrev pub Finite : Ended → Type 0

@@ -24,7 +24,7 @@ use Rattle.values.specs.declared.ChoiceOp.{ChoiceOp}
 use Rattle.values.specs.declared.ChoiceOp.the-variants.{Max, Min}
 use Rattle.values.specs.Values.{kindOf}
 use Rattle.values.specs.Integers.{inRange, equalZ, intArith, exponent, powZ, choiceInt, between}
-use Rattle.values.specs.Patterns.{lowBits, signedOf, digit, number, digitOf, bitwiseInt, complementInt, shifted, shiftInt}
+use Rattle.values.specs.Patterns.{lowBits, signedOf, digit, fromDigits, digitOf, bitwiseInt, complementInt, shifted, shiftInt}
 use Rattle.values.specs.Singles.{zeroReal, oneReal, settle, realArith, timesReal, realProduct, choiceReal}
 use Rattle.operators.specs.Operators.{powerRule, fromBool}
 use Rattle.operators.specs.Kinds.{isInt}
@@ -73,10 +73,10 @@ module _ (Q : Value → Type 0) (closed : Closed Q) where
   signed n = closed .ranged (signedOf 32 n) (signed-range n)
 
   pub bits : (o : BitOp) (a b : ℤ) → Gives Q K.Int (Done (Int (bitwiseInt o a b)))
-  bits o a b = int (bitwiseInt o a b) (signed (number 32 (λ i. digitOf o (digit (lowBits 32 a) i) (digit (lowBits 32 b) i))))
+  bits o a b = int (bitwiseInt o a b) (signed (fromDigits 32 (λ i. digitOf o (digit (lowBits 32 a) i) (digit (lowBits 32 b) i))))
 
   pub complement : (a : ℤ) → Gives Q K.Int (Done (Int (complementInt a)))
-  complement a = int (complementInt a) (signed (number 32 (λ i. 1 - digit (lowBits 32 a) i)))
+  complement a = int (complementInt a) (signed (fromDigits 32 (λ i. 1 - digit (lowBits 32 a) i)))
 
   moved : (o : ShiftOp) (a : ℤ) (s : ℕ) → Q (Int a) → Q (Int (shifted o a s))
   moved Left a s q = signed (lowBits 32 a * 2 ^ s % 2 ^ 32)

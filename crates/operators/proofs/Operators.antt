@@ -5,7 +5,7 @@ use lib.Dec.{T}
 use lib.IntN.{pos, negℤ, natAbs}
 use lib.Ieee.Scale.{finite}
 use Rattle.reals.specs.declared.ArithOp.the-variants.{Rem}
-use Rattle.reals.specs.Singles.{negative, units, signed}
+use Rattle.reals.specs.Singles.{negative, unitCount, signed}
 use Rattle.values.specs.declared.Kind.the-variants as K
 use Rattle.values.specs.declared.Value.{Value}
 use Rattle.values.specs.declared.Value.the-variants.{Int, Real}
@@ -32,7 +32,7 @@ module _ (Q : Value → Type 0) (closed : Closed Q) where
   cutting-gives f (Int z) q = int z q
   cutting-gives f (Real x) q =
       let P : Cut → Type 0 = λ c. Gives Q K.Int (cutOutcome c) in
-      let z = signed (negative x) (f (units x)) in
+      let z = signed (negative x) (f (unitCount x)) in
       let out : P Outside = stopped K.Int OutOfRange in
       picked P (finite x) (cut z) Outside (λ h. picked P (inRange z) (Whole z) Outside (λ e. int z (closed .ranged z e)) out) out
 

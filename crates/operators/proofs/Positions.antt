@@ -13,7 +13,7 @@ use borrow.Author.Tests.{lt-ltb, le-ltb, ltb-true}
 use mir.Syntax.{w32}
 use mir.Val.{SFits}
 use mir.ValLaws.{toZ-ofZ}
-use Rattle.reals.specs.Singles.{Single, negative, units, signed, count}
+use Rattle.reals.specs.Singles.{Single, negative, unitCount, signed, count}
 use Rattle.reals.proofs.Laws.{real-laws}
 use Rattle.values.specs.declared.Value.{Value}
 use Rattle.values.specs.declared.Value.the-variants.{Int, Real}
@@ -111,7 +111,7 @@ module _ (n : ℕ) (x : Float) (S : Single x) where
   index-below-zero t = rw (less-zero x S, is-true (ltZ (count x) (pos 0)) t)
 
   truncated-zero : count x ≡ pos 0 → truncated x ≡ Whole (pos 0)
-  truncated-zero e = rw (is-true (finite x) (S .real), no-size (negative x) (units x) e, signed-zero (negative x))
+  truncated-zero e = rw (is-true (finite x) (S .real), no-size (negative x) (unitCount x) e, signed-zero (negative x))
 
   pub index-zero : count x ≡ pos 0 → 0 < n → indexRule n (Real x) ≡ P.At 0
   index-zero e h = rw (less-zero x S, e, truncated-zero e, lt-ltb 0 n h)

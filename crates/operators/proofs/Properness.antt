@@ -43,7 +43,7 @@ pub proper-closed : Closed Proper
 proper-closed = record {
   ranged = λ z e. int z (holds (inRange z) e);
   shifted = λ z s p. int (shrZ z (2 ^ s)) (holds _ (sfits-range (shrZ z (2 ^ s)) (sfits-le (mag-shr z (2 ^ s)) (ranged-of z p))));
-  raised = λ z p. real (promoted z) (real-laws .promoted z (natAbs-le z (ranged-of z p .sfits)));
+  raised = λ z p. real (promoted z) (real-laws .promote-single z (natAbs-le z (ranged-of z p .sfits)));
   operated = λ o x y p q e. real (ieee o x y) (record { fit = ieee-fits o x y (single-of x p .fit); real = holds _ e });
   negated = λ x p. real (neg x) (real-laws .neg x (single-of x p) .single);
   unsigned = λ x p. real (realAbs x) (abs-single x (single-of x p));

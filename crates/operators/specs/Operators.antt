@@ -1,5 +1,5 @@
--- One rule for each operator of paper 01, on values of either kind. A rule gives a value, a fault (11 to 13), or `WrongKind` for an operand that
--- the operator does not take (answer 9, told from the text alone). The numbers themselves are the crate values'.
+-- One rule for each operator of paper 01, on values of either kind, and the rule of an index. A rule gives a value, a fault, or `WrongKind` for an operand
+-- that the operator does not take (answer 9, told from the text alone). The numbers themselves are the crate values'.
 use mathlib.Core.Bool.{Bool, true, false, not, cond}
 use Prim.Native.Nat.{ℕ}
 use lib.Dec.{ltb}

@@ -15,20 +15,20 @@ use Rattle.memory.specs.declared.names.Letter.the-variants as L
 use Rattle.memory.specs.declared.names.Named.{Named}
 use Rattle.memory.specs.declared.names.Named.the-variants.{Cell, Other}
 use Rattle.memory.specs.Layout.{layoutOf, hasCell}
-use Rattle.memory.specs.Names.{bankOf, plain, allDigits, decimal, numberBelow, cellOf, namedRule, storable, targetRule}
+use Rattle.memory.specs.Names.{bankOf, noLeadingZero, allDigits, decimalValue, numberBelow, cellAfterLetter, namedRule, storable, targetRule}
 
 no-cell : (b : Bank) (i : ℕ) → Other ≡ Cell b i → ⊥
 no-cell b i e = let z : _≡_ {A = ℕ} 0 1 = cc in omega arith
 
-of-letter : (cs : List ℕ) (l : Letter) {b : Bank} {i : ℕ} → cellOf cs l ≡ Cell b i → i < layoutOf b .elements
+of-letter : (cs : List ℕ) (l : Letter) {b : Bank} {i : ℕ} → cellAfterLetter cs l ≡ Cell b i → i < layoutOf b .elements
 of-letter cs (L.Of a) {b} {i} e = by (numberBelow (layoutOf a .elements) cs) refl e
   where
-    by : (t : Bool) → numberBelow (layoutOf a .elements) cs ≡ t → cond t (Cell a (decimal cs)) Other ≡ Cell b i → i < layoutOf b .elements
+    by : (t : Bool) → numberBelow (layoutOf a .elements) cs ≡ t → cond t (Cell a (decimalValue cs)) Other ≡ Cell b i → i < layoutOf b .elements
     by true n f =
         let t : T (numberBelow (layoutOf a .elements) cs) = rw n tt in
-        let h = ltb→lt (decimal cs) (layoutOf a .elements) (and-r (plain cs && allDigits cs) (ltb (decimal cs) (layoutOf a .elements)) t) in
+        let h = ltb→lt (decimalValue cs) (layoutOf a .elements) (and-r (noLeadingZero cs && allDigits cs) (ltb (decimalValue cs) (layoutOf a .elements)) t) in
         let same-bank : a ≡ b = cc in
-        let same-element : decimal cs ≡ i = cc in
+        let same-element : decimalValue cs ≡ i = cc in
         subst (λ (x : Bank). i < layoutOf x .elements) same-bank (subst (λ (x : ℕ). x < layoutOf a .elements) same-element h)
     by false n f = absurd (no-cell b i f)
 of-letter cs L.Other {b} {i} e = absurd (no-cell b i e)

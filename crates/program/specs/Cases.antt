@@ -11,12 +11,13 @@ use Rattle.memory.specs.declared.names.Named.the-variants as Named
 use Rattle.memory.specs.declared.store.Encoded.the-variants as Encoded
 use Rattle.memory.specs.Layout.{imageSize}
 use Rattle.memory.specs.Names.{namedRule}
-use Rattle.memory.specs.Store.{written}
-use Rattle.tokens.specs.Symbols.{same}
+use Rattle.memory.specs.Store.{writeCell}
+use Rattle.tokens.specs.Symbols.{equalBytes}
 use Rattle.lines.specs.declared.forms.Form.{Form}
 use Rattle.lines.specs.declared.forms.Form.the-variants.{Pattern, Other}
 use Rattle.lines.specs.Lines.{lines, keyLength, keyOf, valueOf}
 use Rattle.lines.specs.Forms.{patternOf}
+use Rattle.words.specs.Ascii.{ascii}
 
 -- what the lines say
 pub record Case : Type 0 where
@@ -26,7 +27,7 @@ pub record Case : Type 0 where
 
 -- the bytes of the cell are the pattern's, every other byte is as it was
 abbrev pub putForm : List ℕ → Bank → ℕ → Form → List ℕ
-putForm m b i (Pattern n) = written m b i (Encoded.Pattern n)
+putForm m b i (Pattern n) = writeCell m b i (Encoded.Pattern n)
 putForm m b i Other = m
 
 -- a key that names a cell, of X too, and a value of the bank's form; "Lines of any other form are skipped"
@@ -36,18 +37,18 @@ setCell m v Named.Other = m
 
 -- `target`
 abbrev pub targetKey : List ℕ
-targetKey = 116 ∷ 97 ∷ 114 ∷ 103 ∷ 101 ∷ 116 ∷ []
+targetKey = ascii "target"
 
 -- `expr`
 abbrev pub exprKey : List ℕ
-exprKey = 101 ∷ 120 ∷ 112 ∷ 114 ∷ []
+exprKey = ascii "expr"
 
 -- any key but the two names a cell, or the line is skipped
 unfoldable pub keyed : Case → List ℕ → List ℕ → Case
 unfolding namedRule
 keyed s key v =
-    cond (same key targetKey) (record { memory = s .memory; target = v; text = s .text })
-    (cond (same key exprKey) (record { memory = s .memory; target = s .target; text = v })
+    cond (equalBytes key targetKey) (record { memory = s .memory; target = v; text = s .text })
+    (cond (equalBytes key exprKey) (record { memory = s .memory; target = s .target; text = v })
     (record { memory = setCell (s .memory) v (namedRule key); target = s .target; text = s .text }))
 
 -- a line without `=` is skipped
@@ -62,8 +63,8 @@ afterLines s [] = s
 afterLines s (l ∷ ls) = afterLines (afterLine s l) ls
 
 -- without a line for it the target, and the expression, is the empty text
-abbrev pub opened : List ℕ → Case
-opened m = record { memory = m; target = []; text = [] }
+abbrev pub emptyCase : List ℕ → Case
+emptyCase m = record { memory = m; target = []; text = [] }
 
 -- n zero bytes
 unfoldable pub zeros : ℕ → List ℕ
@@ -72,4 +73,4 @@ zeros n = replicate n 0
 -- the lines of the input, over an image of zero bytes
 unfoldable pub caseOf : List ℕ → Case
 unfolding afterLines zeros
-caseOf input = afterLines (opened (zeros imageSize)) (lines input)
+caseOf input = afterLines (emptyCase (zeros imageSize)) (lines input)

@@ -19,22 +19,23 @@ use Rattle.operations.specs.declared.Report.{Report}
 use Rattle.operations.specs.Operations.{reportOf, Request, request, performed, performedMemory}
 use Rattle.program.specs.Cases.{Case, zeros, caseOf}
 use Rattle.lines.specs.Printing.{decimalText, cellText, cellName}
+use Rattle.words.specs.Ascii.{ascii}
 
 -- `answer=`
 abbrev pub answerKey : List ℕ
-answerKey = 97 ∷ 110 ∷ 115 ∷ 119 ∷ 101 ∷ 114 ∷ 61 ∷ []
+answerKey = ascii "answer="
 
 -- a line end and `place=`
 abbrev pub placeKey : List ℕ
-placeKey = 10 ∷ 112 ∷ 108 ∷ 97 ∷ 99 ∷ 101 ∷ 61 ∷ []
+placeKey = ascii "\nplace="
 
 -- the first two lines
 abbrev pub reportText : Report → List ℕ
-reportText r = answerKey ++ decimalText (r .answer) ++ placeKey ++ decimalText (r .place) ++ (10 ∷ [])
+reportText r = answerKey ++ decimalText (r .answer) ++ placeKey ++ decimalText (r .place) ++ ascii "\n"
 
 -- a cell's name and what it holds
 abbrev pub cellLine : List ℕ → Bank → ℕ → List ℕ
-cellLine m b i = cellName b i ++ (61 ∷ []) ++ cellText b (little (bytesAt m b i)) ++ (10 ∷ [])
+cellLine m b i = cellName b i ++ ascii "=" ++ cellText b (little (bytesAt m b i)) ++ ascii "\n"
 
 -- the line of the cell that the target names
 abbrev pub targetLine : List ℕ → Named → List ℕ
@@ -65,20 +66,20 @@ unfolding caseOf
 reply input = replyTo (caseOf input)
 
 -- a text goes to the front of a lent slice, if there is room for all of it
-abbrev pub handed : List ℕ → List ℕ → List ℕ
-handed out text = cond (ltb (length out) (length text)) out (sets out 0 text)
+abbrev pub writeText : List ℕ → List ℕ → List ℕ
+writeText out text = cond (ltb (length out) (length text)) out (sets out 0 text)
 
 -- how many bytes are handed over
-abbrev pub handedCount : List ℕ → List ℕ → ℕ
-handedCount out text = cond (ltb (length out) (length text)) 0 (length text)
+abbrev pub writtenLength : List ℕ → List ℕ → ℕ
+writtenLength out text = cond (ltb (length out) (length text)) 0 (length text)
 
 -- for callers that take the first n bytes out of the slice: they are there
-abbrev pub Lies : ℕ → List ℕ → Type 0
-Lies n out = (n ≤ length out) × (n ≡ length (take n out))
+abbrev pub HasPrefix : ℕ → List ℕ → Type 0
+HasPrefix n out = (n ≤ length out) × (n ≡ length (take n out))
 
 -- `error=read` and byte 10: printed where the input cannot be read. No reply begins so
 abbrev pub unreadLine : List ℕ
-unreadLine = 101 ∷ 114 ∷ 114 ∷ 111 ∷ 114 ∷ 61 ∷ 114 ∷ 101 ∷ 97 ∷ 100 ∷ 10 ∷ []
+unreadLine = ascii "error=read\n"
 
 -- what the program may print: the reply to an input that was read to its end, or that line
 pub data Output : List ℕ → Type 0 where
@@ -89,5 +90,5 @@ pub data Output : List ℕ → Type 0 where
 pub record Outputs (out : List ℕ) (n : ℕ) (new : List ℕ) : Type 0 where
   pub text : List ℕ
   pub output : Output text
-  pub count : n ≡ handedCount out text
-  pub bytes : new ≡ handed out text
+  pub count : n ≡ writtenLength out text
+  pub bytes : new ≡ writeText out text

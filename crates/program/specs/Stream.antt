@@ -10,8 +10,9 @@ use Rattle.memory.specs.Layout.{imageSize}
 use Rattle.program.specs.declared.case.Lengths.{Lengths}
 use Rattle.program.specs.declared.stream.Receipt.{Receipt}
 use Rattle.program.specs.declared.stream.Receipt.the-variants.{All, Unread}
-use Rattle.program.specs.Cases.{Case, opened, zeros, afterLine}
-use Rattle.program.specs.Reply.{replyTo, reply, handed, handedCount, Lies}
+use Rattle.program.specs.Cases.{Case, emptyCase, zeros, afterLine}
+use Rattle.program.specs.Reply.{replyTo, reply, writeText, writtenLength, HasPrefix}
+use Rattle.words.specs.Ascii.{byte}
 
 -- how much of a line is kept: `expr=` and 1,025 bytes, by which an expression is known to be over 1,024. No line as long as that sets a cell or names a
 -- target.
@@ -24,12 +25,12 @@ pub record Progress : Type 0 where
   pub line : List ℕ
 
 abbrev pub noProgress : Progress
-noProgress = record { case = opened (zeros imageSize); line = [] }
+noProgress = record { case = emptyCase (zeros imageSize); line = [] }
 
 -- byte 10 ends the line; any other belongs to it
 abbrev pub afterByte : Progress → ℕ → Progress
 afterByte p c =
-    cond (eqb c 10) (record { case = afterLine (p .case) (p .line); line = [] })
+    cond (eqb c (byte "\n")) (record { case = afterLine (p .case) (p .line); line = [] })
     (record { case = p .case; line = take keptBytes (p .line ++ (c ∷ [])) })
 
 abbrev pub afterBytes : Progress → List ℕ → Progress
@@ -57,7 +58,7 @@ abbrev pub progressIn : List ℕ → List ℕ → List ℕ → List ℕ → Leng
 progressIn m t x l n = record { case = caseIn m t x n; line = take (n .line) l }
 
 -- the lengths lie within the buffers
-pub record Inside (t x : List ℕ) (n : Lengths) : Type 0 where
+pub record LengthsInside (t x : List ℕ) (n : Lengths) : Type 0 where
   pub target : n .target ≤ length t
   pub text : n .text ≤ length x
 
@@ -67,7 +68,7 @@ pub record StreamBuffers (m t x l : List ℕ) (n : Lengths) : Type 0 where
   pub targets : length t ≡ keptBytes
   pub texts : length x ≡ keptBytes
   pub lines : length l ≡ keptBytes
-  pub inside : Inside t x n
+  pub inside : LengthsInside t x n
   pub line : n .line ≤ keptBytes
 
 -- the buffers keep what a whole input leaves, or the input was not read
@@ -78,7 +79,7 @@ pub data Receives (m t x l : List ℕ) : Receipt → Type 0 where
 
 -- the reply to the case that p leaves goes to the front of a lent slice, and 64 bytes have room for it
 pub record Replies (p : Progress) (out : List ℕ) (n : ℕ) (new : List ℕ) : Type 0 where
-  pub count : n ≡ handedCount out (replyTo (caseAtEnd p))
-  pub bytes : new ≡ handed out (replyTo (caseAtEnd p))
+  pub count : n ≡ writtenLength out (replyTo (caseAtEnd p))
+  pub bytes : new ≡ writeText out (replyTo (caseAtEnd p))
   pub short : length (replyTo (caseAtEnd p)) ≤ 64
-  pub there : Lies n new
+  pub there : HasPrefix n new

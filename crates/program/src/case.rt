@@ -4,7 +4,7 @@ ghost use Prim.Native.Nat.{_≤_};
 ghost use lib.ListN.{length};
 ghost use Rattle.memory.specs.Names.{namedRule};
 ghost use Rattle.program.specs.Cases.{setCell, afterLine};
-ghost use Rattle.program.specs.Stream.{caseIn, Inside};
+ghost use Rattle.program.specs.Stream.{caseIn, LengthsInside};
 use crate::cells;
 use lines::forms;
 use lines::forms::Form;
@@ -43,8 +43,8 @@ pub fn take_line(
 ) -> Lengths
     requires { ⌜ length (now memory) ≡ 3204 ⌝ }
     requires { ⌜ (length (now line) ≤ length (now target)) × (length (now line) ≤ length (now text)) ⌝ }
-    requires { ⌜ Inside (now target) (now text) n ⌝ }
-    ensures { λ r. ⌜ Inside (now (target .exit)) (now (text .exit)) r ⌝ }
+    requires { ⌜ LengthsInside (now target) (now text) n ⌝ }
+    ensures { λ r. ⌜ LengthsInside (now (target .exit)) (now (text .exit)) r ⌝ }
     ensures { λ r. ⌜ caseIn (now (memory .exit)) (now (target .exit)) (now (text .exit)) r
         ≡ afterLine (caseIn (now (memory .entry)) (now (target .entry)) (now (text .entry)) n) (now (line .entry)) ⌝ }
     ensures { λ r. ⌜ r .line ≡ 0 ⌝ }

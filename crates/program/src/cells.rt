@@ -6,7 +6,7 @@ ghost use lib.ListN.{length};
 ghost use Rattle.words.specs.Words.{little};
 ghost use Rattle.memory.specs.Layout.{layoutOf, cellAt, hasCell};
 ghost use Rattle.memory.specs.Cells.{bytesAt};
-ghost use Rattle.memory.specs.Store.{written};
+ghost use Rattle.memory.specs.Store.{writeCell};
 use memory::Bank;
 use memory::store::Encoded;
 
@@ -21,7 +21,7 @@ fn place_of(bank: Bank, element: u32) -> usize
 
 pub fn put_pattern(memory: &mut [u8], bank: Bank, element: u32, pattern: u32)
     requires { ⌜ T (hasCell (now memory) bank element) ⌝ }
-    ensures { λ r. ⌜ now (memory .exit) ≡ written (now (memory .entry)) bank element (Encoded.Pattern pattern) ⌝ }
+    ensures { λ r. ⌜ now (memory .exit) ≡ writeCell (now (memory .entry)) bank element (Encoded.Pattern pattern) ⌝ }
 {
     let mut at = place_of(bank, element);
     let mut left = memory::layout_of(bank).width;

@@ -4,7 +4,7 @@ ghost use Prim.Native.Nat.{_≤_};
 ghost use lib.ListN.{length};
 ghost use Rattle.memory.specs.Layout.{imageSize};
 ghost use Rattle.program.specs.Cases.{zeros};
-ghost use Rattle.program.specs.Reply.{reply, handed, handedCount, Lies, Outputs};
+ghost use Rattle.program.specs.Reply.{reply, writeText, writtenLength, HasPrefix, Outputs};
 ghost use Rattle.program.specs.Stream.{keptBytes};
 use crate::case::Lengths;
 use crate::stream::KEPT_BYTES;
@@ -31,10 +31,10 @@ fn blank_text() -> [u8; KEPT_BYTES]
 
 // The whole input is one case. An output of 64 bytes has room for every reply; in one that is too short nothing is written, and 0 is returned.
 pub fn respond(input: &[u8], output: &mut [u8]) -> usize
-    ensures { λ r. ⌜ r ≡ handedCount (now (output .entry)) (reply (now (input .entry))) ⌝ }
-    ensures { λ r. ⌜ now (output .exit) ≡ handed (now (output .entry)) (reply (now (input .entry))) ⌝ }
+    ensures { λ r. ⌜ r ≡ writtenLength (now (output .entry)) (reply (now (input .entry))) ⌝ }
+    ensures { λ r. ⌜ now (output .exit) ≡ writeText (now (output .entry)) (reply (now (input .entry))) ⌝ }
     ensures { λ r. ⌜ length (reply (now (input .entry))) ≤ 64 ⌝ }
-    ensures { λ r. ⌜ Lies r (now (output .exit)) ⌝ }
+    ensures { λ r. ⌜ HasPrefix r (now (output .exit)) ⌝ }
 {
     let mut memory = blank_image();
     let mut target = blank_text();
@@ -52,7 +52,7 @@ pub fn respond(input: &[u8], output: &mut [u8]) -> usize
 // The same of an input that is read to its end. If a read fails there is no answer, and the one line `error=read` says so.
 pub fn respond_from(fd: i32, output: &mut [u8]) -> usize
     ensures { λ r. ⌜ Outputs (now (output .entry)) r (now (output .exit)) ⌝ }
-    ensures { λ r. ⌜ Lies r (now (output .exit)) ⌝ }
+    ensures { λ r. ⌜ HasPrefix r (now (output .exit)) ⌝ }
 {
     let mut memory = blank_image();
     let mut target = blank_text();
@@ -60,6 +60,6 @@ pub fn respond_from(fd: i32, output: &mut [u8]) -> usize
     let mut line = blank_text();
     match stream::receive(fd, &mut memory, &mut target, &mut text, &mut line) {
         Receipt::All(n) => stream::finish(&mut memory, &mut target, &mut text, &line, n, output),
-        Receipt::Unread => reply::hand_over(b"error=read\n", output),
+        Receipt::Unread => reply::write_text(b"error=read\n", output),
     }
 }

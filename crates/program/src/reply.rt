@@ -5,8 +5,8 @@ ghost use lib.Dec.{T};
 ghost use lib.ListN.{length};
 ghost use Rattle.memory.specs.Layout.{hasCell};
 ghost use Rattle.memory.specs.Names.{targetRule};
-ghost use Rattle.lines.specs.Steps.{Puts};
-ghost use Rattle.program.specs.Reply.{reportText, cellLine, targetLine, answerText, handed, handedCount, Lies};
+ghost use Rattle.lines.specs.private.Steps.{Puts};
+ghost use Rattle.program.specs.Reply.{reportText, cellLine, targetLine, answerText, writeText, writtenLength, HasPrefix};
 use crate::cells;
 use lines::printing;
 use memory::Bank;
@@ -71,10 +71,10 @@ pub fn put_reply(out: &mut [u8], answer: Answer, target: &[u8], memory: &[u8]) -
 }
 
 // The bytes, if there is room for all of them.
-pub fn hand_over(bytes: &[u8], output: &mut [u8]) -> usize
-    ensures { λ r. ⌜ r ≡ handedCount (now (output .entry)) (now (bytes .entry)) ⌝ }
-    ensures { λ r. ⌜ now (output .exit) ≡ handed (now (output .entry)) (now (bytes .entry)) ⌝ }
-    ensures { λ r. ⌜ Lies r (now (output .exit)) ⌝ }
+pub fn write_text(bytes: &[u8], output: &mut [u8]) -> usize
+    ensures { λ r. ⌜ r ≡ writtenLength (now (output .entry)) (now (bytes .entry)) ⌝ }
+    ensures { λ r. ⌜ now (output .exit) ≡ writeText (now (output .entry)) (now (bytes .entry)) ⌝ }
+    ensures { λ r. ⌜ HasPrefix r (now (output .exit)) ⌝ }
 {
     if output.len() < bytes.len() {
         return 0;

@@ -132,5 +132,5 @@ pub fn finish(
     let answer = operations::compile_and_run(&target[..a], &text[..b], memory, &mut code);
     let mut bytes = [0u8; 64];
     let m = reply::put_reply(&mut bytes, answer, &target[..a], memory);
-    reply::hand_over(&bytes[..m], output)
+    reply::write_text(&bytes[..m], output)
 }

@@ -7,8 +7,8 @@ use native.Mathlib.Nat.{le-refl, le-antisymm, not-le-of-lt}
 use lib.Dec.{T}
 use lib.Ieee.{Float, nan, inf, fin, binary32, fits}
 use lib.Ieee.Scale.{finite}
-use Rattle.reals.specs.Singles.{Single, negative, units, Has, Size}
-use Rattle.reals.specs.Rounding.{Fraction, apart, Closest, Rounds, near, over, end}
+use Rattle.reals.specs.Singles.{Single, negative, unitCount, Has, Size}
+use Rattle.reals.specs.Rounding.{Fraction, distance, Closest, Rounds, near, over, end}
 use Rattle.reals.proofs.Near as Near
 use Rattle.reals.proofs.Near.{Held, Nearest, unitsOf, Is, Rounded, to}
 use Rattle.reals.proofs.Rising.{nearest-rising}
@@ -24,15 +24,15 @@ real-of (inf t) s n h = h
 real-of (fin t m e) s n h = tt
 
 -- by cases, since two functions on a variable are not compared by their clauses
-same-units : (x : Float) → unitsOf binary32 x ≡ units x
+same-units : (x : Float) → unitsOf binary32 x ≡ unitCount x
 same-units nan = refl
 same-units (inf s) = refl
 same-units (fin s m e) = refl
 
-pub is : (x : Float) → Single x → Is binary32 x (negative x) (units x)
+pub is : (x : Float) → Single x → Is binary32 x (negative x) (unitCount x)
 is x S = rw (← (same-units x)) (own binary32 x (S .fit) (S .real) .0)
 
-pub held : (x : Float) → Single x → Held binary32 (units x)
+pub held : (x : Float) → Single x → Held binary32 (unitCount x)
 held x S = rw (← (same-units x)) (own binary32 x (S .fit) (S .real) .1)
 
 pub has : (s : Bool) (n : ℕ) (x : Float) → T (fits binary32 x) → Is binary32 x s n → Has s n x
@@ -44,11 +44,11 @@ has-is : (s : Bool) (n : ℕ) (x : Float) → Has s n x → Is binary32 x s n
 has-is s n x h = subst₂ (Is binary32 x) (h .sign) (h .size) (is x (h .single))
 
 -- a law of two values' signs and sizes, of two singles
-pub of-singles : {P : Claim} → Law binary32 P → (x y : Float) → Single x → Single y → P (negative x) (units x) (negative y) (units y) x y
-of-singles law x y S R = law x y (negative x) (units x) (negative y) (units y) (is x S) (is y R)
+pub of-singles : {P : Claim} → Law binary32 P → (x y : Float) → Single x → Single y → P (negative x) (unitCount x) (negative y) (unitCount y) x y
+of-singles law x y S R = law x y (negative x) (unitCount x) (negative y) (unitCount y) (is x S) (is y R)
 
 -- ---- the singles: one for each sign and size
-pub size : (x : Float) → Single x → Size (units x)
+pub size : (x : Float) → Single x → Size (unitCount x)
 size x S = let H = held x S in record { digits = H .digits; place = H .place; few = H .few; is = H .is; below = H .below }
 
 pub each : (s : Bool) (n : ℕ) → Held binary32 n → (x : Float) × Has s n x
@@ -58,24 +58,24 @@ pub only : (s : Bool) (n : ℕ) (x y : Float) → Has s n x → Has s n y → x 
 only s n x y h k = value-unique binary32 x y s n (h .single .fit) (k .single .fit) (has-is s n x h) (has-is s n y k)
 
 -- ---- closest among the singles is nearest among the sizes, and back
-nearest : (a b : ℕ) (x : Float) → Single x → Closest a b x → Nearest binary32 a b (units x)
+nearest : (a b : ℕ) (x : Float) → Single x → Closest a b x → Nearest binary32 a b (unitCount x)
 nearest a b x S C = record {
   held = held x S;
-  least = λ o H. let v = each false o H in subst (λ (n : ℕ). apart (units x * b) a ≤ apart (n * b) a) (v .1 .size) (C .least (v .0) (v .1 .single));
+  least = λ o H. let v = each false o H in subst (λ (n : ℕ). distance (unitCount x * b) a ≤ distance (n * b) a) (v .1 .size) (C .least (v .0) (v .1 .single));
   even = λ o H d t.
       let v = each false o H in
-      last→even binary32 (units x) (held x S) (sym (last-bit binary32 x (negative x) (units x) (is x S))
-      ∙ C .even (v .0) (v .1 .single) (λ (e : units (v .0) ≡ units x). d (sym (v .1 .size) ∙ e)) (ap (λ (n : ℕ). apart (n * b) a) (v .1 .size) ∙ t));
+      last→even binary32 (unitCount x) (held x S) (sym (last-bit binary32 x (negative x) (unitCount x) (is x S))
+      ∙ C .even (v .0) (v .1 .single) (λ (e : unitCount (v .0) ≡ unitCount x). d (sym (v .1 .size) ∙ e)) (ap (λ (n : ℕ). distance (n * b) a) (v .1 .size) ∙ t));
 }
 
-closest : (a b : ℕ) (x : Float) → Single x → Nearest binary32 a b (units x) → Closest a b x
+closest : (a b : ℕ) (x : Float) → Single x → Nearest binary32 a b (unitCount x) → Closest a b x
 closest a b x S N = record {
-  least = λ y R. N .least (units y) (held y R);
-  even = λ y R d t. last-bit binary32 x (negative x) (units x) (is x S) ∙ even→last binary32 (units x) (N .even (units y) (held y R) d t);
+  least = λ y R. N .least (unitCount y) (held y R);
+  even = λ y R d t. last-bit binary32 x (negative x) (unitCount x) (is x S) ∙ even→last binary32 (unitCount x) (N .even (unitCount y) (held y R) d t);
 }
 
-pub rising : (a c b : ℕ) (x y : Float) → 0 < b → a ≤ c → Single x → Single y → Closest a b x → Closest c b y → units x ≤ units y
-rising a c b x y B h S R C D = nearest-rising binary32 a c b (units x) (units y) B h (nearest a b x S C) (nearest c b y R D)
+pub rising : (a c b : ℕ) (x y : Float) → 0 < b → a ≤ c → Single x → Single y → Closest a b x → Closest c b y → unitCount x ≤ unitCount y
+rising a c b x y B h S R C D = nearest-rising binary32 a c b (unitCount x) (unitCount y) B h (nearest a b x S C) (nearest c b y R D)
 
 -- ---- rounding
 pub rounds : {q : Fraction} {x : Float} → T (fits binary32 x) → Rounded binary32 (q .sign) (q .num) (q .den) x → Rounds q x
@@ -90,8 +90,8 @@ one q x y B (over h e) (near k S g N) = absurd (not-le-of-lt k h)
 one q x y B (near h S e M) (over k g) = absurd (not-le-of-lt h k)
 one q x y B (near h S e M) (near k R g N) =
     let rises = rising (q .num) (q .num) (q .den) in
-    let d : units y ≡ units x = le-antisymm (rises y x B (le-refl (q .num)) R S N M) (rises x y B (le-refl (q .num)) S R M N) in
-    only (q .sign) (units x) x y (record { single = S; sign = e; size = refl }) (record { single = R; sign = g; size = d })
+    let d : unitCount y ≡ unitCount x = le-antisymm (rises y x B (le-refl (q .num)) R S N M) (rises x y B (le-refl (q .num)) S R M N) in
+    only (q .sign) (unitCount x) x y (record { single = S; sign = e; size = refl }) (record { single = R; sign = g; size = d })
 
 pub infinite : (q : Fraction) (x : Float) → Rounds q x → (x ≡ inf (q .sign)) ↔ (end * q .den ≤ q .num)
 infinite q x (near l S e C) = (λ g. absurd (subst (λ (y : Float). T (finite y)) g (S .real)), λ g. absurd (not-le-of-lt l g))

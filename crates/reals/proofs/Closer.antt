@@ -5,7 +5,7 @@ use Prim.Native.Nat.{ℕ, zero, suc, _+_, _*_, _%_, _≤_, _<_, suc-le-suc, comp
 use native.Mathlib.Nat.{le-of-eq, le-of-lt, suc-mul, zero-lt-suc}
 use native.Mathlib.Omega.{arith}
 use lib.Ieee.{nearest}
-use Rattle.reals.specs.Rounding.{apart}
+use Rattle.reals.specs.Rounding.{distance}
 use Rattle.reals.proofs.Grid.{split, Outside, down, up, down-only, up-only}
 
 -- ---- two numbers are in one of three orders, and `compare` names it
@@ -34,17 +34,17 @@ tied q = go (split (q % 2) 0)
     go (inr h) = inr (omega arith)
 
 module _ (q u r a y : ℕ) where
-  pub closer : (o : Ordering) → Ordered (r * 2) u o → q * u + r ≡ a → r < u → Outside (q * u) u y → apart (nearest q o * u) a ≤ apart y a
+  pub closer : (o : Ordering) → Ordered (r * 2) u o → q * u + r ≡ a → r < u → Outside (q * u) u y → distance (nearest q o * u) a ≤ distance y a
   closer Ordering·lt (before c) e w s = down (q * u) u r a y e (le-of-lt c) s
   closer Ordering·gt (after c) e w s = rw (suc-mul q u) (up (q * u) u r a y e w (le-of-lt c) s)
   closer Ordering·eq (level c) e w s = go (tied q)
     where
-      go : (q + q % 2 ≡ q) ⊎ (q + q % 2 ≡ suc q) → apart ((q + q % 2) * u) a ≤ apart y a
+      go : (q + q % 2 ≡ q) ⊎ (q + q % 2 ≡ suc q) → distance ((q + q % 2) * u) a ≤ distance y a
       go (inl t) = rw t (down (q * u) u r a y e (le-of-eq c) s)
       go (inr t) = rw (t, suc-mul q u) (up (q * u) u r a y e w (le-of-eq (sym c)) s)
 
   -- as near only at a tie, which is resolved to the even one
-  pub alone : (o : Ordering) → Ordered (r * 2) u o → q * u + r ≡ a → r < u → Outside (q * u) u y → apart y a ≡ apart (nearest q o * u) a
+  pub alone : (o : Ordering) → Ordered (r * 2) u o → q * u + r ≡ a → r < u → Outside (q * u) u y → distance y a ≡ distance (nearest q o * u) a
       → (y ≡ nearest q o * u) ⊎ (nearest q o % 2 ≡ 0)
   alone Ordering·lt (before c) e w s t = inl (down-only (q * u) u r a y e c s t)
   alone Ordering·gt (after c) e w s t = inl (rw (suc-mul q u) (up-only (q * u) u r a y e w c s (rw (suc-mul q u) at t)))

@@ -9,7 +9,7 @@ use native.Mathlib.Omega.{arith}
 use lib.Dec.{T, leb, leb→le, nleb→lt}
 use lib.Pow.{pow-add, pow-mono, shl-lt}
 use lib.Ieee.Digits.{back}
-use Rattle.reals.specs.Rounding.{apart}
+use Rattle.reals.specs.Rounding.{distance}
 
 -- ---- two numbers are in order, or in the other order
 pub split : (a b : ℕ) → (a ≤ b) ⊎ (b < a)
@@ -51,18 +51,18 @@ gap p q k j i P full few = go (split k i)
 abbrev pub Outside : ℕ → ℕ → ℕ → Type 0
 Outside x u y = (y ≤ x) ⊎ (x + u ≤ y)
 
-pub down : (x u r a y : ℕ) → x + r ≡ a → r * 2 ≤ u → Outside x u y → apart x a ≤ apart y a
+pub down : (x u r a y : ℕ) → x + r ≡ a → r * 2 ≤ u → Outside x u y → distance x a ≤ distance y a
 down x u r a y e h (inl l) = omega arith
 down x u r a y e h (inr l) = omega arith
 
-pub up : (x u r a y : ℕ) → x + r ≡ a → r < u → u ≤ r * 2 → Outside x u y → apart (x + u) a ≤ apart y a
+pub up : (x u r a y : ℕ) → x + r ≡ a → r < u → u ≤ r * 2 → Outside x u y → distance (x + u) a ≤ distance y a
 up x u r a y e w h (inl l) = omega arith
 up x u r a y e w h (inr l) = omega arith
 
-pub down-only : (x u r a y : ℕ) → x + r ≡ a → r * 2 < u → Outside x u y → apart y a ≡ apart x a → y ≡ x
+pub down-only : (x u r a y : ℕ) → x + r ≡ a → r * 2 < u → Outside x u y → distance y a ≡ distance x a → y ≡ x
 down-only x u r a y e h (inl l) t = omega arith
 down-only x u r a y e h (inr l) t = omega arith
 
-pub up-only : (x u r a y : ℕ) → x + r ≡ a → r < u → u < r * 2 → Outside x u y → apart y a ≡ apart (x + u) a → y ≡ x + u
+pub up-only : (x u r a y : ℕ) → x + r ≡ a → r < u → u < r * 2 → Outside x u y → distance y a ≡ distance (x + u) a → y ≡ x + u
 up-only x u r a y e w h (inl l) t = omega arith
 up-only x u r a y e w h (inr l) t = omega arith

@@ -4,7 +4,7 @@ use mathlib.Core.Logic.{_⊎_, inl, inr}
 use Prim.Native.Nat.{ℕ, _+_, _*_, _/_, _≤_, _<_}
 use native.Mathlib.Nat.{le-trans, le-of-eq, le-antisymm, le-of-mul-le-mul-right, mul-left-comm, mul-pos, mul-le-mul-right, div-mul-le-self, div-lt-iff-lt-mul, suc-mul, lt-suc-self, zero-lt-suc}
 use native.Mathlib.Omega.{arith}
-use Rattle.reals.specs.Rounding.{apart, ClosestWhole}
+use Rattle.reals.specs.Rounding.{distance, ClosestWhole}
 use Rattle.reals.proofs.Grid.{split}
 
 -- ---- x is the multiple of b at most half a step above a, and less than half a step below; y is another multiple
@@ -13,12 +13,12 @@ data Place (x y b : ℕ) : Type 0 where
   same : y ≡ x → Place x y b
   above : x + b ≤ y → Place x y b
 
-nearer : (a b x y : ℕ) → 2 * x ≤ 2 * a + b → 2 * a + b < 2 * x + 2 * b → Place x y b → apart x a ≤ apart y a
+nearer : (a b x y : ℕ) → 2 * x ≤ 2 * a + b → 2 * a + b < 2 * x + 2 * b → Place x y b → distance x a ≤ distance y a
 nearer a b x y l h (under p) = omega arith
 nearer a b x y l h (same p) = omega arith
 nearer a b x y l h (above p) = omega arith
 
-larger : (a b x y : ℕ) → 2 * a + b < 2 * x + 2 * b → Place x y b → apart y a ≡ apart x a → y ≤ x
+larger : (a b x y : ℕ) → 2 * a + b < 2 * x + 2 * b → Place x y b → distance y a ≡ distance x a → y ≤ x
 larger a b x y h (under p) e = omega arith
 larger a b x y h (same p) e = omega arith
 larger a b x y h (above p) e = omega arith

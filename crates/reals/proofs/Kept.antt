@@ -11,7 +11,7 @@ use lib.Ieee.Fits.{kept-lt, nearest-le, two, two-le-pos}
 use lib.Ieee.Nearest.{closest}
 use lib.Ieee.Order.{drop, kept}
 use lib.Ieee.Scale.{overflow}
-use Rattle.reals.specs.Rounding.{apart}
+use Rattle.reals.specs.Rounding.{distance}
 use Rattle.reals.proofs.Near.{Held, Even, Nearest}
 use Rattle.reals.proofs.Grid.{gap, Outside}
 use Rattle.reals.proofs.Closer.{ordered, closer, alone}
@@ -107,12 +107,12 @@ module _ (f : Format) (a b : ℕ) (B : 0 < b) where
   wide : 0 < u
   wide = mul-pos B (pow-pos k)
 
-  pub least : (o j i : ℕ) → o ≡ j * 2 ^ i → j < 2 ^ prec f → apart (grid f a b * b) a ≤ apart (o * b) a
+  pub least : (o j i : ℕ) → o ≡ j * 2 ^ i → j < 2 ^ prec f → distance (grid f a b * b) a ≤ distance (o * b) a
   least o j i e h =
       rw (swap q b k)
       (closer (a / u) u (a % u) a (o * b) (compare (a % u * 2) u) (ordered (a % u * 2) u) (div-add-mod' a u) (mod-lt a wide) (beside f a b o j i e h))
 
-  even : (o j i : ℕ) → o ≡ j * 2 ^ i → j < 2 ^ prec f → o ≢ grid f a b → apart (o * b) a ≡ apart (grid f a b * b) a → Even f (grid f a b)
+  even : (o j i : ℕ) → o ≡ j * 2 ^ i → j < 2 ^ prec f → o ≢ grid f a b → distance (o * b) a ≡ distance (grid f a b * b) a → Even f (grid f a b)
   even o j i e h d t =
       go
       (alone (a / u) u (a % u) a (o * b) (compare (a % u * 2) u) (ordered (a % u * 2) u) (div-add-mod' a u) (mod-lt a wide) (beside f a b o j i e h)

@@ -12,10 +12,10 @@ use lib.Ieee.Fits.{round-fits, add-fits, sub-fits, mul-fits, div-fits, rem-fits,
 use lib.Ieee.Bits.{ofBits-fits, ofBits-toBits, toBits-lt}
 use Rattle.reals.specs.declared.ArithOp.{ArithOp}
 use Rattle.reals.specs.declared.ArithOp.the-variants.{Add, Sub, Mul, Div, Rem}
-use Rattle.reals.specs.Singles.{Single, negative, units, signed, count, Has}
+use Rattle.reals.specs.Singles.{Single, negative, unitCount, signed, count, Has}
 use Rattle.reals.specs.Rounding.{Rounds, end}
 use Rattle.reals.specs.Operations.{ieee, signOf, exact, divides}
-use Rattle.reals.specs.Laws.{RealLaws, patternUnits, decimal, integer}
+use Rattle.reals.specs.Laws.{RealLaws, patternUnits, decimalFraction, integerFraction}
 use Rattle.reals.proofs.Round.{rounded}
 use Rattle.reals.proofs.Pattern.{bits-is, encode-decode, decode-special}
 use Rattle.reals.proofs.Ops.{add-rounded, sub-rounded, mul-rounded, div-rounded, neg-is}
@@ -35,11 +35,11 @@ ieee-fits Mul x y t = mul-fits binary32 x y
 ieee-fits Div x y t = div-fits binary32 x y
 ieee-fits Rem x y t = rem-fits binary32 x y t
 
-remainder : (x y : Float) → Single x → Single y → 0 < units y → Has (negative x) (units x % units y) (ieee Rem x y)
+remainder : (x y : Float) → Single x → Single y → 0 < unitCount y → Has (negative x) (unitCount x % unitCount y) (ieee Rem x y)
 remainder x y S R p =
-    has (negative x) (units x % units y) (ieee Rem x y) (ieee-fits Rem x y (S .fit)) (of-singles (rem-is binary32) x y S R (held x S) (held y R) p)
+    has (negative x) (unitCount x % unitCount y) (ieee Rem x y) (ieee-fits Rem x y (S .fit)) (of-singles (rem-is binary32) x y S R (held x S) (held y R) p)
 
-rounds : (o : ArithOp) (x y : Float) → Single x → Single y → (T (divides o) → 0 < units y) → Rounds (exact o x y) (ieee o x y)
+rounds : (o : ArithOp) (x y : Float) → Single x → Single y → (T (divides o) → 0 < unitCount y) → Rounds (exact o x y) (ieee o x y)
 rounds Add x y S R p = Bridge.rounds (ieee-fits Add x y (S .fit)) (of-singles (add-rounded binary32) x y S R)
 rounds Sub x y S R p = Bridge.rounds (ieee-fits Sub x y (S .fit)) (of-singles (sub-rounded binary32) x y S R)
 rounds Mul x y S R p = Bridge.rounds (ieee-fits Mul x y (S .fit)) (of-singles (mul-rounded binary32) x y S R)
@@ -54,10 +54,10 @@ real z = Ieee.ofInt binary32 z
 small : (n b : ℕ) → 0 < b → n ≤ 2 ^ 31 → n * 2 ^ 149 < end * b
 small n b B h = lt-of-le-of-lt (mul-le-mul-right (2 ^ 149) h) (lt-of-lt-of-le (lit< {m = 2 ^ 31 * 2 ^ 149} {n = end * 1} tt) (mul-le-mul-left end B))
 
-promote : (z : ℤ) → Rounds (integer z) (real z)
+promote : (z : ℤ) → Rounds (integerFraction z) (real z)
 promote z = Bridge.rounds (ofInt-fits binary32 z) (ofInt-rounded binary32 z)
 
-pub promoted : (z : ℤ) → natAbs z ≤ 2 ^ 31 → Close (integer z) (Ieee.ofInt binary32 z)
+pub promoted : (z : ℤ) → natAbs z ≤ 2 ^ 31 → Close (integerFraction z) (Ieee.ofInt binary32 z)
 promoted z h = within (small (natAbs z) 1 (le-refl 1) h) (promote z)
 
 pub exactly : (z : ℤ) → natAbs z ≤ 2 ^ 24 → Has (signOf false z) (natAbs z * 2 ^ 149) (Ieee.ofInt binary32 z)
@@ -66,14 +66,14 @@ exactly z h = has (signOf false z) (natAbs z * 2 ^ 149) (real z) (ofInt-fits bin
 same : (z : ℤ) → natAbs z ≤ 2 ^ 24 → count (real z) ≡ z *ℤ pos (2 ^ 149)
 same z h = let v = exactly z h in ap₂ signed (v .sign) (v .size) ∙ signed-times z (2 ^ 149)
 
-climbs : (y z : ℤ) → natAbs y ≤ 2 ^ 31 → natAbs z ≤ 2 ^ 31 → natAbs y ≤ natAbs z → units (real y) ≤ units (real z)
+climbs : (y z : ℤ) → natAbs y ≤ 2 ^ 31 → natAbs z ≤ 2 ^ 31 → natAbs y ≤ natAbs z → unitCount (real y) ≤ unitCount (real z)
 climbs y z h k l =
     let v = promoted y h in
     let w = promoted z k in
     Bridge.rising (natAbs y * 2 ^ 149) (natAbs z * 2 ^ 149) 1 (real y) (real z) (le-refl 1) (mul-le-mul-right (2 ^ 149) l) (v .single) (w .single) (v .closest) (w .closest)
 
 ordered : (y z : ℤ) → natAbs y ≤ 2 ^ 31 → natAbs z ≤ 2 ^ 31 → T (leZ y z) → T (leZ (count (real y)) (count (real z)))
-ordered y z h k = rw (promoted y h .sign, promoted z k .sign) (in-order y z (units (real y)) (units (real z)) (climbs y z h k) (climbs z y k h))
+ordered y z h k = rw (promoted y h .sign, promoted z k .sign) (in-order y z (unitCount (real y)) (unitCount (real z)) (climbs y z h k) (climbs z y k h))
 
 unit : Has false (2 ^ 149) (fin false 1 (pos 0))
 unfolding Ieee.ofInt
@@ -83,7 +83,7 @@ unit = exactly (pos 1) (lit≤ tt)
 ten : (k : ℕ) → 0 < 10 ^ k
 ten k = one-le-pow k 10 (lit≤ tt)
 
-literal : (n k : ℕ) → n < 10 ^ 7 → k ≤ 6 → Rounds (decimal n k) (ieee Div (real (pos n)) (real (pos (10 ^ k))))
+literal : (n k : ℕ) → n < 10 ^ 7 → k ≤ 6 → Rounds (decimalFraction n k) (ieee Div (real (pos n)) (real (pos (10 ^ k))))
 literal n k h l =
     Bridge.rounds (div-fits binary32 (real (pos n)) (real (pos (10 ^ k))))
     (literal-rounded binary32 n (10 ^ k) (le-trans (le-of-lt h) (lit≤ tt)) (le-trans (pow-le-pow-right {n = 10} (lit≤ tt) l) (lit≤ tt)) (ten k))
@@ -102,17 +102,17 @@ real-laws = record {
   infinite = Bridge.infinite;
   rounds = rounds;
   remainder = remainder;
-  neg = λ x S. has (not (negative x)) (units x) (Ieee.neg x) (neg-fits binary32 x (S .fit)) (neg-is binary32 x (negative x) (units x) (is x S));
+  neg = λ x S. has (not (negative x)) (unitCount x) (Ieee.neg x) (neg-fits binary32 x (S .fit)) (neg-is binary32 x (negative x) (unitCount x) (is x S));
   less = of-singles (lt-is binary32);
-  most = of-singles (le-is binary32);
+  less-equal = of-singles (le-is binary32);
   equal = of-singles (eq-is binary32);
   promote = promote;
-  promoted = λ z h. promoted z h .single;
+  promote-single = λ z h. promoted z h .single;
   same = same;
   ordered = ordered;
   fraction = λ s num den B. Bridge.rounds (round-fits binary32 s num den) (rounded binary32 s num den B);
-  literal = literal;
-  read = read;
+  literal-rounds = literal;
+  literal-single = read;
   unit = unit;
   halves = halves;
   encode-below = λ x S. toBits-lt binary32 x (S .fit);

@@ -7,7 +7,7 @@ use Prim.Native.Nat.{ℕ, _+_, _-_, _*_, _/_, _^_, _≤_, _<_}
 use lib.Ieee.{Float, nan, inf, fin, up, down, Format, prec, emax, low}
 use lib.Ieee.Exact.{HasValue}
 use lib.Ieee.Scale.{overflow}
-use Rattle.reals.specs.Rounding.{apart}
+use Rattle.reals.specs.Rounding.{distance}
 
 -- the sizes of the finite values, as `Size`
 pub record Held (f : Format) (n : ℕ) : Type 0 where
@@ -27,8 +27,8 @@ pub record Even (f : Format) (n : ℕ) : Type 0 where
 -- n is the size nearest to a / b units, and of two as near the even one, as `Closest`
 pub record Nearest (f : Format) (a b n : ℕ) : Type 0 where
   pub held : Held f n
-  pub least : (o : ℕ) → Held f o → apart (n * b) a ≤ apart (o * b) a
-  pub even : (o : ℕ) → Held f o → o ≢ n → apart (o * b) a ≡ apart (n * b) a → Even f n
+  pub least : (o : ℕ) → Held f o → distance (n * b) a ≤ distance (o * b) a
+  pub even : (o : ℕ) → Held f o → o ≢ n → distance (o * b) a ≡ distance (n * b) a → Even f n
 
 -- from here on the result is an infinity, as `end`
 abbrev pub limit : Format → ℕ

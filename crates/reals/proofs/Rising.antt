@@ -8,12 +8,12 @@ use lib.Pow.{pow-pos}
 use lib.Ieee.{Format, binary32, binary64, prec}
 use lib.Ieee.Positive.{first-pos}
 use lib.Ieee.Scale.{overflow}
-use Rattle.reals.specs.Rounding.{apart}
+use Rattle.reals.specs.Rounding.{distance}
 use Rattle.reals.proofs.Near.{Held, Even, Nearest}
 use Rattle.reals.proofs.Grid.{split, unless, lower}
 
 -- ---- with x and z as near to a, what lies strictly between is nearer
-inside : (x y z a : ℕ) → x < y → y < z → apart x a ≡ apart z a → apart x a ≤ apart y a → ⊥
+inside : (x y z a : ℕ) → x < y → y < z → distance x a ≡ distance z a → distance x a ≤ distance y a → ⊥
 inside x y z a h k e l = omega arith
 
 -- two even numbers of steps of w are two steps apart
@@ -49,7 +49,7 @@ pred-step q w m e M = e ∙ ap (λ (x : ℕ). x * w) (sym (whole q (first-pos q 
 
 -- ---- two nearest sizes, n below m, are both even and have no size between them: so the size after n, or the one before m, is out of place
 module _ (f : Format) (a b n m : ℕ) (B : 0 < b) (N : Nearest f a b n) (M : Nearest f a b m) (L : n < m) where
-  same : apart (n * b) a ≡ apart (m * b) a
+  same : distance (n * b) a ≡ distance (m * b) a
   same = le-antisymm (N .least m (M .held)) (M .least n (N .held))
 
   distinct : n ≢ m
@@ -98,10 +98,10 @@ module _ (f : Format) (a b n m : ℕ) (B : 0 < b) (N : Nearest f a b n) (M : Nea
           two-steps q (em .half) (2 ^ em .place) n m (coarser (en .half) (em .place) (en .place) n (le-of-lt h) (en .is)) (em .is) (pow-pos (em .place)) L before
 
 -- ---- with z below x: what x is as near to as z lies at their middle or above, and what z is as near to as x there or below
-at-least : (x z a : ℕ) → z < x → apart x a ≤ apart z a → z + x ≤ 2 * a
+at-least : (x z a : ℕ) → z < x → distance x a ≤ distance z a → z + x ≤ 2 * a
 at-least x z a l h = omega arith
 
-at-most : (x z c : ℕ) → z < x → apart z c ≤ apart x c → 2 * c ≤ z + x
+at-most : (x z c : ℕ) → z < x → distance z c ≤ distance x c → 2 * c ≤ z + x
 at-most x z c l h = omega arith
 
 between : (m a c : ℕ) → a ≤ c → m ≤ 2 * a → 2 * c ≤ m → c ≡ a

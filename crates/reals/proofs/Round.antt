@@ -13,7 +13,7 @@ use lib.Ieee.Fits.{round-is}
 use lib.Ieee.Exact.{HasValue, units-val}
 use lib.Ieee.Order.{drop, kept, round-mono}
 use lib.Ieee.Scale.{overflow, round-val}
-use Rattle.reals.specs.Rounding.{apart}
+use Rattle.reals.specs.Rounding.{distance}
 use Rattle.reals.proofs.Near.{limit, Rounded, to, over}
 use Rattle.reals.proofs.Grid.{split, unless}
 use Rattle.reals.proofs.Kept.{grid, least, is-nearest}
@@ -36,7 +36,7 @@ unfolding largest half-step
 overflow-is binary32 = refl
 overflow-is binary64 = refl
 
-beneath : (L h a b n : ℕ) → 0 < h → 0 < b → a < (L + h) * b → L + h + h ≤ n → apart (n * b) a ≤ apart (L * b) a → ⊥
+beneath : (L h a b n : ℕ) → 0 < h → 0 < b → a < (L + h) * b → L + h + h ≤ n → distance (n * b) a ≤ distance (L * b) a → ⊥
 beneath L h a b n H B x y z =
     let g : (L + h + h) * b ≤ n * b = mul-le-mul-right b y in
     let k : 0 < h * b = mul-pos H B in

@@ -4,24 +4,24 @@ use mathlib.Core.Bool.{Bool}
 use Prim.Native.Nat.{ℕ, _+_, _-_, _*_, _^_, _≤_, _<_}
 use native.Mathlib.Nat.{le-trans, le-of-eq, mul-right-comm, add-mul, mul-le-mul-right, mul-lt-mul-of-pos-right, le-of-mul-le-mul-right, lt-of-mul-lt-mul-right, eq-of-mul-eq-mul-right}
 use lib.Ieee.{Float, Format, low, round}
-use Rattle.reals.specs.Rounding.{apart}
+use Rattle.reals.specs.Rounding.{distance}
 use Rattle.reals.proofs.Near.{Nearest, limit, Rounded, to, over}
 use Rattle.reals.proofs.Round.{rounded}
 use Rattle.reals.proofs.Scaled.{sub-mul}
 
-apart-mul : (x y c : ℕ) → apart x y * c ≡ apart (x * c) (y * c)
+apart-mul : (x y c : ℕ) → distance x y * c ≡ distance (x * c) (y * c)
 apart-mul x y c = add-mul (x - y) (y - x) c ∙ ap₂ _+_ (sub-mul x y c) (sub-mul y x c)
 
 module _ (a b c d : ℕ) (B : 0 < b) (D : 0 < d) (e : a * d ≡ c * b) where
   -- the distance from a / b, times d, is the distance from c / d, times b
-  apart-same : (n : ℕ) → apart (n * b) a * d ≡ apart (n * d) c * b
-  apart-same n = apart-mul (n * b) a d ∙ ap₂ apart (mul-right-comm n b d) e ∙ sym (apart-mul (n * d) c b)
+  apart-same : (n : ℕ) → distance (n * b) a * d ≡ distance (n * d) c * b
+  apart-same n = apart-mul (n * b) a d ∙ ap₂ distance (mul-right-comm n b d) e ∙ sym (apart-mul (n * d) c b)
 
-  apart-le : (n o : ℕ) → apart (n * b) a ≤ apart (o * b) a → apart (n * d) c ≤ apart (o * d) c
+  apart-le : (n o : ℕ) → distance (n * b) a ≤ distance (o * b) a → distance (n * d) c ≤ distance (o * d) c
   apart-le n o h = le-of-mul-le-mul-right (le-trans (le-of-eq (sym (apart-same n))) (le-trans (mul-le-mul-right d h) (le-of-eq (apart-same o)))) B
 
-  apart-eq : (n o : ℕ) → apart (o * d) c ≡ apart (n * d) c → apart (o * b) a ≡ apart (n * b) a
-  apart-eq n o h = eq-of-mul-eq-mul-right d D (apart (o * b) a) (apart (n * b) a) (apart-same o ∙ ap (λ (z : ℕ). z * b) h ∙ sym (apart-same n))
+  apart-eq : (n o : ℕ) → distance (o * d) c ≡ distance (n * d) c → distance (o * b) a ≡ distance (n * b) a
+  apart-eq n o h = eq-of-mul-eq-mul-right d D (distance (o * b) a) (distance (n * b) a) (apart-same o ∙ ap (λ (z : ℕ). z * b) h ∙ sym (apart-same n))
 
   nearest-same : (f : Format) (n : ℕ) → Nearest f a b n → Nearest f c d n
   nearest-same f n N = record {

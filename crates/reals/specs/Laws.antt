@@ -12,7 +12,7 @@ use lib.Ieee.{Float, inf, fin, binary32}
 use lib.Ieee.Scale.{finite}
 use Rattle.reals.specs.declared.ArithOp.{ArithOp}
 use Rattle.reals.specs.declared.ArithOp.the-variants.{Div, Rem}
-use Rattle.reals.specs.Singles.{Single, negative, units, signed, count, Has, Size}
+use Rattle.reals.specs.Singles.{Single, negative, unitCount, signed, count, Has, Size}
 use Rattle.reals.specs.Rounding.{Fraction, Closest, Rounds, end, ClosestWhole}
 use Rattle.reals.specs.Operations.{ieee, exact, signOf, divides}
 
@@ -21,43 +21,43 @@ abbrev pub patternUnits : ℕ → ℕ
 patternUnits b = cond (eqb (b % 2 ^ 31 / 2 ^ 23) 0) (b % 2 ^ 23) ((2 ^ 23 + b % 2 ^ 23) * 2 ^ (b % 2 ^ 31 / 2 ^ 23 - 1))
 
 -- the decimal n / 10 ^ k, in units
-abbrev pub decimal : ℕ → ℕ → Fraction
-decimal n k = record { sign = false; num = n * 2 ^ 149; den = 10 ^ k }
+abbrev pub decimalFraction : ℕ → ℕ → Fraction
+decimalFraction n k = record { sign = false; num = n * 2 ^ 149; den = 10 ^ k }
 
 -- the integer z, in units
-abbrev pub integer : ℤ → Fraction
-integer z = record { sign = signOf false z; num = natAbs z * 2 ^ 149; den = 1 }
+abbrev pub integerFraction : ℤ → Fraction
+integerFraction z = record { sign = signOf false z; num = natAbs z * 2 ^ 149; den = 1 }
 
 pub record RealLaws : Type 0 where
   -- a pattern whose exponent's field is not all ones is a finite single, of that sign and size
   pub pattern : (b : ℕ) → b % 2 ^ 31 / 2 ^ 23 < 255 → Has (leb (2 ^ 31) b) (patternUnits b) (Ieee.ofBits binary32 b)
   -- the singles: one for each sign and size
-  pub size : (x : Float) → Single x → Size (units x)
+  pub size : (x : Float) → Single x → Size (unitCount x)
   pub each : (s : Bool) (n : ℕ) → Size n → (x : Float) × Has s n x
   pub only : (s : Bool) (n : ℕ) (x y : Float) → Has s n x → Has s n y → x ≡ y
   -- rounding has one result, never falls where the fraction rises, and is an infinity exactly from the end of the range on
   pub one : (q : Fraction) (x y : Float) → 0 < q .den → Rounds q x → Rounds q y → x ≡ y
-  pub rising : (a c b : ℕ) (x y : Float) → 0 < b → a ≤ c → Single x → Single y → Closest a b x → Closest c b y → units x ≤ units y
+  pub rising : (a c b : ℕ) (x y : Float) → 0 < b → a ≤ c → Single x → Single y → Closest a b x → Closest c b y → unitCount x ≤ unitCount y
   pub infinite : (q : Fraction) (x : Float) → Rounds q x → (x ≡ inf (q .sign)) ↔ (end * q .den ≤ q .num)
   -- every operation of two finite singles gives its exact result, rounded once; a remainder is exact
-  pub rounds : (o : ArithOp) (x y : Float) → Single x → Single y → (T (divides o) → 0 < units y) → Rounds (exact o x y) (ieee o x y)
-  pub remainder : (x y : Float) → Single x → Single y → 0 < units y → Has (negative x) (units x % units y) (ieee Rem x y)
+  pub rounds : (o : ArithOp) (x y : Float) → Single x → Single y → (T (divides o) → 0 < unitCount y) → Rounds (exact o x y) (ieee o x y)
+  pub remainder : (x y : Float) → Single x → Single y → 0 < unitCount y → Has (negative x) (unitCount x % unitCount y) (ieee Rem x y)
   -- negation changes the sign alone
-  pub neg : (x : Float) → Single x → Has (not (negative x)) (units x) (Ieee.neg x)
+  pub neg : (x : Float) → Single x → Has (not (negative x)) (unitCount x) (Ieee.neg x)
   -- order and equality are those of the values; so -0.0 equals 0.0
   pub less : (x y : Float) → Single x → Single y → Ieee.lt x y ≡ ltZ (count x) (count y)
-  pub most : (x y : Float) → Single x → Single y → Ieee.le x y ≡ leZ (count x) (count y)
+  pub less-equal : (x y : Float) → Single x → Single y → Ieee.le x y ≡ leZ (count x) (count y)
   pub equal : (x y : Float) → Single x → Single y → T (Ieee.eq x y) ↔ (count x ≡ count y)
   -- an integer's promotion is the nearest single: a finite one for 32 bits, the integer itself up to 2 ^ 24, and it keeps the order
-  pub promote : (z : ℤ) → Rounds (integer z) (Ieee.ofInt binary32 z)
-  pub promoted : (z : ℤ) → natAbs z ≤ 2 ^ 31 → Single (Ieee.ofInt binary32 z)
+  pub promote : (z : ℤ) → Rounds (integerFraction z) (Ieee.ofInt binary32 z)
+  pub promote-single : (z : ℤ) → natAbs z ≤ 2 ^ 31 → Single (Ieee.ofInt binary32 z)
   pub same : (z : ℤ) → natAbs z ≤ 2 ^ 24 → count (Ieee.ofInt binary32 z) ≡ z *ℤ pos (2 ^ 149)
   pub ordered : (y z : ℤ) → natAbs y ≤ 2 ^ 31 → natAbs z ≤ 2 ^ 31 → T (leZ y z) → T (leZ (count (Ieee.ofInt binary32 y)) (count (Ieee.ofInt binary32 z)))
   -- the library's rounding of any fraction num / den is the nearest single
   pub fraction : (s : Bool) (num den : ℕ) → 0 < den → Rounds (record { sign = s; num = num * 2 ^ 149; den = den }) (Ieee.round binary32 s num den)
   -- a decimal of at most seven digits: the division of two exact singles is the nearest single
-  pub literal : (n k : ℕ) → n < 10 ^ 7 → k ≤ 6 → Rounds (decimal n k) (ieee Div (Ieee.ofInt binary32 (pos n)) (Ieee.ofInt binary32 (pos (10 ^ k))))
-  pub read : (n k : ℕ) → n < 10 ^ 7 → k ≤ 6 → Single (ieee Div (Ieee.ofInt binary32 (pos n)) (Ieee.ofInt binary32 (pos (10 ^ k))))
+  pub literal-rounds : (n k : ℕ) → n < 10 ^ 7 → k ≤ 6 → Rounds (decimalFraction n k) (ieee Div (Ieee.ofInt binary32 (pos n)) (Ieee.ofInt binary32 (pos (10 ^ k))))
+  pub literal-single : (n k : ℕ) → n < 10 ^ 7 → k ≤ 6 → Single (ieee Div (Ieee.ofInt binary32 (pos n)) (Ieee.ofInt binary32 (pos (10 ^ k))))
   -- 1.0
   pub unit : Has false (2 ^ 149) (fin false 1 (pos 0))
   -- (2 * a + b) / (2 * b) is a / b to the nearest whole number, halves up

@@ -12,7 +12,7 @@ use Rattle.grammar.specs.Parse.{mostOpen}
 use Rattle.grammar.specs.Theorems.{isOpener, isCloser, openAfter, Shallow, done, opens, goes-on}
 use Rattle.grammar.proofs.Theorems.{grammar-theorems}
 use Rattle.text.specs.Judge.{Judgement, accepted, refused}
-use Rattle.text.specs.Theorems.{Sized, Reads, Outcome, wrong-size, wrong-token, wrong-end, wrong-next, too-deep, wrong-kind, formula}
+use Rattle.text.specs.Theorems.{Sized, ScansTo, HasJudgement, wrong-size, wrong-token, wrong-end, wrong-next, too-deep, wrong-kind, formula}
 
 -- ---- what holds of tokens holds of those that they begin with
 viable-front : (p v : List Tok) → Viable (p ++ v) → Viable p
@@ -101,7 +101,7 @@ one-reason {p = p} (none t a e) (none u b f) = let i = grammar-theorems .unambig
 data Sorted (s : List ℕ) : Judgement → Type 0 where
   size : (Sized s → ⊥) → Sorted s (refused 3 0)
   token : {a p : ℕ} → Sized s → scan s ≡ wrong a p → Sorted s (refused a p)
-  read : {j : Judgement} (w p r : List Tok) → Reads s w → Stop w p r → Reason s p r j → Sorted s j
+  read : {j : Judgement} (w p r : List Tok) → ScansTo s w → Stop w p r → Reason s p r j → Sorted s j
 
 whole : (w : List Tok) → Viable w → Shallow 0 w → Stop w w []
 whole w v sh = record { splits = sym (append-nil w); viable = v; shallow = sh; blocked = λ x ys e. let z : _≡_ {A = ℕ} 0 1 = cc in absurd (omega arith) }
@@ -119,7 +119,7 @@ at-token p x ys v sh n =
 formula-viable : {w : List Tok} {t : Tree} → Formula w t → Viable w
 formula-viable {w} {t} a = ([], t, rw append-nil a)
 
-sorted : {s : List ℕ} {j : Judgement} → Outcome s j → Sorted s j
+sorted : {s : List ℕ} {j : Judgement} → HasJudgement s j → Sorted s j
 sorted (wrong-size n) = size n
 sorted (wrong-token h e) = token h e
 sorted (wrong-end w h v n sh) = read w w [] h (whole w v sh) (unfinished n)
@@ -129,7 +129,7 @@ sorted (too-deep p x ys h v sh o le) =
 sorted (wrong-kind w t h a sh e) = read w w [] h (whole w (formula-viable a) sh) (kind t a e)
 sorted (formula {t = t} h) = read (h .words) (h .words) [] (h .reads) (whole (h .words) (formula-viable (h .formula)) (h .shallow)) (none t (h .formula) (h .kinds))
 
-pub one-outcome : {s : List ℕ} {j k : Judgement} → Outcome s j → Outcome s k → j ≡ k
+pub one-outcome : {s : List ℕ} {j k : Judgement} → HasJudgement s j → HasJudgement s k → j ≡ k
 one-outcome {s} h i = go (sorted h) (sorted i)
   where
     same-read : {w v p r q u : List Tok} {j k : Judgement} → w ≡ v → Stop w p r → Reason s p r j → Stop v q u → Reason s q u k → j ≡ k

@@ -16,9 +16,9 @@ use Rattle.tokens.proofs.Tests.{choose}
 use Rattle.tokens.proofs.Places.{Below, nothing, more, tokens-inside, wrong-inside}
 use Rattle.grammar.specs.Tree.{Tree, unary, binary, logic, choice, Place, nowhere, at, earlier, unless, treeKind, wrongKind}
 use Rattle.grammar.specs.Symbols.{infixTree, Arguments, one, more as further, argument, callTree}
-use Rattle.grammar.specs.Grammar.{E, number, name, index, parenthesis, call, prefixed, up, infixed, last, next}
+use Rattle.grammar.specs.Grammar.{Derives, number, name, index, parenthesis, call, prefixed, up, infixed, last, next}
 use Rattle.text.specs.Judge.{refused}
-use Rattle.text.specs.Theorems.{Sized, Outcome, wrong-size, wrong-token, wrong-end, wrong-next, too-deep, wrong-kind}
+use Rattle.text.specs.Theorems.{Sized, HasJudgement, wrong-size, wrong-token, wrong-end, wrong-next, too-deep, wrong-kind}
 
 -- ---- tokens below n
 module _ {n : ℕ} where
@@ -91,7 +91,7 @@ module _ {n : ℕ} where
   low-call Min p ts l h = low-binary _ _ _ l (low-argument 0 h) (low-argument 1 h)
   low-call If p ts l h = low-choice p _ _ _ (low-argument 0 h) (low-argument 1 h) (low-argument 2 h)
 
-  low : {l : ℕ} {w : List Tok} {t : Tree} → E l w t → Below n w → Low n (wrongKind t)
+  low : {l : ℕ} {w : List Tok} {t : Tree} → Derives l w t → Below n w → Low n (wrongKind t)
   unfolding wrongKind
   low d = elim d as (λ l w t d. Below n w → Low n (wrongKind t)) (λ m w ts a. Below n w → AllLow n ts) [
     | number ↦ λ h. none
@@ -113,7 +113,7 @@ low-at (some l) = l
 bounded : {s : List ℕ} {p : ℕ} → Sized s → p ≤ length s → (p ≤ length s) × (p ≤ 1024)
 bounded h le = (le, omega (arith, h .short))
 
-pub placed : {s : List ℕ} {a p : ℕ} → Outcome s (refused a p) → (p ≤ length s) × (p ≤ 1024)
+pub placed : {s : List ℕ} {a p : ℕ} → HasJudgement s (refused a p) → (p ≤ length s) × (p ≤ 1024)
 placed (wrong-size n) = (omega arith, omega arith)
 placed {s} (wrong-token h e) = bounded h (omega (arith, wrong-inside s e))
 placed (wrong-end w h v n sh) = bounded (h .sized) (omega arith)

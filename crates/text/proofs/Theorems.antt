@@ -13,8 +13,8 @@ use Rattle.grammar.specs.Parse.{Result}
 use Rattle.grammar.specs.Theorems as G
 use Rattle.grammar.specs.Theorems.{Found}
 use Rattle.grammar.proofs.Theorems.{grammar-theorems}
-use Rattle.text.specs.Judge.{Judgement, accepted, refused, ofKinds, ofParse, ofScan, judge}
-use Rattle.text.specs.Theorems.{Sized, Reads, Accepts, Outcome, wrong-size, wrong-token, wrong-end, wrong-next, too-deep, wrong-kind, formula, TextTheorems}
+use Rattle.text.specs.Judge.{Judgement, accepted, refused, judgeKinds, judgeParse, judgeScan, judge}
+use Rattle.text.specs.Theorems.{Sized, ScansTo, AcceptedFormula, HasJudgement, wrong-size, wrong-token, wrong-end, wrong-next, too-deep, wrong-kind, formula, TextTheorems}
 use Rattle.text.proofs.Only.{one-outcome}
 use Rattle.text.proofs.Places.{placed}
 
@@ -31,41 +31,41 @@ sized s e = go (leb 1 (length s)) (leb (length s) 1024) refl refl e
     go false b p q e = let z : _≡_ {A = ℕ} 0 1 = cc in absurd (omega arith)
 
 -- what each result of the parser says
-found-outcome : (s : List ℕ) (w : List Tok) {q : Result Tree} → Reads s w → Found w q → Outcome s (ofParse s q)
-unfolding ofParse
+found-outcome : (s : List ℕ) (w : List Tok) {q : Result Tree} → ScansTo s w → Found w q → HasJudgement s (judgeParse s q)
+unfolding judgeParse
 found-outcome s w h (G.formula {t = t} a sh) = go (wrongKind t) refl
   where
-    go : (p : Place) → wrongKind t ≡ p → Outcome s (ofKinds t p)
+    go : (p : Place) → wrongKind t ≡ p → HasJudgement s (judgeKinds t p)
     go nowhere e = formula (record { words = w; reads = h; formula = a; shallow = sh; kinds = e })
     go (at p) e = wrong-kind w t h a sh e
 found-outcome s w h (G.unfinished v n sh) = wrong-end w h v n sh
-found-outcome s w h (G.surplus {x = x} {ys = ys} p e v n sh) = wrong-next p x ys (subst (Reads s) e h) v n sh
-found-outcome s w h (G.refused {x = x} {ys = ys} p e v n sh) = wrong-next p x ys (subst (Reads s) e h) v n sh
-found-outcome s w h (G.too-deep {x = x} {ys = ys} p e v sh o le) = too-deep p x ys (subst (Reads s) e h) v sh o le
+found-outcome s w h (G.surplus {x = x} {ys = ys} p e v n sh) = wrong-next p x ys (subst (ScansTo s) e h) v n sh
+found-outcome s w h (G.refused {x = x} {ys = ys} p e v n sh) = wrong-next p x ys (subst (ScansTo s) e h) v n sh
+found-outcome s w h (G.too-deep {x = x} {ys = ys} p e v sh o le) = too-deep p x ys (subst (ScansTo s) e h) v sh o le
 
-outcome : (s : List ℕ) → Outcome s (judge s)
-unfolding judge ofScan
+outcome : (s : List ℕ) → HasJudgement s (judge s)
+unfolding judge judgeScan
 outcome s = go (leb 1 (length s) && leb (length s) 1024) refl
   where
-    read : Sized s → (z : Scan) → scan s ≡ z → Outcome s (ofScan s z)
+    read : Sized s → (z : Scan) → scan s ≡ z → HasJudgement s (judgeScan s z)
     read h (tokens w) e = found-outcome s w (record { sized = h; scanned = e }) (grammar-theorems .found w)
     read h (wrong a p) e = wrong-token h e
 
-    go : (b : Bool) → (leb 1 (length s) && leb (length s) 1024) ≡ b → Outcome s (cond b (ofScan s (scan s)) (refused 3 0))
+    go : (b : Bool) → (leb 1 (length s) && leb (length s) 1024) ≡ b → HasJudgement s (cond b (judgeScan s (scan s)) (refused 3 0))
     go true e = read (sized s e) (scan s) refl
     go false e = wrong-size (λ h. let f = fits s h in let z : _≡_ {A = ℕ} 0 1 = cc in omega arith)
 
-only : (s : List ℕ) (j : Judgement) → Outcome s j → j ≡ judge s
+only : (s : List ℕ) (j : Judgement) → HasJudgement s j → j ≡ judge s
 only s j h = one-outcome h (outcome s)
 
-accepts-only : (s : List ℕ) (t : Tree) → judge s ≡ accepted t → Accepts s t
-accepts-only s t e = go (subst (Outcome s) e (outcome s))
+accepts-only : (s : List ℕ) (t : Tree) → judge s ≡ accepted t → AcceptedFormula s t
+accepts-only s t e = go (subst (HasJudgement s) e (outcome s))
   where
-    go : Outcome s (accepted t) → Accepts s t
+    go : HasJudgement s (accepted t) → AcceptedFormula s t
     go (formula h) = h
 
 place : (s : List ℕ) (a p : ℕ) → judge s ≡ refused a p → (p ≤ length s) × (p ≤ 1024)
-place s a p e = placed (subst (Outcome s) e (outcome s))
+place s a p e = placed (subst (HasJudgement s) e (outcome s))
 
 pub text-theorems : TextTheorems
 text-theorems =

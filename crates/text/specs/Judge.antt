@@ -18,24 +18,24 @@ abbrev pub placeOf : List ℕ → List Tok → ℕ
 placeOf s [] = length s
 placeOf s (x ∷ xs) = x .place
 
-abbrev pub ofKinds : Tree → Place → Judgement
-ofKinds t nowhere = accepted t
-ofKinds t (at p) = refused 9 p
+abbrev pub judgeKinds : Tree → Place → Judgement
+judgeKinds t nowhere = accepted t
+judgeKinds t (at p) = refused 9 p
 
-unfoldable pub ofParse : List ℕ → Result Tree → Judgement
+unfoldable pub judgeParse : List ℕ → Result Tree → Judgement
 unfolding wrongKind
-ofParse s (ok t []) = ofKinds t (wrongKind t)
-ofParse s (ok t (x ∷ xs)) = refused 7 (x .place)
-ofParse s (bad r) = refused 7 (placeOf s r)
-ofParse s (deep r) = refused 8 (placeOf s r)
-ofParse s starved = refused 7 0
+judgeParse s (ok t []) = judgeKinds t (wrongKind t)
+judgeParse s (ok t (x ∷ xs)) = refused 7 (x .place)
+judgeParse s (bad r) = refused 7 (placeOf s r)
+judgeParse s (deep r) = refused 8 (placeOf s r)
+judgeParse s starved = refused 7 0
 
-unfoldable pub ofScan : List ℕ → Scan → Judgement
-unfolding ofParse parse
-ofScan s (tokens ts) = ofParse s (parse ts)
-ofScan s (wrong a p) = refused a p
+unfoldable pub judgeScan : List ℕ → Scan → Judgement
+unfolding judgeParse parse
+judgeScan s (tokens ts) = judgeParse s (parse ts)
+judgeScan s (wrong a p) = refused a p
 
 -- "expression empty or over 1,024 bytes"
 unfoldable pub judge : List ℕ → Judgement
-unfolding ofScan
-judge s = cond (leb 1 (length s) && leb (length s) 1024) (ofScan s (scan s)) (refused 3 0)
+unfolding judgeScan
+judge s = cond (leb 1 (length s) && leb (length s) 1024) (judgeScan s (scan s)) (refused 3 0)

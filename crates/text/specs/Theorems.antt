@@ -18,38 +18,38 @@ pub record Sized (s : List ℕ) : Type 0 where
   pub short : length s ≤ 1024
 
 -- the text is of such a length, and all of it is the tokens w
-pub record Reads (s : List ℕ) (w : List Tok) : Type 0 where
+pub record ScansTo (s : List ℕ) (w : List Tok) : Type 0 where
   pub sized : Sized s
   pub scanned : scan s ≡ tokens w
 
 -- "an accepted formula is an expression of which no refusal of its text, 3 to 9, holds"
-pub record Accepts (s : List ℕ) (t : Tree) : Type 0 where
+pub record AcceptedFormula (s : List ℕ) (t : Tree) : Type 0 where
   pub words : List Tok
-  pub reads : Reads s words
+  pub reads : ScansTo s words
   pub formula : Formula words t
   pub shallow : Shallow 0 words
   pub kinds : wrongKind t ≡ nowhere
 
 -- "Order .. 3 .. then 4, 5, 6 over the whole text, the smallest place first; then 7 and 8, smallest place first, 7 on a tie; then 9, smallest place"
-pub data Outcome (s : List ℕ) : Judgement → Type 0 where
-  wrong-size : (Sized s → ⊥) → Outcome s (refused 3 0)
-  wrong-token : {a p : ℕ} → Sized s → scan s ≡ wrong a p → Outcome s (refused a p)
+pub data HasJudgement (s : List ℕ) : Judgement → Type 0 where
+  wrong-size : (Sized s → ⊥) → HasJudgement s (refused 3 0)
+  wrong-token : {a p : ℕ} → Sized s → scan s ≡ wrong a p → HasJudgement s (refused a p)
   -- 7: "the first token such that no grammatical text begins with the tokens up to and including it, length, nesting and kinds ignored, or the text's length if there is none"
-  wrong-end : (w : List Tok) → Reads s w → Viable w → ((t : Tree) → Formula w t → ⊥) → Shallow 0 w → Outcome s (refused 7 (length s))
-  wrong-next : (p : List Tok) (x : Tok) (ys : List Tok) → Reads s (p ++ x ∷ ys) → Viable p → (Viable (p ++ x ∷ []) → ⊥) → Shallow 0 p → Outcome s (refused 7 (x .place))
+  wrong-end : (w : List Tok) → ScansTo s w → Viable w → ((t : Tree) → Formula w t → ⊥) → Shallow 0 w → HasJudgement s (refused 7 (length s))
+  wrong-next : (p : List Tok) (x : Tok) (ys : List Tok) → ScansTo s (p ++ x ∷ ys) → Viable p → (Viable (p ++ x ∷ []) → ⊥) → Shallow 0 p → HasJudgement s (refused 7 (x .place))
   -- 8: "the first opener met with eight still open"
-  too-deep : (p : List Tok) (x : Tok) (ys : List Tok) → Reads s (p ++ x ∷ ys) → Viable (p ++ x ∷ []) → Shallow 0 p → isOpener x ≡ true → mostOpen ≤ openAfter 0 p → Outcome s (refused 8 (x .place))
+  too-deep : (p : List Tok) (x : Tok) (ys : List Tok) → ScansTo s (p ++ x ∷ ys) → Viable (p ++ x ∷ []) → Shallow 0 p → isOpener x ≡ true → mostOpen ≤ openAfter 0 p → HasJudgement s (refused 8 (x .place))
   -- 9: "an operand of the wrong kind"
-  wrong-kind : {p : ℕ} (w : List Tok) (t : Tree) → Reads s w → Formula w t → Shallow 0 w → wrongKind t ≡ at p → Outcome s (refused 9 p)
-  formula : {t : Tree} → Accepts s t → Outcome s (accepted t)
+  wrong-kind : {p : ℕ} (w : List Tok) (t : Tree) → ScansTo s w → Formula w t → Shallow 0 w → wrongKind t ≡ at p → HasJudgement s (refused 9 p)
+  formula : {t : Tree} → AcceptedFormula s t → HasJudgement s (accepted t)
 
 pub record TextTheorems : Type 0 where
   -- what each judgement says of the text
-  pub outcome : (s : List ℕ) → Outcome s (judge s)
+  pub outcome : (s : List ℕ) → HasJudgement s (judge s)
   -- accepted are exactly the formulas, each with its one tree
-  pub accepts : (s : List ℕ) (t : Tree) → judge s ≡ accepted t ↔ Accepts s t
+  pub accepts : (s : List ℕ) (t : Tree) → judge s ≡ accepted t ↔ AcceptedFormula s t
   -- "Given exactly if": a text has no outcome but its judgement
-  pub only : (s : List ℕ) (j : Judgement) → Outcome s j → j ≡ judge s
+  pub only : (s : List ℕ) (j : Judgement) → HasJudgement s j → j ≡ judge s
   -- the place of a refusal is that of a byte of the text, or its length; so no place is above 1,024
   pub place-inside : (s : List ℕ) (a p : ℕ) → judge s ≡ refused a p → p ≤ length s
   pub place-small : (s : List ℕ) (a p : ℕ) → judge s ≡ refused a p → p ≤ 1024

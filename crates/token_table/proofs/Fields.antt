@@ -19,7 +19,7 @@ use Rattle.tokens.specs.declared.Function.the-variants.{Abs, ToReal, ToInt, Tru
 use Rattle.tokens.specs.declared.Token.{Token}
 use Rattle.tokens.specs.declared.Token.the-variants.{Number}
 use Rattle.tokens.proofs.Known.{Known}
-use Rattle.token_table.specs.Table.{Entry, FunctionOf, functionNumber, functionNumbered, fields, classOf, operandOf, numberOf, wordPlace, realAt, Sound}
+use Rattle.token_table.specs.private.Table.{Entry, FunctionOf, functionNumber, functionNumbered, packFields, wordClass, wordOperand, wordNumber, wordPlace, realEntry, Sound}
 
 -- ---- sound tokens
 pub has-pattern : {x : Float} → Sound (Number (Real x)) → T (not (isNan x))
@@ -36,12 +36,12 @@ known-sound (Known.sign n h) = Sound.symbol n h
 
 -- ---- the fields of a word
 pub record Parts (w c o n p : ℕ) : Type 0 where
-  pub class : classOf w ≡ c
-  pub operand : operandOf w ≡ o
-  pub number : numberOf w ≡ n
+  pub class : wordClass w ≡ c
+  pub operand : wordOperand w ≡ o
+  pub number : wordNumber w ≡ n
   pub place : wordPlace w ≡ p
 
-pub parts : (class operand number place : ℕ) → class < 256 → operand < 256 → place < 65536 → Parts (fields class operand number place) class operand number place
+pub parts : (class operand number place : ℕ) → class < 256 → operand < 256 → place < 65536 → Parts (packFields class operand number place) class operand number place
 parts class operand number place h k l = record { class = omega arith; operand = omega arith; number = omega arith; place = omega arith }
 
 -- ---- operands and their numbers
@@ -64,7 +64,7 @@ function Max = (lit< tt, refl)
 function Min = (lit< tt, refl)
 function If = (lit< tt, refl)
 
-pub finite-real : (x : Float) (p : ℕ) → T (finite x) → realAt (finiteOr13 x) p ≡ Entry.Is (Number (Real x)) p
+pub finite-real : (x : Float) (p : ℕ) → T (finite x) → realEntry (finiteOr13 x) p ≡ Entry.Is (Number (Real x)) p
 finite-real nan p h = absurd h
 finite-real (inf s) p h = absurd h
 finite-real (fin s m e) p h = refl

@@ -10,22 +10,22 @@ use lib.Seq.{take-suc-set, set-split, append-snoc}
 use Rattle.values.specs.declared.Value.the-variants.{Int, Real}
 use Rattle.tokens.specs.declared.Token.{Token}
 use Rattle.tokens.specs.declared.Token.the-variants.{Number, Cell, Letter, Name, Symbol}
-use Rattle.tokens.specs.Scan.{Lexeme, Found, Wrong, End, Tok, Scan, before, lexemeOf, blanks, lexemeAt, scan}
+use Rattle.tokens.specs.Scan.{Lexeme, Found, Wrong, End, Tok, Scan, consToken, lexemeOf, blanks, lexemeAt, scan}
 use Rattle.tokens.proofs.Laws.{Lies, found as found-at, wrong-at, rest, at-found, at-wrong, at-end}
 use Rattle.tokens.proofs.Known.{known}
 use Rattle.token_table.specs.declared.Filled.{Filled}
 use Rattle.token_table.specs.declared.Filled.the-variants as Filled
-use Rattle.token_table.specs.Table.{Entry, fields, packed, classOf, numberOf, wordPlace, entryOf, Fills, filled, stopped, Sound, Word, blank, Tokens}
-use Rattle.token_table.specs.Lexing.{Lexes, found, wrong}
+use Rattle.token_table.specs.private.Table.{Entry, packFields, packToken, wordClass, wordNumber, wordPlace, entryOf, Fills, filled, stopped, Sound, TokenWord, blank, TokenWords}
+use Rattle.token_table.specs.private.Lexing.{Lexes, found, wrong}
 use Rattle.token_table.proofs.Fields.{known-sound}
 use Rattle.token_table.proofs.Laws.{tok, some-class, place-packed, unpacked, blank-end, list-is, list-end}
 
-fills-more : {w : ℕ} {t : Token} {p : ℕ} → entryOf w ≡ Entry.Is t p → {z : Scan} {ws : List ℕ} {r : Filled} → Fills z ws r → Fills (before (tok t p) z) (w ∷ ws) r
+fills-more : {w : ℕ} {t : Token} {p : ℕ} → entryOf w ≡ Entry.Is t p → {z : Scan} {ws : List ℕ} {r : Filled} → Fills z ws r → Fills (consToken (tok t p) z) (w ∷ ws) r
 fills-more {w} {t} {p} q (filled {s = ws} e) = filled (list-is w ws q ∙ ap (λ (us : List Tok). tok t p ∷ us) e)
 fills-more q stopped = stopped
 
 -- a word of a token, or of none, among such words
-one-more : (s : List ℕ) (n : ℕ) {w : ℕ} → Word w → Tokens s → Tokens (set s n w)
+one-more : (s : List ℕ) (n : ℕ) {w : ℕ} → TokenWord w → TokenWords s → TokenWords (set s n w)
 one-more [] n k all i = all i
 one-more (x ∷ xs) zero k all zero = k
 one-more (x ∷ xs) zero k all (suc i) = all (suc i)
@@ -38,41 +38,41 @@ pub record Filling (s o table : List ℕ) (at n : ℕ) : Type 0 where
   pub room : n ≤ at
   pub size : length table ≡ length o
   pub goes : (u : List ℕ) (r : Filled) → Fills (rest s at) u r → Fills (scan s) (take n table ++ u) r
-  pub all : Tokens o → Tokens table
+  pub all : TokenWords o → TokenWords table
 
 pub begin : (s o : List ℕ) → Filling s o o 0 0
 begin s o = record { within = omega arith; room = omega arith; size = refl; goes = λ u r h. h; all = λ h. h }
 
 -- what is promised of a table that was o
 abbrev Promised : List ℕ → List ℕ → List ℕ → Filled → Type 0
-Promised s o table r = (length table ≡ length o) × (Fills (scan s) table r × (Tokens o → Tokens table))
+Promised s o table r = (length table ≡ length o) × (Fills (scan s) table r × (TokenWords o → TokenWords table))
 
 -- ---- the word that was found, and where it goes
 -- a token at the place p
 record Token-at (s : List ℕ) (at p w e : ℕ) : Type 0 where
   t : Token
   is : lexemeAt s at ≡ Found t p e
-  word : w ≡ packed t 0
+  word : w ≡ packToken t 0
 
-no-class : (a : ℕ) → classOf (fields 0 0 a 0) ≡ 0
+no-class : (a : ℕ) → wordClass (packFields 0 0 a 0) ≡ 0
 no-class a = omega arith
 
-is-answer : (a : ℕ) → numberOf (fields 0 0 a 0) ≡ a
+is-answer : (a : ℕ) → wordNumber (packFields 0 0 a 0) ≡ a
 is-answer a = omega arith
 
 module _ (s : List ℕ) (at : ℕ) where
-  token-there : {x : Lexeme} {w e : ℕ} → Lexes x w e → lexemeAt s at ≡ x → (classOf w ≡ 0 → ⊥) → Token-at s at (at + blanks s at) w e
+  token-there : {x : Lexeme} {w e : ℕ} → Lexes x w e → lexemeAt s at ≡ x → (wordClass w ≡ 0 → ⊥) → Token-at s at (at + blanks s at) w e
   token-there (found t p e) m z =
       record { t = t; is = m ∙ ap (λ (k : ℕ). Found t k e) (found-at s at m .place); word = refl }
   token-there (wrong a p e) m z = absurd (z (no-class a))
 
-  none-there : {x : Lexeme} {w e : ℕ} → Lexes x w e → lexemeAt s at ≡ x → classOf w ≡ 0 → lexemeAt s at ≡ Wrong (numberOf w) (at + blanks s at)
+  none-there : {x : Lexeme} {w e : ℕ} → Lexes x w e → lexemeAt s at ≡ x → wordClass w ≡ 0 → lexemeAt s at ≡ Wrong (wordNumber w) (at + blanks s at)
   none-there (found t p e) m z = absurd (some-class (known-sound (known s at m)) 0 (lit< tt) z)
   none-there (wrong a p e) m z =
-      m ∙ ap (λ (k : ℕ). Wrong k p) (sym (is-answer a)) ∙ ap (Wrong (numberOf (fields 0 0 a 0))) (wrong-at s at m .0)
+      m ∙ ap (λ (k : ℕ). Wrong k p) (sym (is-answer a)) ∙ ap (Wrong (wordNumber (packFields 0 0 a 0))) (wrong-at s at m .0)
 
 -- the place of a word without one
-placed : (t : Token) (p : ℕ) → packed t 0 + 65536 * p ≡ packed t p
+placed : (t : Token) (p : ℕ) → packToken t 0 + 65536 * p ≡ packToken t p
 placed (Number (Int z)) p = omega arith
 placed (Number (Real x)) p = omega arith
 placed (Cell b i) p = omega arith
@@ -93,12 +93,12 @@ module _ {s o table : List ℕ} {at n p : ℕ} (h : Filling s o table at n) (sho
     here : Lexes (lexemeAt s at) w e
     here = subst (λ (k : ℕ). Lexes (lexemeOf (drop k s) k) w e) q l
 
-    pub stops : classOf w ≡ 0 → Promised s o table (Filled.Wrong (numberOf w) p)
+    pub stops : wordClass w ≡ 0 → Promised s o table (Filled.Wrong (wordNumber w) p)
     stops z =
-        let m = none-there s at here refl z ∙ ap (Wrong (numberOf w)) (sym q) in
-        (h .size, (rw (← take-append-drop n table) (h .goes (drop n table) (Filled.Wrong (numberOf w) p) (rw (at-wrong s at m) stopped)), h .all))
+        let m = none-there s at here refl z ∙ ap (Wrong (wordNumber w)) (sym q) in
+        (h .size, (rw (← take-append-drop n table) (h .goes (drop n table) (Filled.Wrong (wordNumber w) p) (rw (at-wrong s at m) stopped)), h .all))
 
-    module _ (z : classOf w ≡ 0 → ⊥) where
+    module _ (z : wordClass w ≡ 0 → ⊥) where
       token : Token-at s at p w e
       token = subst (λ (k : ℕ). Token-at s at k w e) (sym q) (token-there s at here refl z)
 
@@ -123,7 +123,7 @@ module _ {s o table : List ℕ} {at n p : ℕ} (h : Filling s o table at n) (sho
       goes-on =
           let t = token .t in
           let v = w + 65536 * p in
-          let k : v ≡ packed t p = ap (λ (i : ℕ). i + 65536 * p) (token .word) ∙ placed t p in
+          let k : v ≡ packToken t p = ap (λ (i : ℕ). i + 65536 * p) (token .word) ∙ placed t p in
           let free : n < length table = omega (arith, h .room, h .size, h .within) in
           let next : take (n + 1) (set table n v) ≡ take n table ++ (v ∷ []) = rw (add-one n) (take-suc-set table n v free) in
           record {
@@ -131,5 +131,5 @@ module _ {s o table : List ℕ} {at n p : ℕ} (h : Filling s o table at n) (sho
             room = omega (arith, h .room, lies .behind, lies .some);
             size = length-set table n v ∙ h .size;
             goes = λ u r g. rw (next, append-snoc (take n table) v u) (h .goes (v ∷ u) r (rw (at-found s at (token .is)) (fills-more (ap entryOf k ∙ unpacked sound p near) g)));
-            all = λ b. rw k (one-more table n (Word.token t p sound near) (h .all b));
+            all = λ b. rw k (one-more table n (TokenWord.token t p sound near) (h .all b));
           }

@@ -18,7 +18,7 @@ use Rattle.tokens.specs.declared.Token.{Token}
 use Rattle.tokens.specs.declared.Token.the-variants.{Number, Cell, Letter, Name, Symbol}
 use Rattle.tokens.specs.Scan.{Tok, Scan, tokens, wrong}
 use Rattle.token_table.specs.declared.Filled.the-variants as Filled
-use Rattle.token_table.specs.Table.{Entry, Is, End, functionNumber, packed, classOf, operandOf, numberOf, wordPlace, realAt, cellOf, letterOf, nameAt, tokenOf, entryOf, entryAt, listed, from, Fills, filled, stopped, Sound}
+use Rattle.token_table.specs.private.Table.{Entry, Is, End, functionNumber, packToken, wordClass, wordOperand, wordNumber, wordPlace, realEntry, cellEntry, letterEntry, nameEntry, tokenOf, entryOf, entryAt, listed, tokensFrom, Fills, filled, stopped, Sound}
 use Rattle.token_table.proofs.Fields.{Parts, parts, bank, function, finite-real}
 
 abbrev pub tok : Token → ℕ → Tok
@@ -48,7 +48,7 @@ tokenNumber (Letter b) = 0
 tokenNumber (Name f) = 0
 tokenNumber (Symbol n) = 0
 
-holds : {t : Token} → Sound t → (p : ℕ) → p < 65536 → Parts (packed t p) (tokenClass t) (tokenOperand t) (tokenNumber t) p
+holds : {t : Token} → Sound t → (p : ℕ) → p < 65536 → Parts (packToken t p) (tokenClass t) (tokenOperand t) (tokenNumber t) p
 holds (Sound.int z r) p h = parts 1 0 (lowBits 32 z) p (lit< tt) (lit< tt) h
 holds (Sound.real x S) p h = parts 2 0 (toBits binary32 x) p (lit< tt) (lit< tt) h
 holds (Sound.cell b i k) p h = parts 3 (bankNumber b) i p (lit< tt) (bank b .0) h
@@ -59,32 +59,32 @@ holds (Sound.symbol n k) p h = parts 6 n 0 p (lit< tt) (omega arith) h
 means : {t : Token} → Sound t → (p : ℕ) → tokenOf (tokenClass t) (tokenOperand t) (tokenNumber t) p ≡ Is t p
 unfolding tokenOf
 means (Sound.int z r) p = ap (λ y. Is (Number (Int y)) p) (signed-low 32 z (lit< tt) (range-sfits z (is-true (inRange z) r) .sfits))
-means (Sound.real x S) p = ap (λ y. realAt (finiteOr13 y) p) (ofBits-toBits binary32 x (S .fit)) ∙ finite-real x p (S .real)
-means (Sound.cell b i k) p = ap (λ o. cellOf o i p) (bank b .1)
-means (Sound.letter b) p = ap (λ o. letterOf o p) (bank b .1)
-means (Sound.name f) p = ap (λ o. nameAt o p) (function f .1)
+means (Sound.real x S) p = ap (λ y. realEntry (finiteOr13 y) p) (ofBits-toBits binary32 x (S .fit)) ∙ finite-real x p (S .real)
+means (Sound.cell b i k) p = ap (λ o. cellEntry o i p) (bank b .1)
+means (Sound.letter b) p = ap (λ o. letterEntry o p) (bank b .1)
+means (Sound.name f) p = ap (λ o. nameEntry o p) (function f .1)
 means (Sound.symbol n k) p = refl
 
 module _ {t : Token} (s : Sound t) (p : ℕ) (h : p < 65536) where
-  pub class-packed : classOf (packed t p) ≡ tokenClass t
+  pub class-packed : wordClass (packToken t p) ≡ tokenClass t
   class-packed = holds s p h .class
 
-  pub operand-packed : operandOf (packed t p) ≡ tokenOperand t
+  pub operand-packed : wordOperand (packToken t p) ≡ tokenOperand t
   operand-packed = holds s p h .operand
 
-  pub number-packed : numberOf (packed t p) ≡ tokenNumber t
+  pub number-packed : wordNumber (packToken t p) ≡ tokenNumber t
   number-packed = holds s p h .number
 
-  pub place-packed : wordPlace (packed t p) ≡ p
+  pub place-packed : wordPlace (packToken t p) ≡ p
   place-packed = holds s p h .place
 
-  pub unpacked : entryOf (packed t p) ≡ Is t p
+  pub unpacked : entryOf (packToken t p) ≡ Is t p
   unpacked = rw (class-packed, operand-packed, number-packed, place-packed) (means s p)
 
-  pub some-class : classOf (packed t p) ≡ 0 → ⊥
+  pub some-class : wordClass (packToken t p) ≡ 0 → ⊥
   unfolding tokenOf
   some-class e =
-      let a : entryOf (packed t p) ≡ End = rw e in
+      let a : entryOf (packToken t p) ≡ End = rw e in
       let b = unpacked in
       let z : _≡_ {A = ℕ} 0 1 = cc in
       omega arith
@@ -103,30 +103,30 @@ module _ (w : ℕ) (ws : List ℕ) where
   unfolding listed
   list-end q = rw (q, listed)
 
-pub from-is : (s : List ℕ) (i : ℕ) {t : Token} {p : ℕ} → entryAt s i ≡ Is t p → (i < length s) × (from s i ≡ tok t p ∷ from s (suc i))
+pub from-is : (s : List ℕ) (i : ℕ) {t : Token} {p : ℕ} → entryAt s i ≡ Is t p → (i < length s) × (tokensFrom s i ≡ tok t p ∷ tokensFrom s (suc i))
 unfolding tokenOf
 from-is [] i q = let z : _≡_ {A = ℕ} 0 1 = cc in absurd (omega arith)
 from-is (w ∷ ws) zero q = (omega arith, list-is w ws q)
 from-is (w ∷ ws) (suc i) q = let h = from-is ws i q in (omega arith, h .1)
 
-pub from-end : (s : List ℕ) (i : ℕ) → entryAt s i ≡ End → from s i ≡ []
+pub from-end : (s : List ℕ) (i : ℕ) → entryAt s i ≡ End → tokensFrom s i ≡ []
 unfolding listed
 from-end [] zero q = refl
 from-end [] (suc i) q = refl
 from-end (w ∷ ws) zero q = list-end w ws q
 from-end (w ∷ ws) (suc i) q = from-end ws i q
 
-pub from-head : (s : List ℕ) (i : ℕ) {x : Tok} {xs : List Tok} → from s i ≡ x ∷ xs → (entryAt s i ≡ Is (x .token) (x .place)) × (xs ≡ from s (suc i))
+pub from-head : (s : List ℕ) (i : ℕ) {x : Tok} {xs : List Tok} → tokensFrom s i ≡ x ∷ xs → (entryAt s i ≡ Is (x .token) (x .place)) × (xs ≡ tokensFrom s (suc i))
 from-head s i {x} {xs} q = by (entryAt s i) refl
   where
-    by : (e : Entry) → entryAt s i ≡ e → (entryAt s i ≡ Is (x .token) (x .place)) × (xs ≡ from s (suc i))
+    by : (e : Entry) → entryAt s i ≡ e → (entryAt s i ≡ Is (x .token) (x .place)) × (xs ≡ tokensFrom s (suc i))
     by (Is t p) m =
         let h = from-is s i m .1 in
         let e : tok t p ≡ x = cc in
         (m ∙ ap (λ (y : Tok). Is (y .token) (y .place)) e, cc)
     by End m = let h = from-end s i m in let z : _≡_ {A = ℕ} 0 1 = cc in absurd (omega arith)
 
-pub from-none : (s : List ℕ) (i : ℕ) → from s i ≡ [] → entryAt s i ≡ End
+pub from-none : (s : List ℕ) (i : ℕ) → tokensFrom s i ≡ [] → entryAt s i ≡ End
 from-none s i q = by (entryAt s i) refl
   where
     by : (e : Entry) → entryAt s i ≡ e → entryAt s i ≡ End

@@ -12,16 +12,16 @@ use Rattle.tokens.specs.declared.Scanned.the-variants.{Good, Bad}
 use Rattle.tokens.specs.Bytes.{isLetter, isWord, isRun, runLen}
 use Rattle.tokens.specs.Symbols.{longest}
 use Rattle.tokens.specs.Numerals.{numeralOf}
-use Rattle.tokens.specs.Words.{wordOf}
-use Rattle.tokens.specs.Scan.{Lexeme, lexeme, running, symbolLexeme, lexemeOf}
-use Rattle.token_table.specs.Lexing.{answer, Lexes, found, wrong}
+use Rattle.tokens.specs.Words.{wordToken}
+use Rattle.tokens.specs.Scan.{Lexeme, lexeme, runLexeme, symbolLexeme, lexemeOf}
+use Rattle.token_table.specs.private.Lexing.{scannedWord, Lexes, found, wrong}
 
 module _ (s : List ℕ) (p : ℕ) (h : p < length s) where
-  pub at-digit : isDigit (getD s p 0) ≡ true → running isRun numeralOf (drop p s) p ≡ lexemeOf (drop p s) p
+  pub at-digit : isDigit (getD s p 0) ≡ true → runLexeme isRun numeralOf (drop p s) p ≡ lexemeOf (drop p s) p
   unfolding lexemeOf
   at-digit d = rw (drop-cons s p 0 h, d)
 
-  pub at-letter : isDigit (getD s p 0) ≡ false → isLetter (getD s p 0) ≡ true → running isWord wordOf (drop p s) p ≡ lexemeOf (drop p s) p
+  pub at-letter : isDigit (getD s p 0) ≡ false → isLetter (getD s p 0) ≡ true → runLexeme isWord wordToken (drop p s) p ≡ lexemeOf (drop p s) p
   unfolding lexemeOf
   at-letter d l = rw (drop-cons s p 0 h, d, l)
 
@@ -33,11 +33,11 @@ module _ (s : List ℕ) (p : ℕ) (h : p < length s) where
 pub lexes-as : {l : Lexeme} {w w′ e e′ : ℕ} → w ≡ w′ → e ≡ e′ → Lexes l w′ e′ → Lexes l w e
 lexes-as {l} {w} {w′} {e} {e′} p q h = subst (λ (x : ℕ). Lexes l x e) (sym p) (subst (λ (x : ℕ). Lexes l w′ x) (sym q) h)
 
-judged : (p n : ℕ) (r : Scanned) → Lexes (lexeme p n r) (answer r) (p + n)
+judged : (p n : ℕ) (r : Scanned) → Lexes (lexeme p n r) (scannedWord r) (p + n)
 judged p n (Good t) = found t p (p + n)
 judged p n (Bad a) = wrong a p (p + n)
 
-pub whole-run : (test : ℕ → Bool) (f : List ℕ → Scanned) (s : List ℕ) (p : ℕ) {w e : ℕ} {r : Scanned} → e ≡ p + runLen test (drop p s) → r ≡ f (take (e - p) (drop p s)) → w ≡ answer r → Lexes (running test f (drop p s) p) w e
+pub whole-run : (test : ℕ → Bool) (f : List ℕ → Scanned) (s : List ℕ) (p : ℕ) {w e : ℕ} {r : Scanned} → e ≡ p + runLen test (drop p s) → r ≡ f (take (e - p) (drop p s)) → w ≡ scannedWord r → Lexes (runLexeme test f (drop p s) p) w e
 whole-run test f s p {w} {e} {r} ends is k =
     let n : e - p ≡ runLen test (drop p s) = omega arith in
     let q : r ≡ f (take (runLen test (drop p s)) (drop p s)) = is ∙ ap (λ (m : ℕ). f (take m (drop p s))) n in

@@ -6,9 +6,9 @@ ghost use lib.ListN.{length, getD, drop};
 ghost use Rattle.memory.specs.declared.names.Letter.the-variants.{Of};
 ghost use Rattle.memory.specs.Names.{bankOf};
 ghost use Rattle.tokens.specs.Bytes.{isLetter, isWord};
-ghost use Rattle.tokens.specs.Words.{wordOf};
-ghost use Rattle.tokens.specs.Scan.{running};
-ghost use Rattle.token_table.specs.Lexing.{Lexes};
+ghost use Rattle.tokens.specs.Words.{wordToken};
+ghost use Rattle.tokens.specs.Scan.{runLexeme};
+ghost use Rattle.token_table.specs.private.Lexing.{Lexes};
 use crate::Lex;
 use crate::numerals;
 use crate::packing;
@@ -19,7 +19,7 @@ use tokens::bytes;
 // Any run that starts with a letter.
 fn judged(text: &[u8], at: usize) -> Lex
     requires { ⌜ at ≤ length (now text) ⌝ }
-    ensures { λ r. ⌜ Lexes (running isWord wordOf (drop at (now (text .entry))) at) (r .word) (r .end) ⌝ }
+    ensures { λ r. ⌜ Lexes (runLexeme isWord wordToken (drop at (now (text .entry))) at) (r .word) (r .end) ⌝ }
 {
     let end = bytes::word_end(text, at);
     Lex {
@@ -31,7 +31,7 @@ fn judged(text: &[u8], at: usize) -> Lex
 // A cell, from its bank's letter on.
 fn cell_at(text: &[u8], at: usize, bank: Bank) -> Lex
     requires { ⌜ (at < length (now text)) × ((isLetter (getD (now text) at 0) ≡ true) × (bankOf (getD (now text) at 0) ≡ Of bank)) ⌝ }
-    ensures { λ r. ⌜ Lexes (running isWord wordOf (drop at (now (text .entry))) at) (r .word) (r .end) ⌝ }
+    ensures { λ r. ⌜ Lexes (runLexeme isWord wordToken (drop at (now (text .entry))) at) (r .word) (r .end) ⌝ }
 {
     let first = bytes::byte_at(text, at + 1);
     if !memory::names::is_digit(first) {
@@ -60,7 +60,7 @@ fn cell_at(text: &[u8], at: usize, bank: Bank) -> Lex
 
 pub fn word_at(text: &[u8], at: usize) -> Lex
     requires { ⌜ (at < length (now text)) × (isLetter (getD (now text) at 0) ≡ true) ⌝ }
-    ensures { λ r. ⌜ Lexes (running isWord wordOf (drop at (now (text .entry))) at) (r .word) (r .end) ⌝ }
+    ensures { λ r. ⌜ Lexes (runLexeme isWord wordToken (drop at (now (text .entry))) at) (r .word) (r .end) ⌝ }
 {
     match memory::names::bank_of(text[at]) {
         Letter::Of(bank) => cell_at(text, at, bank),

@@ -3,8 +3,8 @@ ghost use mathlib.Core.Path.{_≡_};
 ghost use Prim.Native.Nat.{_<_, _≤_};
 ghost use lib.ListN.{length, drop};
 ghost use Rattle.tokens.specs.Scan.{lexemeOf, scan};
-ghost use Rattle.token_table.specs.Table.{classOf, operandOf, wordPlace, numberOf, wordAt, Fills, Tokens};
-ghost use Rattle.token_table.specs.Lexing.{Lexes};
+ghost use Rattle.token_table.specs.private.Table.{wordClass, wordOperand, wordPlace, wordNumber, wordAt, Fills, TokenWords};
+ghost use Rattle.token_table.specs.private.Lexing.{Lexes};
 use tokens::bytes;
 
 mod identifiers;
@@ -33,13 +33,13 @@ pub fn word_at(table: &[u64], at: usize) -> u64
 }
 
 pub fn class_of(w: u64) -> u8
-    ensures { λ r. ⌜ r ≡ classOf w ⌝ }
+    ensures { λ r. ⌜ r ≡ wordClass w ⌝ }
 {
     (w % 256) as u8
 }
 
 pub fn operand_of(w: u64) -> u8
-    ensures { λ r. ⌜ r ≡ operandOf w ⌝ }
+    ensures { λ r. ⌜ r ≡ wordOperand w ⌝ }
 {
     (w / 256 % 256) as u8
 }
@@ -51,7 +51,7 @@ pub fn place_of(w: u64) -> usize
 }
 
 pub fn number_of(w: u64) -> u32
-    ensures { λ r. ⌜ r ≡ numberOf w ⌝ }
+    ensures { λ r. ⌜ r ≡ wordNumber w ⌝ }
 {
     (w / 4294967296) as u32
 }
@@ -76,7 +76,7 @@ pub fn fill(text: &[u8], table: &mut [u64]) -> Filled
     requires { ⌜ (length (now text) ≤ 1024) × (length (now text) < length (now table)) ⌝ }
     ensures { λ r. ⌜ length (now (table .exit)) ≡ length (now (table .entry)) ⌝ }
     ensures { λ r. ⌜ Fills (scan (now (text .entry))) (now (table .exit)) r ⌝ }
-    ensures { λ r. ⌜ (Tokens (now (table .entry)) → Tokens (now (table .exit))) ⌝ }
+    ensures { λ r. ⌜ (TokenWords (now (table .entry)) → TokenWords (now (table .exit))) ⌝ }
 {
     let mut at: usize = 0;
     let mut n: usize = 0;

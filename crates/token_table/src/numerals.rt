@@ -6,8 +6,8 @@ ghost use lib.ListN.{length, getD, drop};
 ghost use Rattle.memory.specs.Names.{isDigit};
 ghost use Rattle.tokens.specs.Bytes.{isRun};
 ghost use Rattle.tokens.specs.Numerals.{numeralOf};
-ghost use Rattle.tokens.specs.Scan.{running};
-ghost use Rattle.token_table.specs.Lexing.{Lexes, Reads};
+ghost use Rattle.tokens.specs.Scan.{runLexeme};
+ghost use Rattle.token_table.specs.private.Lexing.{Lexes, DigitsAt};
 use crate::Lex;
 use crate::packing;
 use tokens::bytes;
@@ -22,7 +22,7 @@ pub struct Reading {
 // The digits at a position, after those that make n; left early above the limit, and then a digit comes next.
 pub fn digits(text: &[u8], at: usize, n: u64, limit: u64) -> Reading
     requires { ⌜ (at ≤ length (now text)) × (limit < 2 ^ 32) ⌝ }
-    ensures { λ r. ⌜ Reads (now (text .entry)) at n (r .value) (r .end) (r .next) ⌝ }
+    ensures { λ r. ⌜ DigitsAt (now (text .entry)) at n (r .value) (r .end) (r .next) ⌝ }
 {
     let mut value = n;
     let mut i = at;
@@ -48,7 +48,7 @@ pub fn digits(text: &[u8], at: usize, n: u64, limit: u64) -> Reading
 // Any run that starts with a digit.
 fn judged(text: &[u8], at: usize) -> Lex
     requires { ⌜ at ≤ length (now text) ⌝ }
-    ensures { λ r. ⌜ Lexes (running isRun numeralOf (drop at (now (text .entry))) at) (r .word) (r .end) ⌝ }
+    ensures { λ r. ⌜ Lexes (runLexeme isRun numeralOf (drop at (now (text .entry))) at) (r .word) (r .end) ⌝ }
 {
     let end = bytes::numeral_end(text, at);
     Lex {
@@ -59,8 +59,8 @@ fn judged(text: &[u8], at: usize) -> Lex
 
 // A real literal, from the digits before its dot on.
 fn real_at(text: &[u8], at: usize, dot: usize, whole: u64) -> Lex
-    requires { ⌜ (at < dot) × Reads (now text) at 0 whole dot 46 ⌝ }
-    ensures { λ r. ⌜ Lexes (running isRun numeralOf (drop at (now (text .entry))) at) (r .word) (r .end) ⌝ }
+    requires { ⌜ (at < dot) × DigitsAt (now text) at 0 whole dot 46 ⌝ }
+    ensures { λ r. ⌜ Lexes (runLexeme isRun numeralOf (drop at (now (text .entry))) at) (r .word) (r .end) ⌝ }
 {
     let d = digits(text, dot + 1, whole, 9999999);
     let end = d.end;
@@ -83,7 +83,7 @@ fn real_at(text: &[u8], at: usize, dot: usize, whole: u64) -> Lex
 
 pub fn numeral_at(text: &[u8], at: usize) -> Lex
     requires { ⌜ (at < length (now text)) × (isDigit (getD (now text) at 0) ≡ true) ⌝ }
-    ensures { λ r. ⌜ Lexes (running isRun numeralOf (drop at (now (text .entry))) at) (r .word) (r .end) ⌝ }
+    ensures { λ r. ⌜ Lexes (runLexeme isRun numeralOf (drop at (now (text .entry))) at) (r .word) (r .end) ⌝ }
 {
     let d = digits(text, at, 0, 2147483647);
     let n = d.value;

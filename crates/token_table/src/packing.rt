@@ -2,8 +2,8 @@
 ghost use mathlib.Core.Path.{_≡_};
 ghost use Rattle.tokens.specs.declared.Token.{Token};
 ghost use Rattle.tokens.specs.declared.Scanned.the-variants.{Good};
-ghost use Rattle.token_table.specs.Table.{fields, functionNumber, packed, Sound};
-ghost use Rattle.token_table.specs.Lexing.{answer};
+ghost use Rattle.token_table.specs.private.Table.{packFields, functionNumber, packToken, Sound};
+ghost use Rattle.token_table.specs.private.Lexing.{scannedWord};
 use memory::numbers;
 use tokens::Function;
 use tokens::Scanned;
@@ -28,7 +28,7 @@ fn function_number(f: Function) -> u8
 
 // A word of a class, an operand and a number.
 pub fn word(class: u8, operand: u8, number: u32) -> u64
-    ensures { λ r. ⌜ r ≡ fields class operand number 0 ⌝ }
+    ensures { λ r. ⌜ r ≡ packFields class operand number 0 ⌝ }
 {
     (class as u64) + 256 * (operand as u64) + 4294967296 * (number as u64)
 }
@@ -36,7 +36,7 @@ pub fn word(class: u8, operand: u8, number: u32) -> u64
 // A NaN has no pattern that is its own, and no sound token has one.
 fn pack(t: Token) -> u64
     requires { ⌜ Sound t ⌝ }
-    ensures { λ r. ⌜ r ≡ packed t 0 ⌝ }
+    ensures { λ r. ⌜ r ≡ packToken t 0 ⌝ }
 {
     match t {
         Token::Number(v) => match v {
@@ -53,7 +53,7 @@ fn pack(t: Token) -> u64
 // A judgement on some bytes.
 pub fn pack_scanned(s: Scanned) -> u64
     requires { ⌜ ((t : Token) → s ≡ Good t → Sound t) ⌝ }
-    ensures { λ r. ⌜ r ≡ answer s ⌝ }
+    ensures { λ r. ⌜ r ≡ scannedWord s ⌝ }
 {
     match s {
         Scanned::Good(t) => pack(t),

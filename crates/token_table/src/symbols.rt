@@ -6,7 +6,7 @@ ghost use lib.Dec.{eqb};
 ghost use lib.ListN.{length, drop};
 ghost use Rattle.tokens.specs.Symbols.{symbolCount, longest};
 ghost use Rattle.tokens.specs.Scan.{symbolLexeme};
-ghost use Rattle.token_table.specs.Lexing.{Lexes, Takes};
+ghost use Rattle.token_table.specs.private.Lexing.{Lexes, SymbolSize};
 use crate::Lex;
 use crate::packing;
 use tokens::bytes;
@@ -14,7 +14,7 @@ use tokens::symbols as numbers;
 
 // A symbol of some bytes.
 fn symbol(at: usize, n: u8, bytes: usize) -> Lex
-    requires { ⌜ (at < 1024) × Takes n bytes ⌝ }
+    requires { ⌜ (at < 1024) × SymbolSize n bytes ⌝ }
     ensures { λ r. ⌜ Lexes (symbolLexeme at n) (r .word) (r .end) ⌝ }
 {
     Lex {
@@ -34,7 +34,7 @@ fn none(at: usize) -> Lex
 
 // The symbol two if a byte is x, otherwise the symbol one.
 fn doubled(at: usize, x: u8, b: u8, two: u8, one: u8) -> Lex
-    requires { ⌜ (at < 1024) × (Takes two 2 × Takes one 1) ⌝ }
+    requires { ⌜ (at < 1024) × (SymbolSize two 2 × SymbolSize one 1) ⌝ }
     ensures { λ r. ⌜ Lexes (symbolLexeme at (cond (eqb x b) two one)) (r .word) (r .end) ⌝ }
 {
     if x == b {

@@ -20,16 +20,16 @@ use Rattle.memory.specs.declared.Bank.{Bank}
 use Rattle.memory.specs.Layout.{layoutOf}
 use Rattle.memory.specs.declared.names.Letter.the-variants as L
 use Rattle.memory.specs.declared.names.Letter.{Letter as BankLetter}
-use Rattle.memory.specs.Names.{isDigit, allDigits, plain, decimal, numberBelow, cellOf, bankOf, namedRule}
+use Rattle.memory.specs.Names.{isDigit, allDigits, noLeadingZero, decimalValue, numberBelow, cellAfterLetter, bankOf, namedRule}
 use Rattle.tokens.specs.declared.Function.{Function}
 use Rattle.tokens.specs.declared.Token.{Token}
 use Rattle.tokens.specs.declared.Token.the-variants.{Number, Cell, Letter, Name, Symbol}
 use Rattle.tokens.specs.declared.Scanned.{Scanned}
 use Rattle.tokens.specs.declared.Scanned.the-variants.{Good, Bad}
 use Rattle.tokens.specs.Bytes.{all, isLetter, isWord, isRun, runLen}
-use Rattle.tokens.specs.Symbols.{same, symbolCount, longest}
-use Rattle.tokens.specs.Numerals.{some, digits, isHex, isHexRun, hexFrom, hexOf, notDot, realOf, decimalOf, numeralOf}
-use Rattle.tokens.specs.Words.{nameOf, named, functions, letterWord, cellWord, otherWord, wordOf}
+use Rattle.tokens.specs.Symbols.{equalBytes, symbolCount, longest}
+use Rattle.tokens.specs.Numerals.{nonEmpty, digits, isHex, isHexRun, hexFrom, hexOf, notDot, realOf, decimalOf, numeralOf}
+use Rattle.tokens.specs.Words.{nameOf, functionNamed, functions, letterWord, cellWord, otherWord, wordToken}
 use Rattle.tokens.specs.Scan.{Lexeme, Found, Wrong, End, lexeme, symbolLexeme, lexemeOf, blanks, lexemeAt}
 use Rattle.tokens.proofs.Tests.{by-test, choose, both, hex-small}
 use Rattle.tokens.proofs.Readings.{decimals, hexes, append, below}
@@ -54,17 +54,17 @@ whole z h =
 
 a-decimal : (cs : List ℕ) → Judged (decimalOf cs)
 a-decimal cs =
-    choose Judged (leb (decimal cs) 2147483647) _ _
-    (λ e. whole (pos (decimal cs)) (omega (arith, leb-true (decimal cs) 2147483647 e)))
+    choose Judged (leb (decimalValue cs) 2147483647) _ _
+    (λ e. whole (pos (decimalValue cs)) (omega (arith, leb-true (decimalValue cs) 2147483647 e)))
     (λ _. bad 5)
 
 a-hex : (cs : List ℕ) → Judged (hexOf cs)
 a-hex cs =
-    choose Judged (some cs && all isHex cs) _ _
+    choose Judged (nonEmpty cs && all isHex cs) _ _
     (λ e. choose Judged (leb (length cs) 8) _ _
     (λ l. whole (signedOf 32 (hexFrom 0 cs))
     (signed-mag 32 (hexFrom 0 cs) (lit< tt)
-    (below hexes hex-small 8 cs (lit< tt) (both (some cs) (all isHex cs) e .1) (leb-true (length cs) 8 l))))
+    (below hexes hex-small 8 cs (lit< tt) (both (nonEmpty cs) (all isHex cs) e .1) (leb-true (length cs) 8 l))))
     (λ _. bad 5))
     (λ _. bad 4)
 
@@ -74,8 +74,8 @@ a-real s t =
     (λ e. choose Judged (leb (length s + length t) 7) _ _
     (λ l. let h = both (digits s) (digits t) e in
     let n : length s + length t ≤ 7 = leb-true (length s + length t) 7 l in
-    let small : decimal (s ++ t) < 10 ^ 7 = rw (append decimals 0 s t) (both-small s t (h .0) (h .1) n) in
-    good _ (number _ (Proper.real _ (real-laws .read (decimal (s ++ t)) (length t) small (omega (arith, some-digit s (h .0)))))))
+    let small : decimalValue (s ++ t) < 10 ^ 7 = rw (append decimals 0 s t) (both-small s t (h .0) (h .1) n) in
+    good _ (number _ (Proper.real _ (real-laws .literal-single (decimalValue (s ++ t)) (length t) small (omega (arith, some-digit s (h .0)))))))
     (λ _. bad 5))
     (λ _. bad 4)
 
@@ -89,10 +89,10 @@ a-letter : (l : BankLetter) → Judged (letterWord l)
 a-letter (L.Of b) = good _ (letter b)
 a-letter L.Other = bad 6
 
-a-cell : (cs : List ℕ) (l : BankLetter) → Judged (cellWord (cellOf cs l))
+a-cell : (cs : List ℕ) (l : BankLetter) → Judged (cellWord (cellAfterLetter cs l))
 a-cell cs (L.Of b) =
     by-test (numberBelow (layoutOf b .elements) cs)
-    (λ e. rw e (good _ (cell b (decimal cs) (ltb-true _ _ (both (plain cs && allDigits cs) _ e .1)))))
+    (λ e. rw e (good _ (cell b (decimalValue cs) (ltb-true _ _ (both (noLeadingZero cs && allDigits cs) _ e .1)))))
     (λ e. rw e (bad 6))
 a-cell cs L.Other = bad 6
 
@@ -102,13 +102,13 @@ another [] = bad 6
 another (c ∷ []) = a-letter (bankOf c)
 another (c ∷ d ∷ cs) = a-cell (d ∷ cs) (bankOf c)
 
-a-name : (fs : List Function) (cs : List ℕ) (o : Scanned) → Judged o → Judged (named fs cs o)
+a-name : (fs : List Function) (cs : List ℕ) (o : Scanned) → Judged o → Judged (functionNamed fs cs o)
 a-name [] cs o j = j
 a-name (f ∷ fs) cs o j =
-    choose Judged (same (nameOf f) cs) _ _ (λ _. good _ (name f)) (λ _. a-name fs cs o j)
+    choose Judged (equalBytes (nameOf f) cs) _ _ (λ _. good _ (name f)) (λ _. a-name fs cs o j)
 
-a-word : (cs : List ℕ) → Judged (wordOf cs)
-unfolding wordOf
+a-word : (cs : List ℕ) → Judged (wordToken cs)
+unfolding wordToken
 a-word cs = a-name functions cs (otherWord cs) (another cs)
 
 of-good : {t : Token} (r : Scanned) → Judged r → r ≡ Good t → Known t
@@ -118,8 +118,8 @@ of-good r (bad a) m = let z : _≡_ {A = ℕ} 0 1 = cc in absurd (omega arith)
 pub known-numeral : (cs : List ℕ) {t : Token} → numeralOf cs ≡ Good t → Known t
 known-numeral cs m = of-good (numeralOf cs) (a-numeral cs) m
 
-pub known-word : (cs : List ℕ) {t : Token} → wordOf cs ≡ Good t → Known t
-known-word cs m = of-good (wordOf cs) (a-word cs) m
+pub known-word : (cs : List ℕ) {t : Token} → wordToken cs ≡ Good t → Known t
+known-word cs m = of-good (wordToken cs) (a-word cs) m
 
 -- ---- lexemes
 data Told : Lexeme → Type 0 where

@@ -15,8 +15,8 @@ use Rattle.tokens.specs.declared.Scanned.the-variants.{Good, Bad}
 use Rattle.tokens.specs.Bytes.{isLetter, isWord, isRun, runLen}
 use Rattle.tokens.specs.Symbols.{symbolCount, symbolBytes, longest}
 use Rattle.tokens.specs.Numerals.{numeralOf}
-use Rattle.tokens.specs.Words.{wordOf}
-use Rattle.tokens.specs.Scan.{Lexeme, Found, Wrong, End, lexeme, running, symbolLexeme, lexemeOf, blanks, lexemeAt, Scan, tokens, wrong, before, scanFrom}
+use Rattle.tokens.specs.Words.{wordToken}
+use Rattle.tokens.specs.Scan.{Lexeme, Found, Wrong, End, lexeme, runLexeme, symbolLexeme, lexemeOf, blanks, lexemeAt, Scan, tokens, wrong, consToken, scanFrom}
 use Rattle.tokens.proofs.Tests.{by-test, choose}
 use Rattle.tokens.proofs.Runs.{run-most}
 use Rattle.tokens.proofs.symbols.Longest.{Front, front, within, taken}
@@ -32,7 +32,7 @@ judged : (cs : List ℕ) (p n : ℕ) (r : Scanned) → 0 < n → n ≤ length cs
 judged cs p n (Good t) l h = good t (p + n) (omega arith) (omega arith)
 judged cs p n (Bad a) l h = bad a (omega arith)
 
-a-run : (test : ℕ → Bool) (f : List ℕ → Scanned) (c : ℕ) (cs : List ℕ) (p : ℕ) → test c ≡ true → Placed (c ∷ cs) p (running test f (c ∷ cs) p)
+a-run : (test : ℕ → Bool) (f : List ℕ → Scanned) (c : ℕ) (cs : List ℕ) (p : ℕ) → test c ≡ true → Placed (c ∷ cs) p (runLexeme test f (c ∷ cs) p)
 a-run test f c cs p e =
     let n = runLen test (c ∷ cs) in
     let some : 0 < n = rw e (omega arith) in
@@ -49,7 +49,7 @@ unfolding lexemeOf
 placed [] p = none
 placed (c ∷ cs) p =
     choose (Placed (c ∷ cs) p) (isDigit c) _ _ (λ d. a-run isRun numeralOf c cs p (rw (d, or-true)))
-    (λ _. choose (Placed (c ∷ cs) p) (isLetter c) _ _ (λ l. a-run isWord wordOf c cs p (rw l))
+    (λ _. choose (Placed (c ∷ cs) p) (isLetter c) _ _ (λ l. a-run isWord wordToken c cs p (rw l))
     (λ _. a-symbol c cs p (longest (c ∷ cs)) (front (c ∷ cs))))
 
 -- the lexeme found from a position lies from p to e: behind the blanks, and within the text
@@ -88,11 +88,11 @@ module _ (s : List ℕ) (at : ℕ) where
 -- ---- a scan, lexeme by lexeme
 -- what follows a lexeme, if the rest from its end on is known
 abbrev onward : (ℕ → Scan) → Lexeme → Scan
-onward rest (Found t p e) = before (record { token = t; place = p }) (rest e)
+onward rest (Found t p e) = consToken (record { token = t; place = p }) (rest e)
 onward rest (Wrong a p) = wrong a p
 onward rest End = tokens []
 
-look : (f : ℕ) (s : List ℕ) (l : Lexeme) → elim l as (λ _. Scan) [ Found t p e ↦ before (record { token = t; place = p }) (scanFrom f s e) | Wrong a p ↦ wrong a p | End ↦ tokens [] ] ≡ onward (λ e. scanFrom f s e) l
+look : (f : ℕ) (s : List ℕ) (l : Lexeme) → elim l as (λ _. Scan) [ Found t p e ↦ consToken (record { token = t; place = p }) (scanFrom f s e) | Wrong a p ↦ wrong a p | End ↦ tokens [] ] ≡ onward (λ e. scanFrom f s e) l
 look f s (Found t p e) = refl
 look f s (Wrong a p) = refl
 look f s End = refl
@@ -111,7 +111,7 @@ same (suc f) (suc g) s at h k =
     ∙ sym (step g s at)
   where
     go : (l : Lexeme) → ((e : ℕ) → at < e → e ≤ length s → scanFrom f s e ≡ scanFrom g s e) → ((t : Token) (p e : ℕ) → l ≡ Found t p e → (at ≤ p) × (p < e) × (e ≤ length s)) → onward (λ e. scanFrom f s e) l ≡ onward (λ e. scanFrom g s e) l
-    go (Found t p e) ih lies = let h = lies t p e refl in ap (before (record { token = t; place = p })) (ih e (omega arith) (omega arith))
+    go (Found t p e) ih lies = let h = lies t p e refl in ap (consToken (record { token = t; place = p })) (ih e (omega arith) (omega arith))
     go (Wrong a p) ih lies = refl
     go End ih lies = refl
 
@@ -123,11 +123,11 @@ module _ (s : List ℕ) (at : ℕ) where
   pub enough : (f : ℕ) → length s - at < f → scanFrom f s at ≡ rest s at
   enough f h = same f (suc (length s)) s at h (omega arith)
 
-  pub at-found : {t : Token} {p e : ℕ} → lexemeAt s at ≡ Found t p e → rest s at ≡ before (record { token = t; place = p }) (rest s e)
+  pub at-found : {t : Token} {p e : ℕ} → lexemeAt s at ≡ Found t p e → rest s at ≡ consToken (record { token = t; place = p }) (rest s e)
   at-found {t} {p} {e} m =
       let h = found s at m in
       step (length s) s at ∙ ap (onward (λ k. scanFrom (length s) s k)) m
-      ∙ ap (before (record { token = t; place = p })) (same (length s) (suc (length s)) s e (omega arith) (omega arith))
+      ∙ ap (consToken (record { token = t; place = p })) (same (length s) (suc (length s)) s e (omega arith) (omega arith))
 
   pub at-wrong : {a p : ℕ} → lexemeAt s at ≡ Wrong a p → rest s at ≡ wrong a p
   at-wrong m = step (length s) s at ∙ ap (onward (λ k. scanFrom (length s) s k)) m

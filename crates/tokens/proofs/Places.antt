@@ -6,7 +6,7 @@ use Prim.Native.Nat.{ℕ, _+_, _≤_, _<_}
 use native.Mathlib.Omega.{arith}
 use lib.ListN.{length, length-append}
 use Rattle.tokens.specs.declared.Scanned.{Scanned}
-use Rattle.tokens.specs.Scan.{Tok, Scan, tokens, wrong, before, scan}
+use Rattle.tokens.specs.Scan.{Tok, Scan, tokens, wrong, consToken, scan}
 use Rattle.tokens.specs.Theorems.{Starts, first, LongestLexeme, word, numeral, symbol, stray, Scans, end, token, stop}
 use Rattle.tokens.proofs.Theorems.{token-theorems}
 use Rattle.tokens.proofs.symbols.Longest.{some-byte}
@@ -20,7 +20,7 @@ data Inside (n : ℕ) : Scan → Type 0 where
   all : {ts : List Tok} → Below n ts → Inside n (tokens ts)
   one : {a p : ℕ} → p < n → Inside n (wrong a p)
 
-inside-before : {n : ℕ} {z : Scan} (x : Tok) → x .place < n → Inside n z → Inside n (before x z)
+inside-before : {n : ℕ} {z : Scan} (x : Tok) → x .place < n → Inside n z → Inside n (consToken x z)
 inside-before x l (all h) = all (more l h)
 inside-before x l (one h) = one h
 

@@ -11,7 +11,7 @@ use lib.ListN.{length, getD, take, drop, drop-of-length-le}
 use lib.Seq.{drop-cons}
 use borrow.Author.Tests.{le-leb, lt-leb}
 use Rattle.tokens.specs.Bytes.{runLen, all}
-use Rattle.tokens.specs.Numerals.{some}
+use Rattle.tokens.specs.Numerals.{nonEmpty}
 use Rattle.tokens.specs.Theorems.{Stops, nothing, other}
 use Rattle.tokens.proofs.Tests.{by-test, both}
 
@@ -52,15 +52,15 @@ all-run p (c ∷ cs) = go (p c) (all-run p cs)
     go true e = rw leb·suc-suc e
     go false e = rw leb·suc-zero
 
-some-any : (s : List ℕ) → some s ≡ ltb 0 (length s)
+some-any : (s : List ℕ) → nonEmpty s ≡ ltb 0 (length s)
 some-any [] = refl
 some-any (c ∷ cs) = sym (leb·suc-suc 0 (length cs) ∙ leb·zero (length cs))
 
 module _ {p : ℕ → Bool} {s : List ℕ} {i : ℕ} (r : Reaches p s (runLen p s) i) where
-  pub not-all : i < length s → p (getD s i 0) ≡ false → false ≡ (some s && all p s)
+  pub not-all : i < length s → p (getD s i 0) ≡ false → false ≡ (nonEmpty s && all p s)
   not-all h e = rw (all-run p s, lt-leb (length s) (runLen p s) (omega (arith, stop r h e .0)), and-false)
 
-  pub all-passed : length s ≤ i → ltb 0 (length s) ≡ (some s && all p s)
+  pub all-passed : length s ≤ i → ltb 0 (length s) ≡ (nonEmpty s && all p s)
   all-passed h = rw (all-run p s, le-leb (length s) (runLen p s) (omega (arith, end r h .0)), and-true, some-any)
 
 -- a test of every byte, at one of them and on two lists
@@ -70,8 +70,8 @@ module _ (p : ℕ → Bool) where
   at (c ∷ cs) zero e h = both (p c) (all p cs) e .0
   at (c ∷ cs) (suc i) e h = at cs i (both (p c) (all p cs) e .1) (omega arith)
 
-  pub all-at : (s : List ℕ) (i : ℕ) → (some s && all p s) ≡ true → i < length s → p (getD s i 0) ≡ true
-  all-at s i e h = at s i (both (some s) (all p s) e .1) h
+  pub all-at : (s : List ℕ) (i : ℕ) → (nonEmpty s && all p s) ≡ true → i < length s → p (getD s i 0) ≡ true
+  all-at s i e h = at s i (both (nonEmpty s) (all p s) e .1) h
 
   pub all-append : (s t : List ℕ) → all p s ≡ true → all p t ≡ true → all p (s ++ t) ≡ true
   all-append [] t e f = f

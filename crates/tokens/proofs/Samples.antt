@@ -10,8 +10,8 @@ use Rattle.memory.specs.Names.{bankOf, namedRule}
 use Rattle.tokens.specs.declared.Function.the-variants.{Max}
 use Rattle.tokens.specs.declared.Token.the-variants.{Number, Cell, Letter, Name, Symbol}
 use Rattle.tokens.specs.declared.Scanned.the-variants.{Good, Bad}
-use Rattle.tokens.specs.Numerals.{literal, numeralOf}
-use Rattle.tokens.specs.Words.{otherWord, wordOf}
+use Rattle.tokens.specs.Numerals.{realLiteral, numeralOf}
+use Rattle.tokens.specs.Words.{otherWord, wordToken}
 use Rattle.tokens.specs.Scan.{Found, Wrong, lexemeOf, lexemeAt, tokens, wrong, scanFrom, scan}
 
 -- ---- numerals
@@ -39,14 +39,14 @@ upper-x : numeralOf (48 ∷ 88 ∷ 49 ∷ []) ≡ Bad 4
 upper-x = refl
 
 -- `0.5` has the pattern 0x3F000000; `1.234567` is good, `1.2345678` is 5; `1.` and `1.2.3` are 4, and so is `12345678.`
-half : numeralOf (48 ∷ 46 ∷ 53 ∷ []) ≡ Good (Number (Real (literal 5 1)))
+half : numeralOf (48 ∷ 46 ∷ 53 ∷ []) ≡ Good (Number (Real (realLiteral 5 1)))
 half = refl
 
-half-bits : Ieee.toBits binary32 (literal 5 1) ≡ 0x3f00_0000
+half-bits : Ieee.toBits binary32 (realLiteral 5 1) ≡ 0x3f00_0000
 unfolding Ieee.toBits Ieee.div Ieee.ofInt
 half-bits = refl
 
-seven-digits : numeralOf (49 ∷ 46 ∷ 50 ∷ 51 ∷ 52 ∷ 53 ∷ 54 ∷ 55 ∷ []) ≡ Good (Number (Real (literal 1234567 6)))
+seven-digits : numeralOf (49 ∷ 46 ∷ 50 ∷ 51 ∷ 52 ∷ 53 ∷ 54 ∷ 55 ∷ []) ≡ Good (Number (Real (realLiteral 1234567 6)))
 seven-digits = refl
 
 eight-digits : numeralOf (49 ∷ 46 ∷ 50 ∷ 51 ∷ 52 ∷ 53 ∷ 54 ∷ 55 ∷ 56 ∷ []) ≡ Bad 5
@@ -63,36 +63,36 @@ long-no-part = refl
 
 -- ---- words
 -- `MAX` is a function, `max` and `ABS2` are 6; `D` is a bank letter, `D255` a cell, `D256`, `D01` and `X64` are 6
-function : wordOf (77 ∷ 65 ∷ 88 ∷ []) ≡ Good (Name Max)
-unfolding wordOf
+function : wordToken (77 ∷ 65 ∷ 88 ∷ []) ≡ Good (Name Max)
+unfolding wordToken
 function = refl
 
-lower-case : wordOf (109 ∷ 97 ∷ 120 ∷ []) ≡ Bad 6
-unfolding wordOf otherWord namedRule bankOf
+lower-case : wordToken (109 ∷ 97 ∷ 120 ∷ []) ≡ Bad 6
+unfolding wordToken otherWord namedRule bankOf
 lower-case = refl
 
-longer : wordOf (65 ∷ 66 ∷ 83 ∷ 50 ∷ []) ≡ Bad 6
-unfolding wordOf otherWord namedRule bankOf
+longer : wordToken (65 ∷ 66 ∷ 83 ∷ 50 ∷ []) ≡ Bad 6
+unfolding wordToken otherWord namedRule bankOf
 longer = refl
 
-letter : wordOf (68 ∷ []) ≡ Good (Letter D)
-unfolding wordOf otherWord bankOf
+letter : wordToken (68 ∷ []) ≡ Good (Letter D)
+unfolding wordToken otherWord bankOf
 letter = refl
 
-cell : wordOf (68 ∷ 50 ∷ 53 ∷ 53 ∷ []) ≡ Good (Cell D 255)
-unfolding wordOf otherWord namedRule bankOf
+cell : wordToken (68 ∷ 50 ∷ 53 ∷ 53 ∷ []) ≡ Good (Cell D 255)
+unfolding wordToken otherWord namedRule bankOf
 cell = refl
 
-beyond : wordOf (68 ∷ 50 ∷ 53 ∷ 54 ∷ []) ≡ Bad 6
-unfolding wordOf otherWord namedRule bankOf
+beyond : wordToken (68 ∷ 50 ∷ 53 ∷ 54 ∷ []) ≡ Bad 6
+unfolding wordToken otherWord namedRule bankOf
 beyond = refl
 
-leading-zero : wordOf (68 ∷ 48 ∷ 49 ∷ []) ≡ Bad 6
-unfolding wordOf otherWord namedRule bankOf
+leading-zero : wordToken (68 ∷ 48 ∷ 49 ∷ []) ≡ Bad 6
+unfolding wordToken otherWord namedRule bankOf
 leading-zero = refl
 
-beyond-bits : wordOf (88 ∷ 54 ∷ 52 ∷ []) ≡ Bad 6
-unfolding wordOf otherWord namedRule bankOf
+beyond-bits : wordToken (88 ∷ 54 ∷ 52 ∷ []) ≡ Bad 6
+unfolding wordToken otherWord namedRule bankOf
 beyond-bits = refl
 
 -- ---- lexemes
@@ -107,7 +107,7 @@ then-equals = refl
 
 -- `D0.5`: a cell, then a dot that starts no token
 dotted : lexemeAt (68 ∷ 48 ∷ 46 ∷ 53 ∷ []) 0 ≡ Found (Cell D 0) 0 2
-unfolding lexemeOf wordOf otherWord namedRule bankOf
+unfolding lexemeOf wordToken otherWord namedRule bankOf
 dotted = refl
 
 then-dot : lexemeAt (68 ∷ 48 ∷ 46 ∷ 53 ∷ []) 2 ≡ Wrong 4 2
@@ -131,5 +131,5 @@ minus-first = refl
 
 -- `1 +D0`
 sum : scan (49 ∷ 32 ∷ 43 ∷ 68 ∷ 48 ∷ []) ≡ tokens (record { token = Number (Int (pos 1)); place = 0 } ∷ record { token = Symbol 4; place = 2 } ∷ record { token = Cell D 0; place = 3 } ∷ [])
-unfolding scanFrom lexemeOf wordOf otherWord namedRule bankOf
+unfolding scanFrom lexemeOf wordToken otherWord namedRule bankOf
 sum = refl

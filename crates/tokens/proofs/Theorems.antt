@@ -8,7 +8,7 @@ use native.Mathlib.Omega.{arith}
 use lib.Dec.{eqb}
 use lib.ListN.{length, take, drop, take-append-drop}
 use lib.Seq.{drop-drop, drop-length, length-take-le, take-append-seam, drop-append-seam, take-at}
-use borrow.Author.Tests.{le-ltb, eqb-true, eqb-false, ne-eqb}
+use borrow.Author.Tests.{lt-leb, eqb-true, eqb-false, ne-eqb}
 use Rattle.memory.specs.Names.{isDigit}
 use Rattle.memory.proofs.names.Decimals.{digit-range}
 use Rattle.tokens.specs.declared.Token.{Token}
@@ -18,8 +18,8 @@ use Rattle.tokens.specs.declared.Scanned.the-variants.{Good, Bad}
 use Rattle.tokens.specs.Bytes.{inside, isLetter, isSpace, isWord, isRun, runLen, all}
 use Rattle.tokens.specs.Symbols.{symbolCount, symbolBytes, symbolOf, longest}
 use Rattle.tokens.specs.Numerals.{numeralOf}
-use Rattle.tokens.specs.Words.{wordOf}
-use Rattle.tokens.specs.Scan.{Lexeme, Found, Wrong, End, lexeme, running, symbolLexeme, lexemeOf, blanks, lexemeAt, Scan, before}
+use Rattle.tokens.specs.Words.{wordToken}
+use Rattle.tokens.specs.Scan.{Lexeme, Found, Wrong, End, lexeme, runLexeme, symbolLexeme, lexemeOf, blanks, lexemeAt, Scan, consToken}
 use Rattle.tokens.specs.Theorems.{Starts, first, Stops, nothing, other, LongestRun, Matches, LongestMatch, LongestLexeme, word, numeral, symbol, stray, Blank, Scans, end, token, stop, TokenTheorems}
 use Rattle.tokens.proofs.Tests.{no, by-test, choose, either, within}
 use Rattle.tokens.proofs.Runs.{run-most, run-every, run-stops, run-length}
@@ -27,15 +27,15 @@ use Rattle.tokens.proofs.Laws.{found, rest, enough, at-found, at-wrong,
 use Rattle.tokens.proofs.symbols.Longest.{Front, front, in-table, some-byte, most, front-matches}
 
 -- ---- classes of bytes
-letter-range : (c : ℕ) → isLetter c ≡ true → 58 ≤ c
+letter-range : (c : ℕ) → isLetter c ≡ true → 57 < c
 letter-range c e = go (either (inside 65 90 c) (inside 97 122 c) e)
   where
-    go : (inside 65 90 c ≡ true) ⊎ (inside 97 122 c ≡ true) → 58 ≤ c
+    go : (inside 65 90 c ≡ true) ⊎ (inside 97 122 c ≡ true) → 57 < c
     go (inl u) = omega (arith, within 65 90 c u)
     go (inr l) = omega (arith, within 97 122 c l)
 
 letter-no-digit : (c : ℕ) → isLetter c ≡ true → isDigit c ≡ false
-letter-no-digit c e = rw (le-ltb c 58 (letter-range c e), and-false)
+letter-no-digit c e = rw (lt-leb c 57 (letter-range c e), and-false)
 
 no-space : (c : ℕ) → 33 ≤ c → isSpace c ≡ false
 no-space c h = rw (ne-eqb c 32 (λ e. omega arith), ne-eqb c 9 (λ e. omega arith))
@@ -71,7 +71,7 @@ lexed-as cs w r p n (Good t) q e l = rw (← e) (good w r q l)
 lexed-as cs w r p n (Bad a) q e l = bad w r q l
 
 a-run : (start class : ℕ → Bool) (f : List ℕ → Scanned) (c : ℕ) (cs : List ℕ) (p : ℕ) → start c ≡ true → class c ≡ true
-    → ((w r : List ℕ) → LongestRun start class w r → LongestLexeme w r (f w)) → Lexed (c ∷ cs) p (running class f (c ∷ cs) p)
+    → ((w r : List ℕ) → LongestRun start class w r → LongestLexeme w r (f w)) → Lexed (c ∷ cs) p (runLexeme class f (c ∷ cs) p)
 a-run start class f c cs p s e make =
     let n = runLen class (c ∷ cs) in
     let w = take n (c ∷ cs) in
@@ -102,14 +102,14 @@ unfolding lexemeOf
 lexed [] p nothing = none refl
 lexed (c ∷ cs) p (other s) =
     choose (Lexed (c ∷ cs) p) (isDigit c) _ _ (λ d. a-run isDigit isRun numeralOf c cs p d (rw (d, or-true)) (λ w r h. numeral h))
-    (λ d. choose (Lexed (c ∷ cs) p) (isLetter c) _ _ (λ l. a-run isLetter isWord wordOf c cs p l (rw l) (λ w r h. word h))
+    (λ d. choose (Lexed (c ∷ cs) p) (isLetter c) _ _ (λ l. a-run isLetter isWord wordToken c cs p l (rw l) (λ w r h. word h))
     (λ l. a-symbol c cs p s l d))
 
 -- the relation's constructors, with the number of blanks by another name
 module _ {p : ℕ} {s : List ℕ} (b w r : List ℕ) (k : ℕ) (q : s ≡ b ++ (w ++ r)) (e : Blank b) (n : length b ≡ k) where
-  a-token : {t : Token} {z : Scan} → LongestLexeme w r (Good t) → Scans (p + k + length w) r z → Scans p s (before (record { token = t; place = p + k }) z)
+  a-token : {t : Token} {z : Scan} → LongestLexeme w r (Good t) → Scans (p + k + length w) r z → Scans p s (consToken (record { token = t; place = p + k }) z)
   a-token {t} {z} l =
-      subst (λ (i : ℕ). Scans (p + i + length w) r z → Scans p s (before (record { token = t; place = p + i }) z)) n (λ h. token b w r q e l h)
+      subst (λ (i : ℕ). Scans (p + i + length w) r z → Scans p s (consToken (record { token = t; place = p + i }) z)) n (λ h. token b w r q e l h)
 
   a-stop : {a : ℕ} → LongestLexeme w r (Bad a) → Scans p s (Scan.wrong a (p + k))
   a-stop {a} l = subst (λ (i : ℕ). Scans p s (Scan.wrong a (p + i))) n (stop b w r q e l)
@@ -149,21 +149,21 @@ scans-from (suc n) s at h le =
     (λ e lt in-text. scans-from n s e (omega arith) in-text)
 
 -- ---- from the relation to the scan
-run-lexeme : (class : ℕ → Bool) (f : List ℕ → Scanned) (w r : List ℕ) (p : ℕ) → all class w ≡ true → Stops class r → running class f (w ++ r) p ≡ lexeme p (length w) (f w)
+run-lexeme : (class : ℕ → Bool) (f : List ℕ → Scanned) (w r : List ℕ) (p : ℕ) → all class w ≡ true → Stops class r → runLexeme class f (w ++ r) p ≡ lexeme p (length w) (f w)
 run-lexeme class f w r p e s = rw (run-length class w r e s, take-append-seam w r)
 
-letter-lexeme : (c : ℕ) (cs : List ℕ) (p : ℕ) → isLetter c ≡ true → lexemeOf (c ∷ cs) p ≡ running isWord wordOf (c ∷ cs) p
+letter-lexeme : (c : ℕ) (cs : List ℕ) (p : ℕ) → isLetter c ≡ true → lexemeOf (c ∷ cs) p ≡ runLexeme isWord wordToken (c ∷ cs) p
 unfolding lexemeOf
 letter-lexeme c cs p l =
-    let Is : Lexeme → Type 0 = λ x. x ≡ running isWord wordOf (c ∷ cs) p in
+    let Is : Lexeme → Type 0 = λ x. x ≡ runLexeme isWord wordToken (c ∷ cs) p in
     choose Is (isDigit c) _ _ (λ d. no (sym (letter-no-digit c l) ∙ d)) (λ d. choose Is (isLetter c) _ _ (λ m. refl) (λ m. no (sym m ∙ l)))
 
-digit-lexeme : (c : ℕ) (cs : List ℕ) (p : ℕ) → isDigit c ≡ true → lexemeOf (c ∷ cs) p ≡ running isRun numeralOf (c ∷ cs) p
+digit-lexeme : (c : ℕ) (cs : List ℕ) (p : ℕ) → isDigit c ≡ true → lexemeOf (c ∷ cs) p ≡ runLexeme isRun numeralOf (c ∷ cs) p
 unfolding lexemeOf
-digit-lexeme c cs p d = choose (λ (x : Lexeme). x ≡ running isRun numeralOf (c ∷ cs) p) (isDigit c) _ _ (λ m. refl) (λ m. no (sym m ∙ d))
+digit-lexeme c cs p d = choose (λ (x : Lexeme). x ≡ runLexeme isRun numeralOf (c ∷ cs) p) (isDigit c) _ _ (λ m. refl) (λ m. no (sym m ∙ d))
 
-word-lexeme : (w r : List ℕ) (p : ℕ) → Starts isLetter w → all isWord w ≡ true → Stops isWord r → lexemeOf (w ++ r) p ≡ lexeme p (length w) (wordOf w)
-word-lexeme (c ∷ cs) r p (first l) e s = letter-lexeme c (cs ++ r) p l ∙ run-lexeme isWord wordOf (c ∷ cs) r p e s
+word-lexeme : (w r : List ℕ) (p : ℕ) → Starts isLetter w → all isWord w ≡ true → Stops isWord r → lexemeOf (w ++ r) p ≡ lexeme p (length w) (wordToken w)
+word-lexeme (c ∷ cs) r p (first l) e s = letter-lexeme c (cs ++ r) p l ∙ run-lexeme isWord wordToken (c ∷ cs) r p e s
 
 numeral-lexeme : (w r : List ℕ) (p : ℕ) → Starts isDigit w → all isRun w ≡ true → Stops isRun r → lexemeOf (w ++ r) p ≡ lexeme p (length w) (numeralOf w)
 numeral-lexeme (c ∷ cs) r p (first d) e s = digit-lexeme c (cs ++ r) p d ∙ run-lexeme isRun numeralOf (c ∷ cs) r p e s
@@ -221,7 +221,7 @@ end-at s p e =
 only-from : {p : ℕ} {u : List ℕ} {z : Scan} → Scans p u z → (s : List ℕ) → drop p s ≡ u → z ≡ rest s p
 only-from {p} (end e) s q = sym (at-end s p (end-at s p (subst Blank (sym q) e)))
 only-from {p} (token b w r v e l h) s q =
-    ap (before _) (only-from h s (after s p b w r (q ∙ v))) ∙ sym (at-found s p (lexeme-at s p b w r (q ∙ v) e l))
+    ap (consToken _) (only-from h s (after s p b w r (q ∙ v))) ∙ sym (at-found s p (lexeme-at s p b w r (q ∙ v) e l))
 only-from {p} (stop b w r v e l) s q = sym (at-wrong s p (lexeme-at s p b w r (q ∙ v) e l))
 
 pub token-theorems : TokenTheorems

@@ -5,23 +5,23 @@ use mathlib.Core.List.{List, [], _∷_}
 use Prim.Native.Nat.{ℕ, suc}
 use lib.Dec.{eqb, leb}
 use Rattle.memory.specs.Names.{isDigit}
+use Rattle.words.specs.Ascii.{byte}
 
 abbrev pub inside : ℕ → ℕ → ℕ → Bool
 inside lo hi c = leb lo c && leb c hi
 
--- A to Z and a to z
 abbrev pub isLetter : ℕ → Bool
-isLetter c = inside 65 90 c || inside 97 122 c
+isLetter c = inside (byte "A") (byte "Z") c || inside (byte "a") (byte "z") c
 
 abbrev pub isSpace : ℕ → Bool
-isSpace c = eqb c 32 || eqb c 9
+isSpace c = eqb c (byte " ") || eqb c (byte "\t")
 
 abbrev pub isWord : ℕ → Bool
 isWord c = isLetter c || isDigit c
 
 -- with the dot
 abbrev pub isRun : ℕ → Bool
-isRun c = isWord c || eqb c 46
+isRun c = isWord c || eqb c (byte ".")
 
 -- how many of the first bytes pass a test
 abbrev pub runLen : (ℕ → Bool) → List ℕ → ℕ

@@ -13,27 +13,28 @@ use Rattle.reals.specs.Operations.{ieee}
 use Rattle.values.specs.declared.Value.the-variants.{Int, Real}
 use Rattle.values.specs.Patterns.{signedOf}
 use Rattle.values.specs.Convert.{promoted}
-use Rattle.memory.specs.Names.{isDigit, decimal}
+use Rattle.memory.specs.Names.{isDigit, decimalValue}
 use Rattle.tokens.specs.declared.Token.the-variants.{Number}
 use Rattle.tokens.specs.declared.Scanned.{Scanned}
 use Rattle.tokens.specs.declared.Scanned.the-variants.{Good, Bad}
 use Rattle.tokens.specs.Bytes.{inside, runLen, all}
+use Rattle.words.specs.Ascii.{byte}
 
-abbrev pub some : List ℕ → Bool
-some [] = false
-some (c ∷ cs) = true
+abbrev pub nonEmpty : List ℕ → Bool
+nonEmpty [] = false
+nonEmpty (c ∷ cs) = true
 
 abbrev pub digits : List ℕ → Bool
-digits cs = some cs && all isDigit cs
+digits cs = nonEmpty cs && all isDigit cs
 
 abbrev pub decimalOf : List ℕ → Scanned
-decimalOf cs = cond (leb (decimal cs) 2147483647) (Good (Number (Int (pos (decimal cs))))) (Bad 5)
+decimalOf cs = cond (leb (decimalValue cs) 2147483647) (Good (Number (Int (pos (decimalValue cs))))) (Bad 5)
 
 abbrev pub isHex : ℕ → Bool
-isHex c = isDigit c || inside 65 70 c || inside 97 102 c
+isHex c = isDigit c || inside (byte "A") (byte "F") c || inside (byte "a") (byte "f") c
 
 abbrev pub hexDigit : ℕ → ℕ
-hexDigit c = cond (leb c 57) (c - 48) (cond (leb c 70) (c - 55) (c - 87))
+hexDigit c = cond (leb c (byte "9")) (c - byte "0") (cond (leb c (byte "F")) (c - (byte "A" - 10)) (c - (byte "a" - 10)))
 
 abbrev pub hexFrom : ℕ → List ℕ → ℕ
 hexFrom n [] = n
@@ -41,26 +42,26 @@ hexFrom n (c ∷ cs) = hexFrom (n * 16 + hexDigit c) cs
 
 -- the digits after `0x`
 abbrev pub hexOf : List ℕ → Scanned
-hexOf cs = cond (some cs && all isHex cs) (cond (leb (length cs) 8) (Good (Number (Int (signedOf 32 (hexFrom 0 cs))))) (Bad 5)) (Bad 4)
+hexOf cs = cond (nonEmpty cs && all isHex cs) (cond (leb (length cs) 8) (Good (Number (Int (signedOf 32 (hexFrom 0 cs))))) (Bad 5)) (Bad 4)
 
--- "With seven digits, numerator and power of ten are both exact singles": `literal` of the crate reals' laws
-abbrev pub literal : ℕ → ℕ → Float
-literal n k = ieee Div (promoted (pos n)) (promoted (pos (10 ^ k)))
+-- "With seven digits, numerator and power of ten are both exact singles": `literal-rounds` of the crate reals' laws
+abbrev pub realLiteral : ℕ → ℕ → Float
+realLiteral n k = ieee Div (promoted (pos n)) (promoted (pos (10 ^ k)))
 
 -- the digits before the dot and after it
 abbrev pub realOf : List ℕ → List ℕ → Scanned
 realOf whole part =
     cond (digits whole && digits part)
-    (cond (leb (length whole + length part) 7) (Good (Number (Real (literal (decimal (whole ++ part)) (length part))))) (Bad 5))
+    (cond (leb (length whole + length part) 7) (Good (Number (Real (realLiteral (decimalValue (whole ++ part)) (length part))))) (Bad 5))
     (Bad 4)
 
 abbrev pub isHexRun : List ℕ → Bool
 isHexRun [] = false
 isHexRun (c ∷ []) = false
-isHexRun (c ∷ d ∷ cs) = eqb c 48 && eqb d 120
+isHexRun (c ∷ d ∷ cs) = eqb c (byte "0") && eqb d (byte "x")
 
 abbrev pub notDot : ℕ → Bool
-notDot c = not (eqb c 46)
+notDot c = not (eqb c (byte "."))
 
 -- a run that starts with a digit
 abbrev pub numeralOf : List ℕ → Scanned

@@ -13,7 +13,7 @@ use Rattle.tokens.specs.declared.Scanned.the-variants.{Good, Bad}
 use Rattle.tokens.specs.Bytes.{isLetter, isSpace, isWord, isRun, runLen}
 use Rattle.tokens.specs.Symbols.{symbolCount, symbolBytes, longest}
 use Rattle.tokens.specs.Numerals.{numeralOf}
-use Rattle.tokens.specs.Words.{wordOf}
+use Rattle.tokens.specs.Words.{wordToken}
 
 -- the next token from a position, with its place and where it ends; bytes that are none, with their answer and place; or the text's end
 pub data Lexeme : Type 0 where
@@ -27,19 +27,19 @@ lexeme p n (Good t) = Found t p (p + n)
 lexeme p n (Bad a) = Wrong a p
 
 -- the longest run of a class, judged by f
-abbrev pub running : (ℕ → Bool) → (List ℕ → Scanned) → List ℕ → ℕ → Lexeme
-running test f cs p = lexeme p (runLen test cs) (f (take (runLen test cs) cs))
+abbrev pub runLexeme : (ℕ → Bool) → (List ℕ → Scanned) → List ℕ → ℕ → Lexeme
+runLexeme test f cs p = lexeme p (runLen test cs) (f (take (runLen test cs) cs))
 
 abbrev pub symbolLexeme : ℕ → ℕ → Lexeme
 symbolLexeme p n = cond (eqb n symbolCount) (Wrong 4 p) (Found (Symbol n) p (p + length (symbolBytes n)))
 
 -- what begins the bytes cs, which are not blank, at the place p
 unfoldable pub lexemeOf : List ℕ → ℕ → Lexeme
-unfolding wordOf
+unfolding wordToken
 lexemeOf [] p = End
 lexemeOf (c ∷ cs) p =
-    cond (isDigit c) (running isRun numeralOf (c ∷ cs) p)
-    (cond (isLetter c) (running isWord wordOf (c ∷ cs) p)
+    cond (isDigit c) (runLexeme isRun numeralOf (c ∷ cs) p)
+    (cond (isLetter c) (runLexeme isWord wordToken (c ∷ cs) p)
     (symbolLexeme p (longest (c ∷ cs))))
 
 abbrev pub blanks : List ℕ → ℕ → ℕ
@@ -58,15 +58,15 @@ pub data Scan : Type 0 where
   tokens : List Tok → Scan
   wrong : ℕ → ℕ → Scan
 
-abbrev pub before : Tok → Scan → Scan
-before t (tokens ts) = tokens (t ∷ ts)
-before t (wrong a p) = wrong a p
+abbrev pub consToken : Tok → Scan → Scan
+consToken t (tokens ts) = tokens (t ∷ ts)
+consToken t (wrong a p) = wrong a p
 
 -- the tokens from a position on, or the first that is none; every token takes a byte, so the text's length is fuel enough
 unfoldable pub scanFrom : ℕ → List ℕ → ℕ → Scan
 unfolding lexemeOf
 scanFrom zero s at = tokens []
-scanFrom (suc f) s at = elim (lexemeAt s at) [ Found t p e ↦ before (record { token = t; place = p }) (scanFrom f s e) | Wrong a p ↦ wrong a p | End ↦ tokens [] ]
+scanFrom (suc f) s at = elim (lexemeAt s at) [ Found t p e ↦ consToken (record { token = t; place = p }) (scanFrom f s e) | Wrong a p ↦ wrong a p | End ↦ tokens [] ]
 
 abbrev pub scan : List ℕ → Scan
 scan s = scanFrom (suc (length s)) s 0

@@ -1,5 +1,5 @@
 -- What a reader of the tokens wants to know of `scan`, in the words of paper 01; proofs/Theorems.antt proves the record. So a reader believes the classes of
--- bytes, the table of symbols, `wordOf` and `numeralOf`, and no position and no fuel.
+-- bytes, the table of symbols, `wordToken` and `numeralOf`, and no position and no fuel.
 use mathlib.Core.Path.{_≡_}
 use mathlib.Core.Bool.{Bool, true, false}
 use mathlib.Core.List.{List, [], _∷_, _++_}
@@ -13,8 +13,8 @@ use Rattle.tokens.specs.declared.Scanned.the-variants.{Good, Bad}
 use Rattle.tokens.specs.Bytes.{isLetter, isSpace, isWord, isRun, all}
 use Rattle.tokens.specs.Symbols.{symbolCount, symbolBytes}
 use Rattle.tokens.specs.Numerals.{numeralOf}
-use Rattle.tokens.specs.Words.{wordOf}
-use Rattle.tokens.specs.Scan.{Scan, tokens, wrong, before, scanFrom, scan}
+use Rattle.tokens.specs.Words.{wordToken}
+use Rattle.tokens.specs.Scan.{Scan, tokens, wrong, consToken, scanFrom, scan}
 
 -- the first byte is of the class
 pub data Starts (class : ℕ → Bool) : List ℕ → Type 0 where
@@ -42,7 +42,7 @@ pub record LongestMatch (n : ℕ) (r : List ℕ) : Type 0 where
 
 -- the bytes w, before r, are the longest that belong together, and what they are: a token, or none and its answer
 pub data LongestLexeme (w r : List ℕ) : Scanned → Type 0 where
-  word : LongestRun isLetter isWord w r → LongestLexeme w r (wordOf w)
+  word : LongestRun isLetter isWord w r → LongestLexeme w r (wordToken w)
   numeral : LongestRun isDigit isRun w r → LongestLexeme w r (numeralOf w)
   symbol : (n : ℕ) → w ≡ symbolBytes n → LongestMatch n r → LongestLexeme w r (Good (Symbol n))
   -- 4, "bytes that form no token": a byte that is no blank and starts no word, numeral or symbol
@@ -58,7 +58,7 @@ Blank b = all isSpace b ≡ true
 pub data Scans : ℕ → List ℕ → Scan → Type 0 where
   end : {p : ℕ} {s : List ℕ} → Blank s → Scans p s (tokens [])
   token : {p : ℕ} {s : List ℕ} {t : Token} {z : Scan} (b w r : List ℕ) → s ≡ b ++ (w ++ r) → Blank b → LongestLexeme w r (Good t)
-      → Scans (p + length b + length w) r z → Scans p s (before (record { token = t; place = p + length b }) z)
+      → Scans (p + length b + length w) r z → Scans p s (consToken (record { token = t; place = p + length b }) z)
   stop : {p : ℕ} {s : List ℕ} {a : ℕ} (b w r : List ℕ) → s ≡ b ++ (w ++ r) → Blank b → LongestLexeme w r (Bad a) → Scans p s (wrong a (p + length b))
 
 pub record TokenTheorems : Type 0 where

@@ -12,19 +12,20 @@ use Rattle.tokens.specs.declared.Function.the-variants.{Abs, ToReal, ToI
 use Rattle.tokens.specs.declared.Token.the-variants.{Cell, Letter as LetterToken, Name}
 use Rattle.tokens.specs.declared.Scanned.{Scanned}
 use Rattle.tokens.specs.declared.Scanned.the-variants.{Good, Bad}
-use Rattle.tokens.specs.Symbols.{same}
+use Rattle.tokens.specs.Symbols.{equalBytes}
+use Rattle.words.specs.Ascii.{ascii}
 
--- ABS TOREAL TOINT TRUNC ROUND FRAC MAX MIN IF
+-- the name of a function
 abbrev pub nameOf : Function → List ℕ
-nameOf Abs = 65 ∷ 66 ∷ 83 ∷ []
-nameOf ToReal = 84 ∷ 79 ∷ 82 ∷ 69 ∷ 65 ∷ 76 ∷ []
-nameOf ToInt = 84 ∷ 79 ∷ 73 ∷ 78 ∷ 84 ∷ []
-nameOf Trunc = 84 ∷ 82 ∷ 85 ∷ 78 ∷ 67 ∷ []
-nameOf Round = 82 ∷ 79 ∷ 85 ∷ 78 ∷ 68 ∷ []
-nameOf Frac = 70 ∷ 82 ∷ 65 ∷ 67 ∷ []
-nameOf Max = 77 ∷ 65 ∷ 88 ∷ []
-nameOf Min = 77 ∷ 73 ∷ 78 ∷ []
-nameOf If = 73 ∷ 70 ∷ []
+nameOf Abs = ascii "ABS"
+nameOf ToReal = ascii "TOREAL"
+nameOf ToInt = ascii "TOINT"
+nameOf Trunc = ascii "TRUNC"
+nameOf Round = ascii "ROUND"
+nameOf Frac = ascii "FRAC"
+nameOf Max = ascii "MAX"
+nameOf Min = ascii "MIN"
+nameOf If = ascii "IF"
 
 abbrev pub cellWord : Named → Scanned
 cellWord (A.Cell b i) = Good (Cell b i)
@@ -42,13 +43,13 @@ otherWord (c ∷ []) = letterWord (bankOf c)
 otherWord (c ∷ d ∷ cs) = cellWord (namedRule (c ∷ d ∷ cs))
 
 -- the function that has the name, among these
-abbrev pub named : List Function → List ℕ → Scanned → Scanned
-named [] cs other = other
-named (f ∷ fs) cs other = cond (same (nameOf f) cs) (Good (Name f)) (named fs cs other)
+abbrev pub functionNamed : List Function → List ℕ → Scanned → Scanned
+functionNamed [] cs other = other
+functionNamed (f ∷ fs) cs other = cond (equalBytes (nameOf f) cs) (Good (Name f)) (functionNamed fs cs other)
 
 abbrev pub functions : List Function
 functions = Abs ∷ ToReal ∷ ToInt ∷ Trunc ∷ Round ∷ Frac ∷ Max ∷ Min ∷ If ∷ []
 
-unfoldable pub wordOf : List ℕ → Scanned
+unfoldable pub wordToken : List ℕ → Scanned
 unfolding otherWord
-wordOf cs = named functions cs (otherWord cs)
+wordToken cs = functionNamed functions cs (otherWord cs)

@@ -1,7 +1,7 @@
 // Words: function names, bank letters and cells.
 ghost use mathlib.Core.Path.{_≡_};
-ghost use Rattle.tokens.specs.Symbols.{same};
-ghost use Rattle.tokens.specs.Words.{wordOf, otherWord};
+ghost use Rattle.tokens.specs.Symbols.{equalBytes};
+ghost use Rattle.tokens.specs.Words.{wordToken, otherWord};
 use crate::Function;
 use crate::Scanned;
 use crate::Token;
@@ -9,7 +9,7 @@ use memory::names::Letter;
 use memory::names::Named;
 
 pub fn same_bytes(a: &[u8], b: &[u8]) -> bool
-    ensures { λ r. ⌜ r ≡ same (now (a .entry)) (now (b .entry)) ⌝ }
+    ensures { λ r. ⌜ r ≡ equalBytes (now (a .entry)) (now (b .entry)) ⌝ }
 {
     if a.len() != b.len() {
         return false;
@@ -41,7 +41,7 @@ fn other_word(run: &[u8]) -> Scanned
 }
 
 pub fn word(run: &[u8]) -> Scanned
-    ensures { λ r. ⌜ r ≡ wordOf (now (run .entry)) ⌝ }
+    ensures { λ r. ⌜ r ≡ wordToken (now (run .entry)) ⌝ }
 {
     if same_bytes(b"ABS", run) {
         return Scanned::Good(Token::Name(Function::Abs));

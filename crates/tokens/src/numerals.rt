@@ -5,7 +5,7 @@ ghost use Prim.Native.Nat.{_-_, _^_, _<_, _≤_};
 ghost use lib.ListN.{length};
 ghost use Rattle.memory.specs.Names.{isDigit, decimalFrom};
 ghost use Rattle.tokens.specs.Bytes.{runLen, all};
-ghost use Rattle.tokens.specs.Numerals.{some, digits, decimalOf, isHex, hexDigit, hexFrom, hexOf, literal, notDot, realOf, isHexRun, numeralOf};
+ghost use Rattle.tokens.specs.Numerals.{nonEmpty, digits, decimalOf, isHex, hexDigit, hexFrom, hexOf, realLiteral, notDot, realOf, isHexRun, numeralOf};
 use crate::Scanned;
 use crate::Token;
 use reals::ArithOp;
@@ -77,7 +77,7 @@ fn hex_digit(b: u8) -> u32
 
 // At least one hexadecimal digit, and nothing else.
 fn all_hex(run: &[u8]) -> bool
-    ensures { λ r. ⌜ r ≡ (some (now (run .entry)) && all isHex (now (run .entry))) ⌝ }
+    ensures { λ r. ⌜ r ≡ (nonEmpty (now (run .entry)) && all isHex (now (run .entry))) ⌝ }
 {
     let mut i = 0;
     while i < run.len() {
@@ -91,7 +91,7 @@ fn all_hex(run: &[u8]) -> bool
 
 // The number of hexadecimal digits.
 fn hex_value(run: &[u8]) -> u32
-    requires { ⌜ ((some (now run) && all isHex (now run)) ≡ true) × (hexFrom 0 (now run) < 2 ^ 32) ⌝ }
+    requires { ⌜ ((nonEmpty (now run) && all isHex (now run)) ≡ true) × (hexFrom 0 (now run) < 2 ^ 32) ⌝ }
     ensures { λ r. ⌜ r ≡ hexFrom 0 (now (run .entry)) ⌝ }
 {
     let mut n: u32 = 0;
@@ -133,7 +133,7 @@ fn value_from(n: u32, run: &[u8]) -> u32
 // One division of two exact singles.
 pub fn quotient(n: u32, k: usize) -> f32
     requires { ⌜ (n < 10000000) × (k ≤ 6) ⌝ }
-    ensures { λ r. ⌜ r ≡ literal n k ⌝ }
+    ensures { λ r. ⌜ r ≡ realLiteral n k ⌝ }
 {
     reals::operate(ArithOp::Div, n as f32, TENS[k] as f32)
 }

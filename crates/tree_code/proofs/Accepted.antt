@@ -14,11 +14,11 @@ use Rattle.values.specs.Values.{kindOf}
 use Rattle.operators.specs.Kinds.{join, unaryKind, binaryKind}
 use Rattle.memory.specs.Cells.{bankKind}
 use Rattle.code.specs.declared.Instr.{Instr}
-use Rattle.machine.specs.Machine.{most}
+use Rattle.machine.specs.Machine.{maxHeight}
 use Rattle.grammar.specs.Tree.{Tree, literal, cell, indexed, unary, binary, logic, choice, treeKind}
-use Rattle.verifier.specs.Typing.{Shape, Move, next, pushing, moveOf}
+use Rattle.verifier.specs.Typing.{Shape, Move, next, pushKind, moveOf}
 use Rattle.verifier.specs.Accepts.{Accepts}
-use Rattle.tree_code.specs.Code.{push, pushBool, settled, tail, over, codeOf}
+use Rattle.tree_code.specs.Code.{push, pushBool, truthTail, branchTail, branchTailSkip, codeOf}
 use Rattle.tree_code.proofs.Well.{Well, on-literal, on-cell, on-indexed, on-unary, on-binary, on-logic, on-choice}
 use Rattle.tree_code.proofs.Need.{need, need-some}
 use Rattle.tree_code.proofs.Flow.{At, here, there, Fits, fits-next, fits-leap, fits-fork, Flow, none, some, flow-append, at-past, accepts}
@@ -43,9 +43,9 @@ after (choice p c t u) s l = after c s (s ∷ after t s (s ∷ after u s (afterT
 goes : {i : Instr} {c : List Instr} {s r : Shape} {ss l : List Shape} → moveOf i s ≡ next r → Flow c (r ∷ ss) l → Flow (i ∷ c) (s ∷ r ∷ ss) l
 goes {r = r} {ss = ss} e f = some (subst (λ (m : Move). Fits m (r ∷ ss)) (sym e) (fits-next here)) f
 
-module _ (s : Shape) (room : length s < most) where
-  pushing-next : (k : Kind) → pushing k s ≡ next (k ∷ s)
-  pushing-next k = rw (lt-ltb (length s) most room)
+module _ (s : Shape) (room : length s < maxHeight) where
+  pushing-next : (k : Kind) → pushKind k s ≡ next (k ∷ s)
+  pushing-next k = rw (lt-ltb (length s) maxHeight room)
 
   push-next : (v : Value) → moveOf (push v) s ≡ next (kindOf v ∷ s)
   unfolding moveOf
@@ -57,26 +57,26 @@ module _ (s : Shape) (room : length s < most) where
   bool-next true = pushing-next K.Int
   bool-next false = pushing-next K.Int
 
-  settled-flow : (d : Bool) (k : Kind) {l : List Shape} → Flow (settled d) ((k ∷ s) ∷ s ∷ (K.Int ∷ s) ∷ s ∷ (K.Int ∷ s) ∷ l) ((K.Int ∷ s) ∷ l)
+  settled-flow : (d : Bool) (k : Kind) {l : List Shape} → Flow (truthTail d) ((k ∷ s) ∷ s ∷ (K.Int ∷ s) ∷ s ∷ (K.Int ∷ s) ∷ l) ((K.Int ∷ s) ∷ l)
   unfolding moveOf
   settled-flow d k = some (fits-fork here (there (there here))) (goes (bool-next (not d)) (some (fits-leap (there here)) (goes (bool-next d) none)))
 
 -- after the branches of IF: what promotes one of them, and where the first one goes
-tail-flow : (j k : Kind) (s : Shape) (l : List Shape) → Flow (tail j k) ((k ∷ s) ∷ afterTail j k s l) ((join j k ∷ s) ∷ l)
+tail-flow : (j k : Kind) (s : Shape) (l : List Shape) → Flow (branchTail j k) ((k ∷ s) ∷ afterTail j k s l) ((join j k ∷ s) ∷ l)
 unfolding afterTail moveOf
 tail-flow K.Int K.Int s l = none
 tail-flow K.Int K.Real s l = some (fits-leap (there here)) (goes refl none)
 tail-flow K.Real K.Int s l = goes refl none
 tail-flow K.Real K.Real s l = none
 
-over-at : (j k : Kind) (s : Shape) (l : List Shape) → At ((k ∷ s) ∷ afterTail j k s l) (over j k) (j ∷ s)
+over-at : (j k : Kind) (s : Shape) (l : List Shape) → At ((k ∷ s) ∷ afterTail j k s l) (branchTailSkip j k) (j ∷ s)
 unfolding afterTail
 over-at K.Int K.Int s l = here
 over-at K.Int K.Real s l = there here
 over-at K.Real K.Int s l = there here
 over-at K.Real K.Real s l = here
 
-tree-flow : {t : Tree} → Well t → (s : Shape) (l : List Shape) → length s + need t ≤ most → Flow (codeOf t) (s ∷ after t s l) ((treeKind t ∷ s) ∷ l)
+tree-flow : {t : Tree} → Well t → (s : Shape) (l : List Shape) → length s + need t ≤ maxHeight → Flow (codeOf t) (s ∷ after t s l) ((treeKind t ∷ s) ∷ l)
 unfolding codeOf treeKind need after moveOf
 tree-flow (on-literal {v = v}) s l h = goes (push-next s (omega arith) v) none
 tree-flow (on-cell {b = b}) s l h = goes (pushing-next s (omega arith) (bankKind b)) none
@@ -99,5 +99,5 @@ tree-flow (on-choice {t = t} {u = u} w x y) s l h =
     (some (fits-leap (at-past g (over-at j k s l)))
     (flow-append g (tail-flow j k s l)))))
 
-pub accepted : {t : Tree} → Well t → need t ≤ most → 0 < length (codeOf t) → length (codeOf t) ≤ 2048 → Accepts (codeOf t) (treeKind t)
+pub accepted : {t : Tree} → Well t → need t ≤ maxHeight → 0 < length (codeOf t) → length (codeOf t) ≤ 2048 → Accepts (codeOf t) (treeKind t)
 accepted w h = accepts (tree-flow w [] [] (omega arith))

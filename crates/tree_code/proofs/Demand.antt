@@ -7,7 +7,7 @@ use Rattle.tokens.specs.Scan.{Tok}
 use Rattle.grammar.specs.Tree.{Tree, treeKind, nowhere, wrongKind}
 use Rattle.grammar.specs.Grammar.{Formula}
 use Rattle.grammar.specs.Theorems.{Shallow}
-use Rattle.machine.specs.Machine.{most}
+use Rattle.machine.specs.Machine.{maxHeight}
 use Rattle.verifier.specs.Accepts.{Accepts}
 use Rattle.verifier.proofs.Safe.{safe}
 use Rattle.tree_code.specs.Code.{codeOf}
@@ -23,7 +23,7 @@ use Rattle.tree_code.proofs.Height.{height}
 
 compiled : (w : List Tok) (t : Tree) (n : ℕ) → Formula w t → Shallow 0 w → wrongKind t ≡ nowhere → leastBytes w ≤ n → n ≤ 1024 → Compiled t n
 compiled w t n formula shallow right long short =
-    let low : need t ≤ most = omega (arith, height formula shallow) in
+    let low : need t ≤ maxHeight = omega (arith, height formula shallow) in
     let taken : Accepts (codeOf t) (treeKind t) = accepted (well t right) low (code-some t) (omega (arith, small formula)) in
     record {
       kind = λ E kinded. worth-of-kind E kinded t right;

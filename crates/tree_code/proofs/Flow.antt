@@ -10,8 +10,8 @@ use borrow.Author.Tests.{le-leb, ltb-true, ltb-false}
 use Rattle.values.specs.declared.Kind.{Kind}
 use Rattle.code.specs.declared.Instr.{Instr}
 use Rattle.code.specs.declared.Instr.the-variants.{PushInt, PushReal, Load, LoadIndexed, Unary, Binary, Jump, JumpIf, Unknown}
-use Rattle.verifier.specs.Typing.{Shape, Move, refused, next, leap, fork, moveOf, stands}
-use Rattle.verifier.specs.Accepts.{Leads, on, over, stay, away, instrAt, Reached, start, onward, Accepts}
+use Rattle.verifier.specs.Typing.{Shape, Move, illTyped, next, jump, fork, moveOf, wellFormed}
+use Rattle.verifier.specs.Accepts.{MovesTo, next-place, jump-target, not-taken, taken, instrAt, Reached, start, onward, Accepts}
 
 -- the kinds r stand at the place n of the list
 pub data At : List Shape → ℕ → Shape → Type 0 where
@@ -21,7 +21,7 @@ pub data At : List Shape → ℕ → Shape → Type 0 where
 -- where a move leads, among the places after it, its kinds stand
 pub data Fits : Move → List Shape → Type 0 where
   fits-next : {r : Shape} {l : List Shape} → At l 0 r → Fits (next r) l
-  fits-leap : {d : ℕ} {r : Shape} {l : List Shape} → At l d r → Fits (leap d r) l
+  fits-leap : {d : ℕ} {r : Shape} {l : List Shape} → At l d r → Fits (jump d r) l
   fits-fork : {d : ℕ} {r : Shape} {l : List Shape} → At l 0 r → At l d r → Fits (fork d r) l
 
 -- code, with the kinds at its places and at all places after it, and at those after it alone
@@ -64,7 +64,7 @@ fits-at (some f g) here h = f
 fits-at (some f g) (there a) h = fits-at g a (omega arith)
 
 -- ---- moves
-not-refused : {m : Move} {l : List Shape} → Fits m l → m ≡ refused → ⊥
+not-refused : {m : Move} {l : List Shape} → Fits m l → m ≡ illTyped → ⊥
 not-refused (fits-next a) e = let z : _≡_ {A = ℕ} 0 1 = cc in omega arith
 not-refused (fits-leap a) e = let z : _≡_ {A = ℕ} 0 1 = cc in omega arith
 not-refused (fits-fork a b) e = let z : _≡_ {A = ℕ} 0 1 = cc in omega arith
@@ -75,31 +75,31 @@ record Led (l : List Shape) (p q : ℕ) (r : Shape) : Type 0 where
   place : q ≡ suc p + d
   kinds : At l d r
 
-led : {m : Move} {l : List Shape} {p q : ℕ} {r : Shape} → Fits m l → Leads p m q r → Led l p q r
-led (fits-next a) on = record { d = 0; place = omega arith; kinds = a }
-led (fits-leap {d = d} a) over = record { d = d; place = refl; kinds = a }
-led (fits-fork a b) stay = record { d = 0; place = omega arith; kinds = a }
-led (fits-fork {d = d} a b) away = record { d = d; place = refl; kinds = b }
+led : {m : Move} {l : List Shape} {p q : ℕ} {r : Shape} → Fits m l → MovesTo p m q r → Led l p q r
+led (fits-next a) next-place = record { d = 0; place = omega arith; kinds = a }
+led (fits-leap {d = d} a) jump-target = record { d = d; place = refl; kinds = a }
+led (fits-fork a b) not-taken = record { d = 0; place = omega arith; kinds = a }
+led (fits-fork {d = d} a b) taken = record { d = d; place = refl; kinds = b }
 
-later : {p q : ℕ} {m : Move} {r : Shape} → Leads p m q r → p < q
-later on = omega arith
-later over = omega arith
-later stay = omega arith
-later away = omega arith
+later : {p q : ℕ} {m : Move} {r : Shape} → MovesTo p m q r → p < q
+later next-place = omega arith
+later jump-target = omega arith
+later not-taken = omega arith
+later taken = omega arith
 
-leaves : {m : Move} {l : List Shape} (p : ℕ) → Fits m l → (q : ℕ) × (r : Shape) × Leads p m q r
-leaves p (fits-next {r = r} a) = (suc p, r, on)
-leaves p (fits-leap {d = d} {r = r} a) = (suc p + d, r, over)
-leaves p (fits-fork {r = r} a b) = (suc p, r, stay)
+leaves : {m : Move} {l : List Shape} (p : ℕ) → Fits m l → (q : ℕ) × (r : Shape) × MovesTo p m q r
+leaves p (fits-next {r = r} a) = (suc p, r, next-place)
+leaves p (fits-leap {d = d} {r = r} a) = (suc p + d, r, jump-target)
+leaves p (fits-fork {r = r} a b) = (suc p, r, not-taken)
 
 -- a jump that fits stays within the code or goes to its end
-leap-inside : {d : ℕ} {r : Shape} {l : List Shape} → Fits (leap d r) l → d < length l
+leap-inside : {d : ℕ} {r : Shape} {l : List Shape} → Fits (jump d r) l → d < length l
 leap-inside (fits-leap a) = at-less a
 
 fork-inside : {d : ℕ} {r : Shape} {l : List Shape} → Fits (fork d r) l → d < length l
 fork-inside (fits-fork a b) = at-less b
 
-fits-stands : (i : Instr) (s : Shape) (l : List Shape) (n : ℕ) → length l ≡ suc n → Fits (moveOf i s) l → stands n i ≡ true
+fits-stands : (i : Instr) (s : Shape) (l : List Shape) (n : ℕ) → length l ≡ suc n → Fits (moveOf i s) l → wellFormed n i ≡ true
 unfolding moveOf
 fits-stands (PushInt z) s l n e f = refl
 fits-stands (PushReal x) s l n e f = refl
@@ -112,7 +112,7 @@ fits-stands (JumpIf t d) [] l n e f = absurd (not-refused f refl)
 fits-stands (JumpIf t d) (k ∷ s) l n e f = le-leb d n (omega (arith, fork-inside f))
 fits-stands Unknown s l n e f = absurd (not-refused f refl)
 
-all-stand : {c : List Instr} {ss l : List Shape} → Flow c ss l → length l ≡ 1 → (p : ℕ) → p < length c → stands (length c - suc p) (instrAt c p) ≡ true
+all-stand : {c : List Instr} {ss l : List Shape} → Flow c ss l → length l ≡ 1 → (p : ℕ) → p < length c → wellFormed (length c - suc p) (instrAt c p) ≡ true
 all-stand none e p h = absurd (omega arith)
 all-stand (some {i = i} {c = c} {s = s} {ss = ss} f g) e zero h = fits-stands i s ss (suc (length c) - 1) (omega (arith, flow-length g)) f
 all-stand (some {c = c} f g) e (suc p) h = let q : suc (length c) - suc (suc p) ≡ length c - suc p = omega arith in rw q (all-stand g e p (omega arith))

@@ -16,8 +16,8 @@ use Rattle.code.specs.declared.Instr.the-variants.{Jump, JumpIf}
 use Rattle.machine.specs.declared.Ended.{Ended}
 use Rattle.machine.specs.declared.Ended.the-variants as Ended
 use Rattle.machine.specs.declared.Ran.{Ran}
-use Rattle.machine.specs.Machine.{most, Next, goes, halts, given, act, counted, exec}
-use Rattle.grammar.specs.Worth.{then}
+use Rattle.machine.specs.Machine.{maxHeight, Next, goes, halts, pushOutcome, act, countOne, exec}
+use Rattle.grammar.specs.Eval.{then}
 
 -- how a run of c ends that skips k instructions and holds the values st
 abbrev pub ends : Environment → List Instr → ℕ → List Value → Ended
@@ -43,13 +43,13 @@ module _ (E : Environment) where
   unfolding exec after
   step i c st = go (act E i st)
     where
-      go : (x : Next) → (elim x as (λ x. Ran) [ goes k st′ ↦ counted (exec E c k st′) | halts e ↦ record { end = e; count = 1 } ]) .end ≡ after E x c
+      go : (x : Next) → (elim x as (λ x. Ran) [ goes k st′ ↦ countOne (exec E c k st′) | halts e ↦ record { end = e; count = 1 } ]) .end ≡ after E x c
       go (goes k st′) = refl
       go (halts e) = refl
 
-  given-into : (r : Outcome) (c : List Instr) (st : List Value) → length st < most → after E (given r st) c ≡ into E r c st
+  given-into : (r : Outcome) (c : List Instr) (st : List Value) → length st < maxHeight → after E (pushOutcome r st) c ≡ into E r c st
   unfolding after
-  given-into (Done v) c st h = rw (lt-ltb (length st) most h)
+  given-into (Done v) c st h = rw (lt-ltb (length st) maxHeight h)
   given-into (Stopped f) c st h = refl
   given-into WrongKind c st h = refl
 
@@ -67,13 +67,13 @@ module _ (E : Environment) where
   begun (i ∷ c) (suc k) st = omega (arith, begun c k st)
   begun (i ∷ c) zero st = go (act E i st) (begun c)
     where
-      go : (x : Next) → ((k : ℕ) (st : List Value) → exec E c k st .count ≤ length c) → (elim x as (λ x. Ran) [ goes k st′ ↦ counted (exec E c k st′) | halts e ↦ record { end = e; count = 1 } ]) .count ≤ suc (length c)
+      go : (x : Next) → ((k : ℕ) (st : List Value) → exec E c k st .count ≤ length c) → (elim x as (λ x. Ran) [ goes k st′ ↦ countOne (exec E c k st′) | halts e ↦ record { end = e; count = 1 } ]) .count ≤ suc (length c)
       go (goes k st′) h = omega (arith, h k st′)
       go (halts e) h = omega arith
 
 module _ {E : Environment} where
   -- ---- one instruction
-  pub acts : {i : Instr} {st st′ : List Value} {r : Outcome} → act E i st ≡ given r st′ → length st′ < most → Gives E (i ∷ []) 0 st r st′
+  pub acts : {i : Instr} {st st′ : List Value} {r : Outcome} → act E i st ≡ pushOutcome r st′ → length st′ < maxHeight → Gives E (i ∷ []) 0 st r st′
   acts {i} {st} {st′} {r} e h = record { on = λ c. step E i c st ∙ ap (λ (x : Next). after E x c) e ∙ given-into E r c st′ h }
 
   pub jumps : {a : List Instr} {k : ℕ} {st st′ : List Value} {r : Outcome} → Gives E a k st r st′ → Gives E (Jump k ∷ a) 0 st r st′

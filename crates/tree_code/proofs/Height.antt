@@ -10,7 +10,7 @@ use Rattle.tokens.specs.declared.Token.the-variants.{Symbol}
 use Rattle.tokens.specs.Scan.{Tok}
 use Rattle.grammar.specs.Tree.{Tree}
 use Rattle.grammar.specs.Symbols.{openParen, closeParen, openIndex, closeIndex, loosest, Arguments, argument}
-use Rattle.grammar.specs.Grammar.{tok, E, number, name, index, parenthesis, call, prefixed, up, infixed, last, next, Formula}
+use Rattle.grammar.specs.Grammar.{tok, Derives, number, name, index, parenthesis, call, prefixed, up, infixed, last, next, Formula}
 use Rattle.grammar.specs.Parse.{mostOpen}
 use Rattle.grammar.specs.Theorems.{isOpener, isCloser, Shallow, opens, goes-on}
 use Rattle.tree_code.proofs.Need.{need}
@@ -60,7 +60,7 @@ unfolding need
 infix-need n (of-values o) h g = omega arith
 infix-need n (of-truths d) h g = omega arith
 
-low : {l : ℕ} {w : List Tok} {t : Tree} → E l w t → Low l w t
+low : {l : ℕ} {w : List Tok} {t : Tree} → Derives l w t → Low l w t
 unfolding need
 low d = elim d as (λ l w t d. Low l w t) (λ m w ts a. Lows m w ts) [
   | number ↦ λ o v s. (omega arith, passed refl s)

@@ -13,9 +13,9 @@ use Rattle.operators.specs.Laws.{OfKind}
 use Rattle.memory.specs.declared.Bank.{Bank}
 use Rattle.memory.specs.Environment.{Environment}
 use Rattle.grammar.specs.Tree.{Tree, literal, cell, indexed, unary, binary, logic, choice, treeKind, nowhere, wrongKind}
-use Rattle.grammar.specs.Worth.{worth}
+use Rattle.grammar.specs.Eval.{eval}
 use Rattle.verifier.specs.Safety.{Kinded}
-use Rattle.tree_code.specs.Code.{tail, codeOf}
+use Rattle.tree_code.specs.Code.{branchTail, codeOf}
 use Rattle.tree_code.proofs.Well.{well, worth-kind}
 
 pub length-literal : (p : ℕ) (v : Value) → length (codeOf (literal p v)) ≡ 1
@@ -42,11 +42,11 @@ pub length-logic : (p : ℕ) (d : Bool) (t u : Tree) → length (codeOf (logic p
 unfolding codeOf
 length-logic p d t u = simp length-append (omega arith)
 
-pub length-choice : (p : ℕ) (c t u : Tree) → length (codeOf (choice p c t u)) ≡ length (codeOf c) + length (codeOf t) + length (codeOf u) + length (tail (treeKind t) (treeKind u)) + 2
+pub length-choice : (p : ℕ) (c t u : Tree) → length (codeOf (choice p c t u)) ≡ length (codeOf c) + length (codeOf t) + length (codeOf u) + length (branchTail (treeKind t) (treeKind u)) + 2
 unfolding codeOf
 length-choice p c t u = simp length-append (omega arith)
 
-pub tail-short : (j k : Kind) → length (tail j k) ≤ 2
+pub tail-short : (j k : Kind) → length (branchTail j k) ≤ 2
 tail-short K.Int K.Int = omega arith
 tail-short K.Int K.Real = omega arith
 tail-short K.Real K.Int = omega arith
@@ -61,5 +61,5 @@ code-some (binary p o t u) = omega (arith, length-binary p o t u)
 code-some (logic p d t u) = omega (arith, length-logic p d t u)
 code-some (choice p c t u) = omega (arith, length-choice p c t u)
 
-pub worth-of-kind : (E : Environment) → Kinded E → (t : Tree) → wrongKind t ≡ nowhere → OfKind (treeKind t) (worth E t)
+pub worth-of-kind : (E : Environment) → Kinded E → (t : Tree) → wrongKind t ≡ nowhere → OfKind (treeKind t) (eval E t)
 worth-of-kind E kinded t e = worth-kind E kinded (well t e)

@@ -16,12 +16,12 @@ use Rattle.memory.specs.Environment.{Environment}
 use Rattle.machine.specs.declared.Ended.the-variants as Ended
 use Rattle.machine.specs.Machine.{exec}
 use Rattle.grammar.specs.Tree.{Tree, literal, unary, binary, logic, choice, treeKind}
-use Rattle.grammar.specs.Worth.{worth}
+use Rattle.grammar.specs.Eval.{eval}
 use Rattle.tree_code.specs.Code.{codeOf}
 
 -- a tree is worth an integer, and its code gives that integer in so many instructions, whatever the memory holds
 record Sum (t : Tree) (z : ℤ) (n : ℕ) : Type 0 where
-  value : (E : Environment) → worth E t ≡ Outcome.Done (Int z)
+  value : (E : Environment) → eval E t ≡ Outcome.Done (Int z)
   run : (E : Environment) → exec E (codeOf t) 0 [] ≡ record { end = Ended.Done (Int z); count = n }
 
 abbrev int : ℕ → ℤ → Tree
@@ -29,30 +29,30 @@ int p z = literal p (Int z)
 
 -- `2**3**2`
 g : Sum (binary 4 Power (binary 1 Power (int 0 (pos 2)) (int 3 (pos 3))) (int 6 (pos 2))) (pos 64) 5
-unfolding worth exec codeOf
+unfolding eval exec codeOf
 g = record { value = λ E. refl; run = λ E. refl }
 
 -- `-2**2`
 h : Sum (binary 2 Power (unary 0 Neg (int 1 (pos 2))) (int 4 (pos 2))) (pos 4) 4
-unfolding worth exec codeOf
+unfolding eval exec codeOf
 h = record { value = λ E. refl; run = λ E. refl }
 
 -- `6 & 2 == 2`
 i : Sum (binary 2 (Bits And) (int 0 (pos 6)) (binary 6 (Compare Eq) (int 4 (pos 2)) (int 9 (pos 2)))) (pos 0) 5
-unfolding worth exec codeOf
+unfolding eval exec codeOf
 i = record { value = λ E. refl; run = λ E. refl }
 
 -- `0xFFFFFFF8 >>> 28`
 j : Sum (binary 11 (Shift RightZero) (int 0 (negsuc 7)) (int 15 (pos 28))) (pos 15) 3
-unfolding worth exec codeOf
+unfolding eval exec codeOf
 j = record { value = λ E. refl; run = λ E. refl }
 
 -- `0 && 1/0`
 k : Sum (logic 2 false (int 0 (pos 0)) (binary 6 (Arith Div) (int 5 (pos 1)) (int 7 (pos 0)))) (pos 0) 3
-unfolding worth exec codeOf
+unfolding eval exec codeOf
 k = record { value = λ E. refl; run = λ E. refl }
 
 -- `IF(1, 5, 1/0)`
 unused-branch : Sum (choice 0 (int 3 (pos 1)) (int 6 (pos 5)) (binary 10 (Arith Div) (int 9 (pos 1)) (int 11 (pos 0)))) (pos 5) 4
-unfolding worth exec codeOf treeKind
+unfolding eval exec codeOf treeKind
 unused-branch = record { value = λ E. refl; run = λ E. refl }

@@ -7,7 +7,7 @@ use lib.ListN.{length}
 use Rattle.tokens.specs.Scan.{Tok}
 use Rattle.grammar.specs.Tree.{Tree, treeKind}
 use Rattle.grammar.specs.Symbols.{Arguments, more, argument}
-use Rattle.grammar.specs.Grammar.{E, number, name, index, parenthesis, call, prefixed, up, infixed, last, next}
+use Rattle.grammar.specs.Grammar.{Derives, number, name, index, parenthesis, call, prefixed, up, infixed, last, next}
 use Rattle.tree_code.specs.Code.{codeOf}
 use Rattle.tree_code.specs.Demand.{leastBytes}
 use Rattle.tree_code.proofs.Laws.{length-literal, length-cell, length-indexed, length-unary, length-binary, length-logic, length-choice, tail-short}
@@ -41,7 +41,7 @@ infix-size {p} {t = t} {u = u} (of-values o) = omega (arith, length-binary p o t
 infix-size {p} {t = t} {u = u} (of-truths d) = omega (arith, length-logic p d t u)
 
 -- a leaf leaves one instruction to spare, which `&&` and `||` use
-pub small : {l : ℕ} {w : List Tok} {t : Tree} → E l w t → size t + 1 ≤ 2 * leastBytes w
+pub small : {l : ℕ} {w : List Tok} {t : Tree} → Derives l w t → size t + 1 ≤ 2 * leastBytes w
 unfolding leastBytes
 small d = elim d as (λ l w t d. size t + 1 ≤ 2 * leastBytes w) (λ m w ts a. total m ts ≤ 2 * leastBytes w) [
   | number {v} {p} ↦ omega (arith, length-literal p v)

@@ -18,7 +18,7 @@ use Rattle.operators.proofs.Laws.{rule-laws}
 use Rattle.memory.specs.declared.Bank.{Bank}
 use Rattle.memory.specs.Environment.{Environment}
 use Rattle.grammar.specs.Tree.{Tree, literal, cell, indexed, unary, binary, logic, choice, treeKind, Place, nowhere, at, earlier, unless, wrongKind}
-use Rattle.grammar.specs.Worth.{then, decided, worth}
+use Rattle.grammar.specs.Eval.{then, shortCircuit, eval}
 use Rattle.verifier.specs.Safety.{Kinded}
 
 -- every operator gets kinds that it takes
@@ -70,7 +70,7 @@ bool-kind : (b : Bool) → kindOf (fromBool b) ≡ K.Int
 bool-kind true = refl
 bool-kind false = refl
 
-decided-kind : (d l : Bool) {k : Kind} {r : Outcome} → OfKind k r → OfKind K.Int (decided d l r)
+decided-kind : (d l : Bool) {k : Kind} {r : Outcome} → OfKind k r → OfKind K.Int (shortCircuit d l r)
 decided-kind d l h = cond-kind (Bool·beq l d) (done (fromBool d) (bool-kind d)) (then-kind _ h (λ v e. done (fromBool (truthRule v)) (bool-kind (truthRule v))))
 
 join-comm : (j k : Kind) → join j k ≡ join k j
@@ -83,8 +83,8 @@ branch-of : {j : Kind} (k : Kind) {r : Outcome} → OfKind j r → OfKind (join 
 branch-of k h = then-kind _ h (λ w e. done (branchRule w k) (rule-laws .branch-kind w k ∙ ap (λ (i : Kind). join i k) e))
 
 module _ (E : Environment) (kinded : Kinded E) where
-  pub worth-kind : {t : Tree} → Well t → OfKind (treeKind t) (worth E t)
-  unfolding worth treeKind
+  pub worth-kind : {t : Tree} → Well t → OfKind (treeKind t) (eval E t)
+  unfolding eval treeKind
   worth-kind (on-literal {v = v}) = done v refl
   worth-kind (on-cell {b = b} {i = i}) = kinded .cell b i
   worth-kind (on-indexed {b = b} w) = then-kind _ (worth-kind w) (λ v e. kinded .indexed b v)

@@ -22,21 +22,21 @@ pushBool true = PushInt (pos 1)
 pushBool false = PushInt (pos 0)
 
 -- after both sides of `&&` or `||`, where d decides: d if the right side's truth is d, otherwise the other
-abbrev pub settled : Bool → List Instr
-settled d = JumpIf d 2 ∷ pushBool (not d) ∷ Jump 1 ∷ pushBool d ∷ []
+abbrev pub truthTail : Bool → List Instr
+truthTail d = JumpIf d 2 ∷ pushBool (not d) ∷ Jump 1 ∷ pushBool d ∷ []
 
 -- after the branches of IF, of the kinds given: what promotes an integer branch, and how many instructions the first branch skips of it
-abbrev pub tail : Kind → Kind → List Instr
-tail K.Int K.Int = []
-tail K.Int K.Real = Jump 1 ∷ Unary ToReal ∷ []
-tail K.Real K.Int = Unary ToReal ∷ []
-tail K.Real K.Real = []
+abbrev pub branchTail : Kind → Kind → List Instr
+branchTail K.Int K.Int = []
+branchTail K.Int K.Real = Jump 1 ∷ Unary ToReal ∷ []
+branchTail K.Real K.Int = Unary ToReal ∷ []
+branchTail K.Real K.Real = []
 
-abbrev pub over : Kind → Kind → ℕ
-over K.Int K.Int = 0
-over K.Int K.Real = 1
-over K.Real K.Int = 1
-over K.Real K.Real = 0
+abbrev pub branchTailSkip : Kind → Kind → ℕ
+branchTailSkip K.Int K.Int = 0
+branchTailSkip K.Int K.Real = 1
+branchTailSkip K.Real K.Int = 1
+branchTailSkip K.Real K.Real = 0
 
 unfoldable pub codeOf : Tree → List Instr
 unfolding treeKind
@@ -45,6 +45,6 @@ codeOf (cell b i) = Load b i ∷ []
 codeOf (indexed b t) = codeOf t ++ LoadIndexed b ∷ []
 codeOf (unary p o t) = codeOf t ++ Unary o ∷ []
 codeOf (binary p o t u) = codeOf t ++ (codeOf u ++ Binary o ∷ [])
-codeOf (logic p d t u) = codeOf t ++ JumpIf d (length (codeOf u) + 3) ∷ (codeOf u ++ settled d)
+codeOf (logic p d t u) = codeOf t ++ JumpIf d (length (codeOf u) + 3) ∷ (codeOf u ++ truthTail d)
 codeOf (choice p c t u) =
-    codeOf c ++ JumpIf false (length (codeOf t) + 1) ∷ (codeOf t ++ Jump (length (codeOf u) + over (treeKind t) (treeKind u)) ∷ (codeOf u ++ tail (treeKind t) (treeKind u)))
+    codeOf c ++ JumpIf false (length (codeOf t) + 1) ∷ (codeOf t ++ Jump (length (codeOf u) + branchTailSkip (treeKind t) (treeKind u)) ∷ (codeOf u ++ branchTail (treeKind t) (treeKind u)))

@@ -4,8 +4,6 @@ use mathlib.Core.Path.{_≡_}
 use mathlib.Core.List.{List, [], _∷_}
 use Prim.Native.Nat.{ℕ, _+_, _*_, _≤_, _<_}
 use lib.ListN.{length}
-use Rattle.values.specs.declared.Outcome.{Outcome}
-use Rattle.values.specs.declared.Outcome.the-variants as Outcome
 use Rattle.operators.specs.Laws.{OfKind}
 use Rattle.memory.specs.Environment.{Environment}
 use Rattle.tokens.specs.declared.Token.{Token}
@@ -14,22 +12,14 @@ use Rattle.tokens.specs.Symbols.{symbolBytes}
 use Rattle.tokens.specs.Words.{nameOf}
 use Rattle.tokens.specs.Scan.{Tok}
 use Rattle.grammar.specs.Tree.{Tree, Place, nowhere, treeKind, wrongKind}
-use Rattle.grammar.specs.Worth.{worth}
+use Rattle.grammar.specs.Eval.{eval}
 use Rattle.grammar.specs.Grammar.{Formula}
 use Rattle.grammar.specs.Theorems.{Shallow}
-use Rattle.machine.specs.declared.Ended.{Ended}
-use Rattle.machine.specs.declared.Ended.the-variants.{Done, Stopped, Stuck}
-use Rattle.machine.specs.Machine.{exec}
+use Rattle.machine.specs.Machine.{endOf, exec}
 use Rattle.verifier.specs.Accepts.{Accepts}
 use Rattle.verifier.specs.Stack.{StackSafe}
 use Rattle.verifier.specs.Safety.{Kinded}
 use Rattle.tree_code.specs.Code.{codeOf}
-
--- how a run ends that is worth an outcome
-abbrev pub endOf : Outcome → Ended
-endOf (Outcome.Done v) = Done v
-endOf (Outcome.Stopped f) = Stopped f
-endOf Outcome.WrongKind = Stuck
 
 -- the bytes that a token takes at the least; blanks only add to them
 abbrev pub bytesOfToken : Token → ℕ
@@ -45,9 +35,9 @@ leastBytes (x ∷ xs) = bytesOfToken (x .token) + leastBytes xs
 
 pub record Compiled (t : Tree) (n : ℕ) : Type 0 where
   -- the rules give a value of the formula's kind, or a fault
-  pub kind : (E : Environment) → Kinded E → OfKind (treeKind t) (worth E t)
+  pub kind : (E : Environment) → Kinded E → OfKind (treeKind t) (eval E t)
   -- the code gives the same value, kind and bits, or the same fault
-  pub same : (E : Environment) → Kinded E → exec E (codeOf t) 0 [] .end ≡ endOf (worth E t)
+  pub same : (E : Environment) → Kinded E → exec E (codeOf t) 0 [] .end ≡ endOf (eval E t)
   pub accepted : Accepts (codeOf t) (treeKind t)
   -- "never holds more than 128 values", and is never short of one
   pub stack : (E : Environment) → Kinded E → StackSafe E (codeOf t) (treeKind t)

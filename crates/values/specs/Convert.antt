@@ -6,7 +6,7 @@ use lib.IntN.{ℤ}
 use lib.Ieee as Ieee
 use lib.Ieee.{Float, binary32}
 use lib.Ieee.Scale.{finite}
-use Rattle.reals.specs.Singles.{negative, units, signed}
+use Rattle.reals.specs.Singles.{negative, unitCount, signed}
 use Rattle.values.specs.declared.Cut.{Cut}
 use Rattle.values.specs.declared.Cut.the-variants.{Whole, Outside}
 use Rattle.values.specs.Integers.{inRange}
@@ -20,7 +20,7 @@ cut z = cond (inRange z) (Whole z) Outside
 
 -- a finite single to an integer with its sign, of the size that f makes of its size; an infinity or a NaN has none
 abbrev pub cutBy : (ℕ → ℕ) → Float → Cut
-cutBy f x = cond (finite x) (cut (signed (negative x) (f (units x)))) Outside
+cutBy f x = cond (finite x) (cut (signed (negative x) (f (unitCount x)))) Outside
 
 -- toward zero: 2 ^ 149 units are 1
 abbrev pub truncated : Float → Cut

@@ -29,9 +29,9 @@ abbrev pub digit : ℕ → ℕ → ℕ
 digit n i = n / 2 ^ i % 2
 
 -- the number whose digits below place k are given
-abbrev pub number : ℕ → (ℕ → ℕ) → ℕ
-number zero d = 0
-number (suc k) d = number k d + d k * 2 ^ k
+abbrev pub fromDigits : ℕ → (ℕ → ℕ) → ℕ
+fromDigits zero d = 0
+fromDigits (suc k) d = fromDigits k d + d k * 2 ^ k
 
 -- one digit of the result from one of each operand
 abbrev pub digitOf : BitOp → ℕ → ℕ → ℕ
@@ -40,10 +40,10 @@ digitOf Or a b = max a b
 digitOf Xor a b = (a + b) % 2
 
 abbrev pub bitwiseInt : BitOp → ℤ → ℤ → ℤ
-bitwiseInt o a b = signedOf 32 (number 32 (λ i. digitOf o (digit (lowBits 32 a) i) (digit (lowBits 32 b) i)))
+bitwiseInt o a b = signedOf 32 (fromDigits 32 (λ i. digitOf o (digit (lowBits 32 a) i) (digit (lowBits 32 b) i)))
 
 abbrev pub complementInt : ℤ → ℤ
-complementInt a = signedOf 32 (number 32 (λ i. 1 - digit (lowBits 32 a) i))
+complementInt a = signedOf 32 (fromDigits 32 (λ i. 1 - digit (lowBits 32 a) i))
 
 -- `shrZ z m` is z / m, rounded down, which is what a shift that copies the sign gives
 abbrev pub shifted : ShiftOp → ℤ → ℕ → ℤ

@@ -13,8 +13,8 @@ use lib.Seq.{getD-set-same, getD-set-other}
 use borrow.Author.Tests.{eqb-true, eqb-false}
 use Rattle.verifier.specs.declared.packing.Held.{Held}
 use Rattle.verifier.specs.Typing.{Shape}
-use Rattle.verifier.specs.Shapes.{numberKind, kindNumber, heldKinds, bitKinds, word, kindsOf, Neat, Pushed, Popped}
-use Rattle.verifier.specs.Pass.{Agrees}
+use Rattle.verifier.specs.private.Shapes.{numberKind, kindNumber, heldKinds, bitKinds, word, kindsOf, Canonical, Pushed, Popped}
+use Rattle.verifier.specs.private.Pass.{Agrees}
 
 -- two words halved still fit
 pub halves-fit : (low high : ℕ) → low < 2 ^ 64 → high % 2 * 9223372036854775808 + low / 2 < 2 ^ 64
@@ -30,12 +30,12 @@ bits-length (suc h) w = ap suc (bits-length h (w / 2))
 -- ---- a push
 
 -- the high word has room for one more bit
-pub room-high : {w : Held} → Neat w → w .height < 128 → w .high < 2 ^ 63
+pub room-high : {w : Held} → Canonical w → w .height < 128 → w .high < 2 ^ 63
 room-high {w} p l = lt-of-not-le (λ (g : 2 ^ 63 ≤ w .high). not-le-of-lt (lt-of-lt-of-le (p .few) (pow-mono {i = w .height} {j = 127} (omega arith)))
     (le-trans (mul-le-mul-right (2 ^ 64) g) (le-add-right (w .high * 2 ^ 64) (w .low))))
 
 module _ {n : ℕ} {w r : Held} (bit : n < 2) (p : Pushed n w r) where
-  pub neat-pushed : Neat w → w .height < 128 → Neat r
+  pub neat-pushed : Canonical w → w .height < 128 → Canonical r
   neat-pushed k l = record {
     low = omega (arith, p .height);
     few = rw (p .height, p .bits, add-one (w .height), pow-succ' 2 (w .height)) (omega (arith, k .few));
@@ -53,7 +53,7 @@ module _ {w r : Held} (some : 0 < w .height) (p : Popped w r) where
   above : w .height ≡ suc (r .height)
   above = omega (arith, p .height)
 
-  pub neat-popped : Neat w → Neat r
+  pub neat-popped : Canonical w → Canonical r
   neat-popped k =
       let f : word w < 2 ^ suc (r .height) = subst (λ h. word w < 2 ^ h) above (k .few) in
       record { low = omega (arith, p .height, k .low); few = rw (p .bits) (omega (arith, rw (pow-succ' 2 (r .height)) at f)) }
@@ -89,7 +89,7 @@ module _ (a c : Held) where
   pub heights-same : kindsOf a ≡ kindsOf c → a .height ≡ c .height
   heights-same e = sym (bits-length (a .height) (word a)) ∙ ap length e ∙ bits-length (c .height) (word c)
 
-  module _ (p : Neat a) (q : Neat c) where
+  module _ (p : Canonical a) (q : Canonical c) where
     words-same : kindsOf a ≡ kindsOf c → word a ≡ word c
     words-same e =
         let h : a .height ≡ c .height = heights-same e in

@@ -16,10 +16,10 @@ use Rattle.code.proofs.Parts.{decode-length, decode-at, decode-beyond}
 use Rattle.verifier.specs.declared.packing.Held.{Held}
 use Rattle.verifier.specs.declared.Verdict.{Verdict}
 use Rattle.verifier.specs.declared.Verdict.the-variants.{Accepted, Refused}
-use Rattle.verifier.specs.Typing.{Shape, stands}
+use Rattle.verifier.specs.Typing.{Shape, wellFormed}
 use Rattle.verifier.specs.Accepts.{instrAt, Accepts, Right}
-use Rattle.verifier.specs.Shapes.{State, rejected, unreached, holds, instrBy, kindsOf, none, Keeps, tableOf, Table, Blank}
-use Rattle.verifier.specs.Pass.{verdictOf, Joins, takes, Steps, Skips}
+use Rattle.verifier.specs.private.Shapes.{State, rejected, unreached, holds, instrBy, kindsOf, none, ArrayHolds, tableOf, Table, Blank}
+use Rattle.verifier.specs.private.Pass.{verdictOf, Joins, takes, Steps, Skips}
 use Rattle.verifier.proofs.Pass.{unheld, unfailed, unarrived, Comes, Knows, Or, passes, refusal, passage, begins, joined, verdict-sound, verdict-complete}
 use Rattle.verifier.proofs.Onward.{stepped, passed}
 use Rattle.verifier.proofs.Held.{keeps-none}
@@ -33,7 +33,7 @@ zeros (suc m) (suc q) = zeros m q
 pub blank : (m n : ℕ) → n < m → Blank n (replicate m 0) (replicate m 0) (replicate m 0)
 blank m n l = record {
   room = omega (arith, length-replicate {A = ℕ} m 0);
-  table = record { tops-size = refl; lows-size = refl; highs-size = refl; neat = λ q. rw (zeros m q) (record { low = omega arith; few = omega arith }) };
+  table = record { tops-size = refl; lows-size = refl; highs-size = refl; canonical = λ q. rw (zeros m q) (record { low = omega arith; few = omega arith }) };
   empty = zeros m;
 }
 
@@ -51,7 +51,7 @@ module _ (code : List ℕ) (n : ℕ) where
       no k e = let z : _≡_ {A = ℕ} 0 1 = cc in omega arith
 
   -- an instruction that does not stand
-  pub unknown : {p : ℕ} → p < n → stands (n - suc p) (decodeAt code p) ≡ false → Right code n Refused
+  pub unknown : {p : ℕ} → p < n → wellFormed (n - suc p) (decodeAt code p) ≡ false → Right code n Refused
   unknown {p} l e = refused (λ k a. true≢false (sym (a .each p (omega (arith, size))) ∙ rw (size, at l) e))
 
   -- ---- the number of instructions
@@ -76,7 +76,7 @@ module _ (code : List ℕ) (n : ℕ) where
   -- at the place p: what is reached there, which is held
   pub record Passing (m p : ℕ) (kinds tops lows highs : List ℕ) (held : Held) : Type 0 where
     pub within : p ≤ n
-    pub keeps : Keeps kinds held
+    pub keeps : ArrayHolds kinds held
     pub table : Table m tops lows highs
     pub knows : Knows (instructions code n) p (tableOf tops lows highs) (holds (kindsOf held))
 
@@ -134,7 +134,7 @@ module _ (code : List ℕ) (n : ℕ) where
     over zero l = rw (add-zero p) (passage (subst (Or (instructions code n) (Comes (instructions code n) p brought)) e w) unarrived)
     over (suc m) l =
         let q : p + m < n = omega (arith, k .way .within) in
-        let known : stands (length (instructions code n) - suc (p + m)) (instrAt (instructions code n) (p + m)) ≡ true = rw (size, at q) (k .way .each (p + m) (omega arith) (omega arith)) in
+        let known : wellFormed (length (instructions code n) - suc (p + m)) (instrAt (instructions code n) (p + m)) ≡ true = rw (size, at q) (k .way .each (p + m) (omega arith) (omega arith)) in
         rw (add-suc p m) (passed (instructions code n) (p + m) brought known (none (p + m) (k .way .none (p + m) (omega arith) (omega arith))) (over m (omega arith)))
 
     skipped : Comes (instructions code n) r brought unreached

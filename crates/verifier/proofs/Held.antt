@@ -14,20 +14,20 @@ use Rattle.code.specs.declared.Instr.{Instr}
 use Rattle.code.specs.Instructions.{indexedOf, unaryInstr, binaryInstr, instruction}
 use Rattle.verifier.specs.declared.packing.Held.{Held}
 use Rattle.verifier.specs.declared.typing.Flow.{Flow}
-use Rattle.verifier.specs.Typing.{Move, refused, moveOf}
-use Rattle.verifier.specs.Shapes.{
+use Rattle.verifier.specs.Typing.{Move, illTyped, moveOf}
+use Rattle.verifier.specs.private.Shapes.{
   numberKind,
   leaving,
-  pushed,
-  Turns,
-  Pairs,
+  pushNumber,
+  ReplacesKind,
+  ReplacesTwo,
   heldKinds,
   bitKinds,
   word,
   kindsOf,
   none,
-  Neat,
-  Keeps,
+  Canonical,
+  ArrayHolds,
   Pushed,
   Popped,
   Replaced,
@@ -49,8 +49,8 @@ real-number {n} e = rw (ne-eqb n 0 e)
 
 -- ---- the kinds kept
 
-pub keeps-none : {a : List ℕ} → length a ≡ 128 → Keeps a none
-keeps-none e = record { whole = e; neat = record { low = omega arith; few = omega arith }; is = refl }
+pub keeps-none : {a : List ℕ} → length a ≡ 128 → ArrayHolds a none
+keeps-none e = record { whole = e; canonical = record { low = omega arith; few = omega arith }; is = refl }
 
 -- a store at the height or above changes none that is held
 held-set : (a : List ℕ) (h i v : ℕ) → h ≤ i → heldKinds (set a i v) h ≡ heldKinds a h
@@ -60,23 +60,23 @@ held-set a (suc h) i v l =
     rw (getD-set-other a i h v 0 n, held-set a h i v (omega arith))
 
 -- the same kinds
-pub keeps-same : {a : List ℕ} {w r : Held} → Keeps a w → Neat r → kindsOf w ≡ kindsOf r → Keeps a r
-keeps-same {a} {w} {r} k n e = record { whole = k .whole; neat = n; is = ap (heldKinds a) (sym (heights-same w r e)) ∙ k .is ∙ e }
+pub keeps-same : {a : List ℕ} {w r : Held} → ArrayHolds a w → Canonical r → kindsOf w ≡ kindsOf r → ArrayHolds a r
+keeps-same {a} {w} {r} k n e = record { whole = k .whole; canonical = n; is = ap (heldKinds a) (sym (heights-same w r e)) ∙ k .is ∙ e }
 
-module _ {a : List ℕ} {w : Held} (k : Keeps a w) where
+module _ {a : List ℕ} {w : Held} (k : ArrayHolds a w) where
   -- one more
-  keeps-pushed : {r : Held} {n : ℕ} → n < 2 → w .height < 128 → Pushed n w r → Keeps (set a (w .height) n) r
+  keeps-pushed : {r : Held} {n : ℕ} → n < 2 → w .height < 128 → Pushed n w r → ArrayHolds (set a (w .height) n) r
   keeps-pushed {r} {n} b l p = record {
     whole = length-set a (w .height) n ∙ k .whole;
-    neat = neat-pushed b p (k .neat) l;
+    canonical = neat-pushed b p (k .canonical) l;
     is = rw (kinds-pushed b p, p .height, add-one (w .height), getD-set-same a (w .height) n 0 (omega (arith, k .whole)), held-set a (w .height) (w .height) n (omega arith), k .is);
   }
 
   -- one fewer
-  pub keeps-popped : {r : Held} → 0 < w .height → Popped w r → Keeps a r
+  pub keeps-popped : {r : Held} → 0 < w .height → Popped w r → ArrayHolds a r
   keeps-popped {r} l p = record {
     whole = k .whole;
-    neat = neat-popped l p (k .neat);
+    canonical = neat-popped l p (k .canonical);
     is = apart a (w .height) (r .height) (word w) (omega (arith, p .height)) (k .is) .1 ∙ ap (bitKinds (r .height)) (sym (p .bits));
   }
 
@@ -88,14 +88,14 @@ module _ {a : List ℕ} {w : Held} (k : Keeps a w) where
 
 -- ---- a push, and a value in the place of the last
 
-module _ {a : List ℕ} {w : Held} {n : ℕ} (k : Keeps a w) where
-  pub pushes : {r : Held} → n < 2 → w .height < 128 → Pushed n w r → Leaves (set a (w .height) n) (record { reach = 2; held = r }) (pushed n (kindsOf w))
+module _ {a : List ℕ} {w : Held} {n : ℕ} (k : ArrayHolds a w) where
+  pub pushes : {r : Held} → n < 2 → w .height < 128 → Pushed n w r → Leaves (set a (w .height) n) (record { reach = 2; held = r }) (pushNumber n (kindsOf w))
   pushes b l p = rw (lt-ltb n 2 b, bits-length (w .height) (word w), lt-ltb (w .height) 128 l, ← kinds-pushed b p) (goes refl (keeps-pushed k b l p))
 
-  pub full : n < 2 → 128 ≤ w .height → Leaves a (record { reach = 0; held = w }) (pushed n (kindsOf w))
+  pub full : n < 2 → 128 ≤ w .height → Leaves a (record { reach = 0; held = w }) (pushNumber n (kindsOf w))
   full b l = rw (lt-ltb n 2 b, bits-length (w .height) (word w), le-ltb (w .height) 128 l) (stops refl k)
 
-  pub unpushed : 2 ≤ n → Leaves a (record { reach = 0; held = w }) (pushed n (kindsOf w))
+  pub unpushed : 2 ≤ n → Leaves a (record { reach = 0; held = w }) (pushNumber n (kindsOf w))
   unpushed b = rw (le-ltb n 2 b) (stops refl k)
 
   pub unplaced : 2 ≤ n → Leaves a (record { reach = 0; held = w }) (leaving n (below w))
@@ -109,21 +109,21 @@ module _ {a : List ℕ} {w : Held} {n : ℕ} (k : Keeps a w) where
       let q : Popped w v = record { height = refl; bits = z } in
       let u : Pushed n v r = record { height = omega (arith, p .height); bits = p .bits ∙ ap (λ x. n + 2 * x) (sym z) } in
       let e : numberKind n ∷ below w ≡ kindsOf r = ap (λ x. numberKind n ∷ bitKinds (w .height - 1) x) (sym z) ∙ sym (kinds-pushed b u) in
-      rw (lt-ltb n 2 b, e) (goes refl (keeps-pushed (keeps-popped k l q) b (omega (arith, k .neat .low)) u))
+      rw (lt-ltb n 2 b, e) (goes refl (keeps-pushed (keeps-popped k l q) b (omega (arith, k .canonical .low)) u))
 
 -- ---- one value is taken, or two
 
-pub short : {a : List ℕ} {w : Held} {m : Move} → Keeps a w → m ≡ refused → Leaves a (record { reach = 0; held = w }) m
+pub short : {a : List ℕ} {w : Held} {m : Move} → ArrayHolds a w → m ≡ illTyped → Leaves a (record { reach = 0; held = w }) m
 short k e = rw e (stops refl k)
 
 likewise : {a : List ℕ} {f : Flow} {m m′ : Move} → m ≡ m′ → Leaves a f m′ → Leaves a f m
 likewise {a} {f} e = subst (Leaves a f) (sym e)
 
-module _ {a : List ℕ} {w : Held} (k : Keeps a w) {i : Instr} {n : ℕ} {b : List ℕ} {f : Flow} where
-  pub taken-one : 0 < w .height → Turns i (getD a (w .height - 1) 0) n → Leaves b f (leaving n (below w)) → Leaves b f (moveOf i (kindsOf w))
+module _ {a : List ℕ} {w : Held} (k : ArrayHolds a w) {i : Instr} {n : ℕ} {b : List ℕ} {f : Flow} where
+  pub taken-one : 0 < w .height → ReplacesKind i (getD a (w .height - 1) 0) n → Leaves b f (leaving n (below w)) → Leaves b f (moveOf i (kindsOf w))
   taken-one l t = likewise (ap (moveOf i) (last k l) ∙ t .is (below w))
 
-  pub taken-two : {v : Held} → 1 < w .height → Popped w v → Pairs i (getD a (w .height - 2) 0) (getD a (w .height - 1) 0) n → Leaves b f (leaving n (below v))
+  pub taken-two : {v : Held} → 1 < w .height → Popped w v → ReplacesTwo i (getD a (w .height - 2) 0) (getD a (w .height - 1) 0) n → Leaves b f (leaving n (below v))
       → Leaves b f (moveOf i (kindsOf w))
   taken-two {v} l p t = likewise (ap (moveOf i) all ∙ t .is (below v))
     where
@@ -136,24 +136,24 @@ module _ {a : List ℕ} {w : Held} (k : Keeps a w) {i : Instr} {n : ℕ} {b : Li
 -- short of a value
 
 module _ (w : Held) (a d : ℕ) where
-  pub indexed-short : w .height < 1 → moveOf (instruction 4 a d) (kindsOf w) ≡ refused
+  pub indexed-short : w .height < 1 → moveOf (instruction 4 a d) (kindsOf w) ≡ illTyped
   unfolding moveOf instruction
   indexed-short l =
       let e : w .height ≡ 0 = omega arith in
-      rw e (under (λ i. moveOf i [] ≡ refused) (eqb d 0) (under (λ o. moveOf (indexedOf o) [] ≡ refused) (ltb a 6) refl refl) refl)
+      rw e (under (λ i. moveOf i [] ≡ illTyped) (eqb d 0) (under (λ o. moveOf (indexedOf o) [] ≡ illTyped) (ltb a 6) refl refl) refl)
 
-  pub unary-short : w .height < 1 → moveOf (instruction 5 a d) (kindsOf w) ≡ refused
+  pub unary-short : w .height < 1 → moveOf (instruction 5 a d) (kindsOf w) ≡ illTyped
   unfolding moveOf instruction
   unary-short l =
       let e : w .height ≡ 0 = omega arith in
-      rw e (under (λ i. moveOf i [] ≡ refused) (eqb d 0) (under (λ o. moveOf (unaryInstr o) [] ≡ refused) (ltb a 8) refl refl) refl)
+      rw e (under (λ i. moveOf i [] ≡ illTyped) (eqb d 0) (under (λ o. moveOf (unaryInstr o) [] ≡ illTyped) (ltb a 8) refl refl) refl)
 
-  pub binary-short : w .height < 2 → moveOf (instruction 6 a d) (kindsOf w) ≡ refused
+  pub binary-short : w .height < 2 → moveOf (instruction 6 a d) (kindsOf w) ≡ illTyped
   unfolding moveOf instruction
   binary-short l = go (w .height) (word w) l
     where
-      go : (h v : ℕ) → h < 2 → moveOf (instruction 6 a d) (bitKinds h v) ≡ refused
-      go zero v l = under (λ i. moveOf i [] ≡ refused) (eqb d 0) (under (λ o. moveOf (binaryInstr o) [] ≡ refused) (ltb a 20) refl refl) refl
+      go : (h v : ℕ) → h < 2 → moveOf (instruction 6 a d) (bitKinds h v) ≡ illTyped
+      go zero v l = under (λ i. moveOf i [] ≡ illTyped) (eqb d 0) (under (λ o. moveOf (binaryInstr o) [] ≡ illTyped) (ltb a 20) refl refl) refl
       go (suc zero) v l =
-          under (λ i. moveOf i (numberKind (v % 2) ∷ []) ≡ refused) (eqb d 0) (under (λ o. moveOf (binaryInstr o) (numberKind (v % 2) ∷ []) ≡ refused) (ltb a 20) refl refl) refl
+          under (λ i. moveOf i (numberKind (v % 2) ∷ []) ≡ illTyped) (eqb d 0) (under (λ o. moveOf (binaryInstr o) (numberKind (v % 2) ∷ []) ≡ illTyped) (ltb a 20) refl refl) refl
       go (suc (suc h)) v l = absurd (omega arith)

@@ -10,8 +10,8 @@ use lib.ListN.{length, getD, set, length-set}
 use lib.Seq.{getD-set-same, getD-set-other}
 use Rattle.verifier.specs.declared.packing.Held.{Held}
 use Rattle.verifier.specs.Typing.{Shape}
-use Rattle.verifier.specs.Shapes.{State, rejected, unreached, holds, kindsOf, Neat, entryOf, heldAt, tableOf, Table}
-use Rattle.verifier.specs.Pass.{Agrees, Joins, alone, agrees, differs, Merges, adds, has, clashes}
+use Rattle.verifier.specs.private.Shapes.{State, rejected, unreached, holds, kindsOf, Canonical, stateEntry, heldAt, tableOf, Table}
+use Rattle.verifier.specs.private.Pass.{Agrees, Joins, alone, agrees, differs, Merges, adds, has, clashes}
 use Rattle.verifier.proofs.Moves.{compare}
 
 pub resized : {m n : ℕ} {tops lows highs : List ℕ} → m ≡ n → Table m tops lows highs → Table n tops lows highs
@@ -21,7 +21,7 @@ resized {tops = tops} {lows} {highs} e = subst (λ m. Table m tops lows highs) e
 pub sized : {m : ℕ} {tops lows highs : List ℕ} → Table m tops lows highs → Table (length tops) tops lows highs
 sized t = resized (sym (t .tops-size)) t
 
-entry-some : (g : ℕ) (w : Held) → (g ≡ 0 → ⊥) → holds (kindsOf w) ≡ entryOf g w
+entry-some : (g : ℕ) (w : Held) → (g ≡ 0 → ⊥) → holds (kindsOf w) ≡ stateEntry g w
 entry-some zero w n = absurd (n refl)
 entry-some (suc g) w n = refl
 
@@ -29,8 +29,8 @@ module _ {m : ℕ} {tops lows highs : List ℕ} (table : Table m tops lows highs
   empty : getD tops t 0 ≡ 0 → tableOf tops lows highs t ≡ unreached
   empty e = rw e
 
-  pub brought-some : 0 < getD tops t 0 → Neat (heldAt tops lows highs t) × (holds (kindsOf (heldAt tops lows highs t)) ≡ tableOf tops lows highs t)
-  brought-some l = (table .neat t, entry-some (getD tops t 0) (heldAt tops lows highs t) (λ e. omega arith))
+  pub brought-some : 0 < getD tops t 0 → Canonical (heldAt tops lows highs t) × (holds (kindsOf (heldAt tops lows highs t)) ≡ tableOf tops lows highs t)
+  brought-some l = (table .canonical t, entry-some (getD tops t 0) (heldAt tops lows highs t) (λ e. omega arith))
 
   pub agrees-none : (s : Shape) → getD tops t 0 ≡ 0 → Joins (holds s) (tableOf tops lows highs t) (holds s)
   agrees-none s e = rw (empty e) alone
@@ -49,12 +49,12 @@ module _ {m : ℕ} {tops lows highs : List ℕ} (table : Table m tops lows highs
     beside : (q : ℕ) → (q ≡ t → ⊥) → heldAt (set tops t (h .height + 1)) (set lows t (h .low)) (set highs t (h .high)) q ≡ heldAt tops lows highs q
     beside q n = rw (getD-set-other tops t q (h .height + 1) 0 n, getD-set-other lows t q (h .low) 0 n, getD-set-other highs t q (h .high) 0 n)
 
-    pub stored : Neat h → Table m (set tops t (h .height + 1)) (set lows t (h .low)) (set highs t (h .high))
+    pub stored : Canonical h → Table m (set tops t (h .height + 1)) (set lows t (h .low)) (set highs t (h .high))
     stored k = record {
       tops-size = length-set tops t (h .height + 1) ∙ table .tops-size;
       lows-size = length-set lows t (h .low) ∙ table .lows-size;
       highs-size = length-set highs t (h .high) ∙ table .highs-size;
-      neat = λ q. compare q t (λ e. rw (e, written) k) (λ n. rw (beside q n) (table .neat q));
+      canonical = λ q. compare q t (λ e. rw (e, written) k) (λ n. rw (beside q n) (table .canonical q));
     }
 
     pub merge-adds : getD tops t 0 ≡ 0

@@ -12,9 +12,9 @@ use Rattle.values.specs.declared.Kind.{Kind}
 use Rattle.operators.specs.Kinds.{unaryTakes, binaryTakes}
 use Rattle.code.specs.declared.Instr.{Instr}
 use Rattle.code.specs.declared.Instr.the-variants.{PushInt, PushReal, Load, LoadIndexed, Unary, Binary, Jump, JumpIf, Unknown}
-use Rattle.machine.specs.Machine.{most}
-use Rattle.verifier.specs.Typing.{Shape, Move, refused, next, leap, fork, hasRoom, pushing, moveOf, stands}
-use Rattle.verifier.specs.Accepts.{Leads, on, over, stay, away, instrAt}
+use Rattle.machine.specs.Machine.{maxHeight}
+use Rattle.verifier.specs.Typing.{Shape, Move, illTyped, next, jump, fork, hasRoom, pushKind, moveOf, wellFormed}
+use Rattle.verifier.specs.Accepts.{MovesTo, next-place, jump-target, not-taken, taken, instrAt}
 
 -- what holds of both sides of a test
 pub under : {A : Type 0} (P : A → Type 0) (b : Bool) {x y : A} → P x → P y → P (cond b x y)
@@ -44,47 +44,47 @@ upto X p f x q l = compare q p (λ e. subst X (sym e) x) (λ n. f q (omega arith
 
 -- ---- a test that lets a move through
 
-pub allowed : (b : Bool) (s : Shape) → (cond b (next s) refused ≡ refused → ⊥) → T b
+pub allowed : (b : Bool) (s : Shape) → (cond b (next s) illTyped ≡ illTyped → ⊥) → T b
 allowed true s n = tt
 allowed false s n = absurd (n refl)
 
-pub has-room : (k : Kind) (s : Shape) → (pushing k s ≡ refused → ⊥) → length s < most
+pub has-room : (k : Kind) (s : Shape) → (pushKind k s ≡ illTyped → ⊥) → length s < maxHeight
 has-room k s n =
     let t = allowed (hasRoom s) (k ∷ s) n in
     omega (arith, leb→le)
 
 -- ---- a move
 
-pub able : {p q : ℕ} {m : Move} {r : Shape} → Leads p m q r → m ≡ refused → ⊥
-able on e = let z : _≡_ {A = ℕ} 0 1 = cc in omega arith
-able over e = let z : _≡_ {A = ℕ} 0 1 = cc in omega arith
-able stay e = let z : _≡_ {A = ℕ} 0 1 = cc in omega arith
-able away e = let z : _≡_ {A = ℕ} 0 1 = cc in omega arith
+pub able : {p q : ℕ} {m : Move} {r : Shape} → MovesTo p m q r → m ≡ illTyped → ⊥
+able next-place e = let z : _≡_ {A = ℕ} 0 1 = cc in omega arith
+able jump-target e = let z : _≡_ {A = ℕ} 0 1 = cc in omega arith
+able not-taken e = let z : _≡_ {A = ℕ} 0 1 = cc in omega arith
+able taken e = let z : _≡_ {A = ℕ} 0 1 = cc in omega arith
 
-pub forward : {p q : ℕ} {m : Move} {r : Shape} → Leads p m q r → p < q
-forward on = omega arith
-forward over = omega arith
-forward stay = omega arith
-forward away = omega arith
+pub forward : {p q : ℕ} {m : Move} {r : Shape} → MovesTo p m q r → p < q
+forward next-place = omega arith
+forward jump-target = omega arith
+forward not-taken = omega arith
+forward taken = omega arith
 
 -- how many instructions a move can skip
 abbrev pub span : Move → ℕ
-span refused = 0
+span illTyped = 0
 span (next r) = 0
-span (leap d r) = d
+span (jump d r) = d
 span (fork d r) = d
 
-pub reach : {p q : ℕ} {m : Move} {r : Shape} → Leads p m q r → q ≤ suc p + span m
-reach on = omega arith
-reach over = omega arith
-reach stay = omega arith
-reach away = omega arith
+pub reach : {p q : ℕ} {m : Move} {r : Shape} → MovesTo p m q r → q ≤ suc p + span m
+reach next-place = omega arith
+reach jump-target = omega arith
+reach not-taken = omega arith
+reach taken = omega arith
 
-flat : (b : Bool) (r : Shape) (k : ℕ) → span (cond b (next r) refused) ≤ k
+flat : (b : Bool) (r : Shape) (k : ℕ) → span (cond b (next r) illTyped) ≤ k
 flat true r k = omega arith
 flat false r k = omega arith
 
-pub spanned : (i : Instr) (s : Shape) (k : ℕ) → stands k i ≡ true → span (moveOf i s) ≤ k
+pub spanned : (i : Instr) (s : Shape) (k : ℕ) → wellFormed k i ≡ true → span (moveOf i s) ≤ k
 unfolding moveOf
 spanned (PushInt z) s k e = flat (hasRoom s) _ k
 spanned (PushReal x) s k e = flat (hasRoom s) _ k
@@ -102,7 +102,7 @@ spanned (JumpIf t d) (x ∷ s) k e = leb-true d k e
 spanned Unknown s k e = omega arith
 
 -- an instruction that goes on to the next is known
-pub goes-known : (i : Instr) (s : Shape) {r : Shape} (k : ℕ) → moveOf i s ≡ next r → stands k i ≡ true
+pub goes-known : (i : Instr) (s : Shape) {r : Shape} (k : ℕ) → moveOf i s ≡ next r → wellFormed k i ≡ true
 unfolding moveOf
 goes-known (PushInt z) s k e = refl
 goes-known (PushReal x) s k e = refl
@@ -115,7 +115,7 @@ goes-known (JumpIf t d) [] k e = let z : _≡_ {A = ℕ} 0 1 = cc in absurd (ome
 goes-known (JumpIf t d) (x ∷ s) k e = let z : _≡_ {A = ℕ} 0 1 = cc in absurd (omega arith)
 goes-known Unknown s k e = let z : _≡_ {A = ℕ} 0 1 = cc in absurd (omega arith)
 
-pub within : (i : Instr) (s : Shape) {n p q : ℕ} {r : Shape} → p < n → stands (n - suc p) i ≡ true → Leads p (moveOf i s) q r → q ≤ n
+pub within : (i : Instr) (s : Shape) {n p q : ℕ} {r : Shape} → p < n → wellFormed (n - suc p) i ≡ true → MovesTo p (moveOf i s) q r → q ≤ n
 within i s {n} {p} l e w = omega (arith, reach w, spanned i s (n - suc p) e)
 
 -- ---- places in the code

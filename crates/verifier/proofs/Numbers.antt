@@ -11,9 +11,9 @@ use Rattle.words.specs.Laws.{Bytes}
 use Rattle.code.specs.declared.Instr.{Instr}
 use Rattle.code.specs.declared.Instr.the-variants.{Unknown}
 use Rattle.code.specs.Instructions.{alone, instruction, decodeAt}
-use Rattle.code.specs.Fetch.{fetched, instructionOf}
+use Rattle.code.specs.private.Fetch.{fetched, instructionOf}
 use Rattle.code.proofs.Fetches.{decode-fetched}
-use Rattle.verifier.specs.Shapes.{operandOf, instrBy}
+use Rattle.verifier.specs.private.Shapes.{operandOf, instrBy}
 use Rattle.verifier.proofs.Moves.{under}
 
 none-alone : {n : ℕ} (i : Instr) → n ≢ 0 → alone n i ≡ Unknown

@@ -8,10 +8,10 @@ use lib.ListN.{length}
 use Rattle.values.specs.declared.Kind.{Kind}
 use Rattle.code.specs.declared.Instr.{Instr}
 use Rattle.verifier.specs.declared.Verdict.the-variants.{Accepted}
-use Rattle.verifier.specs.Typing.{Shape, refused, moveOf, stands}
-use Rattle.verifier.specs.Accepts.{Leads, instrAt, Reached, start, onward, Accepts}
-use Rattle.verifier.specs.Shapes.{State, rejected, unreached, holds}
-use Rattle.verifier.specs.Pass.{verdictOf, Joins, alone, takes, agrees, differs}
+use Rattle.verifier.specs.Typing.{Shape, illTyped, moveOf, wellFormed}
+use Rattle.verifier.specs.Accepts.{MovesTo, instrAt, Reached, start, onward, Accepts}
+use Rattle.verifier.specs.private.Shapes.{State, rejected, unreached, holds}
+use Rattle.verifier.specs.private.Pass.{verdictOf, Joins, alone, takes, agrees, differs}
 use Rattle.verifier.proofs.Moves.{upto, forward, within}
 
 -- ---- states
@@ -33,7 +33,7 @@ unarrived e = let z : _≡_ {A = ℕ} 0 1 = cc in omega arith
 -- the place q is the first, or is led to from a place before p
 pub data Arrives (c : List Instr) (p : ℕ) : ℕ → Shape → Type 0 where
   first : Arrives c p 0 []
-  from : {o q : ℕ} {s r : Shape} → o < p → Reached c o s → Leads o (moveOf (instrAt c o) s) q r → Arrives c p q r
+  from : {o q : ℕ} {s r : Shape} → o < p → Reached c o s → MovesTo o (moveOf (instrAt c o) s) q r → Arrives c p q r
 
 -- the pass, at p with the state o, has the place q with the kinds r
 pub data In (p : ℕ) (brought : ℕ → State) (o : State) (q : ℕ) (r : Shape) : Type 0 where
@@ -42,8 +42,8 @@ pub data In (p : ℕ) (brought : ℕ → State) (o : State) (q : ℕ) (r : Shape
 
 -- the pass has come to p, and o is what flows in: all before p is as `Accepts` asks, what is known is reached, and what arrives is known
 pub record Comes (c : List Instr) (p : ℕ) (brought : ℕ → State) (o : State) : Type 0 where
-  pub each : (q : ℕ) → q < p → stands (length c - suc q) (instrAt c q) ≡ true
-  pub acts : (q : ℕ) (s : Shape) → q < p → Reached c q s → moveOf (instrAt c q) s ≡ refused → ⊥
+  pub each : (q : ℕ) → q < p → wellFormed (length c - suc q) (instrAt c q) ≡ true
+  pub acts : (q : ℕ) (s : Shape) → q < p → Reached c q s → moveOf (instrAt c q) s ≡ illTyped → ⊥
   pub one : (q : ℕ) (s r : Shape) → q < p → Reached c q s → Reached c q r → s ≡ r
   pub flow : (s : Shape) → o ≡ holds s → Reached c p s
   pub table : (q : ℕ) (s : Shape) → brought q ≡ holds s → Reached c q s
@@ -130,7 +130,7 @@ joined {c} {p} e (passes n k) (differs {s = s} {r = r} f) = refuses (λ j a. f (
 -- ---- at the end
 
 -- no place beyond it is reached
-pub ahead : {c : List Instr} → ((q : ℕ) → q < length c → stands (length c - suc q) (instrAt c q) ≡ true) → {p : ℕ} {s : Shape} → Reached c p s → p ≤ length c
+pub ahead : {c : List Instr} → ((q : ℕ) → q < length c → wellFormed (length c - suc q) (instrAt c q) ≡ true) → {p : ℕ} {s : Shape} → Reached c p s → p ≤ length c
 ahead f start = omega arith
 ahead {c} f (onward {p = p} {s = s} d l w) = within (instrAt c p) s l (f p l) w
 

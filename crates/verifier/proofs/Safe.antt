@@ -23,11 +23,11 @@ use Rattle.memory.proofs.Laws.{memory-laws}
 use Rattle.code.specs.declared.Instr.{Instr}
 use Rattle.code.specs.declared.Instr.the-variants.{PushInt, PushReal, Load, LoadIndexed, Unary, Binary, Jump, JumpIf, Unknown}
 use Rattle.machine.specs.declared.Ended.the-variants.{Stopped}
-use Rattle.machine.specs.Machine.{most, Next, goes, halts, pushed, given, act, finish, exec}
+use Rattle.machine.specs.Machine.{maxHeight, Next, goes, halts, pushValue, pushOutcome, act, finish, exec}
 use Rattle.machine.specs.Configurations.{Configuration, first, skip, step, Finishes}
 use Rattle.machine.proofs.Laws.{onward as after, count-most}
-use Rattle.verifier.specs.Typing.{Shape, Move, refused, next, fork, pushing, moveOf}
-use Rattle.verifier.specs.Accepts.{Leads, on, over, stay, away, instrAt, Reached, start, onward, Accepts}
+use Rattle.verifier.specs.Typing.{Shape, Move, illTyped, next, fork, pushKind, moveOf}
+use Rattle.verifier.specs.Accepts.{MovesTo, next-place, jump-target, not-taken, taken, instrAt, Reached, start, onward, Accepts}
 use Rattle.verifier.specs.Stack.{HasOperands, push-int, push-real, load, load-indexed, unary, binary, jump-always, jump-if, StackSafe}
 use Rattle.verifier.specs.Safety.{Kinded, EndsWell, value, fault, Safe}
 use Rattle.verifier.proofs.Moves.{allowed, has-room, Split, split, within}
@@ -37,40 +37,40 @@ use Rattle.verifier.proofs.Moves.{allowed, has-room, Split, split, with
 -- what an instruction leads to, at p, is a fault or what the check says, the move m
 data Follows (p : ℕ) (m : Move) : Next → Type 0 where
   ends : (f : Fault) → Follows p m (halts (Stopped f))
-  leads : {d : ℕ} {st : List Value} → Leads p m (suc p + d) (map kindOf st) → length st ≤ most → Follows p m (goes d st)
+  leads : {d : ℕ} {st : List Value} → MovesTo p m (suc p + d) (map kindOf st) → length st ≤ maxHeight → Follows p m (goes d st)
 
-on-next : (p : ℕ) (r : Shape) → Leads p (next r) (suc p + 0) r
-on-next p r = subst (λ n. Leads p (next r) n r) (sym (add-zero (suc p))) on
+on-next : (p : ℕ) (r : Shape) → MovesTo p (next r) (suc p + 0) r
+on-next p r = subst (λ n. MovesTo p (next r) n r) (sym (add-zero (suc p))) next-place
 
-stay-next : (p d : ℕ) (r : Shape) → Leads p (fork d r) (suc p + 0) r
-stay-next p d r = subst (λ n. Leads p (fork d r) n r) (sym (add-zero (suc p))) stay
+stay-next : (p d : ℕ) (r : Shape) → MovesTo p (fork d r) (suc p + 0) r
+stay-next p d r = subst (λ n. MovesTo p (fork d r) n r) (sym (add-zero (suc p))) not-taken
 
 module _ (p : ℕ) (st : List Value) where
-  pushes : (v : Value) (k : Kind) → kindOf v ≡ k → length st < most → Follows p (next (k ∷ map kindOf st)) (pushed v st)
-  pushes v k e h = rw (lt-ltb (length st) most h) (leads (subst (λ k. Leads p (next (k ∷ map kindOf st)) (suc p + 0) (map kindOf (v ∷ st))) e (on-next p _)) h)
+  pushes : (v : Value) (k : Kind) → kindOf v ≡ k → length st < maxHeight → Follows p (next (k ∷ map kindOf st)) (pushValue v st)
+  pushes v k e h = rw (lt-ltb (length st) maxHeight h) (leads (subst (λ k. MovesTo p (next (k ∷ map kindOf st)) (suc p + 0) (map kindOf (v ∷ st))) e (on-next p _)) h)
 
-  gives : {o : Outcome} {k : Kind} → OfKind k o → length st < most → Follows p (next (k ∷ map kindOf st)) (given o st)
+  gives : {o : Outcome} {k : Kind} → OfKind k o → length st < maxHeight → Follows p (next (k ∷ map kindOf st)) (pushOutcome o st)
   gives {k = k} (done v e) h = pushes v k e h
   gives (stopped f) h = ends f
 
   -- a push, where there is room for it
-  fits : {o : Outcome} {k : Kind} → OfKind k o → (pushing k (map kindOf st) ≡ refused → ⊥) → Follows p (pushing k (map kindOf st)) (given o st)
+  fits : {o : Outcome} {k : Kind} → OfKind k o → (pushKind k (map kindOf st) ≡ illTyped → ⊥) → Follows p (pushKind k (map kindOf st)) (pushOutcome o st)
   fits {o} {k} w n =
-      let l : length (map kindOf st) < most = has-room k (map kindOf st) n in
-      rw (lt-ltb (length (map kindOf st)) most l) (gives w (omega (arith, length-map st kindOf)))
+      let l : length (map kindOf st) < maxHeight = has-room k (map kindOf st) n in
+      rw (lt-ltb (length (map kindOf st)) maxHeight l) (gives w (omega (arith, length-map st kindOf)))
 
   -- an operator, where it takes the kinds
-  takes : (b : Bool) {o : Outcome} {k : Kind} → (T b → OfKind k o) → length st < most → (cond b (next (k ∷ map kindOf st)) refused ≡ refused → ⊥)
-      → Follows p (cond b (next (k ∷ map kindOf st)) refused) (given o st)
+  takes : (b : Bool) {o : Outcome} {k : Kind} → (T b → OfKind k o) → length st < maxHeight → (cond b (next (k ∷ map kindOf st)) illTyped ≡ illTyped → ⊥)
+      → Follows p (cond b (next (k ∷ map kindOf st)) illTyped) (pushOutcome o st)
   takes true w h n = gives (w tt) h
   takes false w h n = absurd (n refl)
 
-  jumps : (d : ℕ) (b : Bool) → length st ≤ most → Follows p (fork d (map kindOf st)) (cond b (goes d st) (goes 0 st))
-  jumps d true h = leads away h
+  jumps : (d : ℕ) (b : Bool) → length st ≤ maxHeight → Follows p (fork d (map kindOf st)) (cond b (goes d st) (goes 0 st))
+  jumps d true h = leads taken h
   jumps d false h = leads (stay-next p d (map kindOf st)) h
 
 module _ (E : Environment) (K : Kinded E) where
-  follows : (p : ℕ) (i : Instr) (st : List Value) → length st ≤ most → (moveOf i (map kindOf st) ≡ refused → ⊥)
+  follows : (p : ℕ) (i : Instr) (st : List Value) → length st ≤ maxHeight → (moveOf i (map kindOf st) ≡ illTyped → ⊥)
       → Follows p (moveOf i (map kindOf st)) (act E i st)
   unfolding moveOf act
   follows p (PushInt z) st h n = fits p st (done _ refl) n
@@ -83,14 +83,14 @@ module _ (E : Environment) (K : Kinded E) where
   follows p (Binary o) [] h n = absurd (n refl)
   follows p (Binary o) (w ∷ []) h n = absurd (n refl)
   follows p (Binary o) (w ∷ (v ∷ st)) h n = takes p st (binaryTakes o (kindOf v) (kindOf w)) (rule-laws .binary-kind o v w) (omega arith) n
-  follows p (Jump d) st h n = leads over h
+  follows p (Jump d) st h n = leads jump-target h
   follows p (JumpIf t d) [] h n = absurd (n refl)
   follows p (JumpIf t d) (v ∷ st) h n = jumps p st d (Bool·beq (truthRule v) t) (omega arith)
   follows p Unknown st h n = absurd (n refl)
 
 -- ---- what an instruction takes
 
-operands : (i : Instr) (s : Shape) → (moveOf i s ≡ refused → ⊥) → HasOperands i s
+operands : (i : Instr) (s : Shape) → (moveOf i s ≡ illTyped → ⊥) → HasOperands i s
 unfolding moveOf
 operands (PushInt z) s n = push-int
 operands (PushReal x) s n = push-real
@@ -115,7 +115,7 @@ last (v ∷ []) k e = value v (cc)
 last (v ∷ (w ∷ st)) k e = let z : _≡_ {A = ℕ} 0 1 = cc in absurd (omega arith)
 
 -- where it goes on, and how it ends
-led : {p d : ℕ} {m : Move} {st : List Value} → Follows p m (goes d st) → Leads p m (suc p + d) (map kindOf st) × (length st ≤ most)
+led : {p d : ℕ} {m : Move} {st : List Value} → Follows p m (goes d st) → MovesTo p m (suc p + d) (map kindOf st) × (length st ≤ maxHeight)
 led (leads w h) = (w, h)
 
 module _ (E : Environment) (K : Kinded E) (c : List Instr) (k : Kind) (acc : Accepts c k) where
@@ -123,7 +123,7 @@ module _ (E : Environment) (K : Kinded E) (c : List Instr) (k : Kind) (acc : Acc
   record At (left : List Instr) (d : ℕ) (st : List Value) (p : ℕ) : Type 0 where
     rest : left ≡ drop p c
     reached : Reached c (p + d) (map kindOf st)
-    room : length st ≤ most
+    room : length st ≤ maxHeight
     in-code : p + d ≤ length c
 
   -- what the instruction at p leads to
@@ -134,8 +134,8 @@ module _ (E : Environment) (K : Kinded E) (c : List Instr) (k : Kind) (acc : Acc
     there : Reached c p (map kindOf st)
     there = subst (λ n. Reached c n (map kindOf st)) (add-zero p) (a .reached)
 
-    able : moveOf i (map kindOf st) ≡ refused → ⊥
-    able = subst (λ i. moveOf i (map kindOf st) ≡ refused → ⊥) (sym (here .first)) (acc .acts p (map kindOf st) there (here .inside))
+    able : moveOf i (map kindOf st) ≡ illTyped → ⊥
+    able = subst (λ i. moveOf i (map kindOf st) ≡ illTyped → ⊥) (sym (here .first)) (acc .acts p (map kindOf st) there (here .inside))
 
     after-it : {x : Next} → act E i st ≡ x → Follows p (moveOf (instrAt c p) (map kindOf st)) x
     after-it {x} e = subst (λ i. Follows p (moveOf i (map kindOf st)) x) (here .first)

@@ -1,4 +1,4 @@
--- From a place to the next: each way through `leap`, `fork` and `step`, and the verdict at the end.
+-- From a place to the next: each way through `jump`, `fork` and `step`, and the verdict at the end.
 use mathlib.Core.Path.{_≡_, refl, sym, ap, _∙_, subst}
 use mathlib.Core.Bool.{Bool, true, false, cond, false≢true}
 use mathlib.Core.List.{List, [], _∷_}
@@ -11,15 +11,15 @@ use Rattle.code.specs.declared.Instr.{Instr}
 use Rattle.code.specs.declared.Instr.the-variants.{Jump, JumpIf, Unknown}
 use Rattle.words.specs.Laws.{Bytes}
 use Rattle.code.specs.Instructions.{alone, instruction, decodeAt}
-use Rattle.code.specs.Fetch.{fetched}
+use Rattle.code.specs.private.Fetch.{fetched}
 use Rattle.verifier.specs.declared.packing.Held.{Held}
 use Rattle.verifier.specs.declared.typing.Flow.{Flow}
 use Rattle.verifier.specs.declared.Verdict.{Verdict}
 use Rattle.verifier.specs.declared.Verdict.the-variants as Verdict
-use Rattle.verifier.specs.Typing.{Shape, Move, refused, leap, fork, moveOf, stands}
-use Rattle.verifier.specs.Shapes.{State, rejected, unreached, holds, operandOf, wordOf, instrOf, instrBy, staying, numberKind, bitKinds, word, kindsOf, Neat, Keeps, Popped, stateAt, stateOf, Leaves, stops, goes}
-use Rattle.verifier.specs.Pass as Pass
-use Rattle.verifier.specs.Pass.{verdictOf, Skipping, Merges, Steps, stuck, strays, leaps, forks, leap-clash, fork-clash}
+use Rattle.verifier.specs.Typing.{Shape, Move, illTyped, jump, fork, moveOf, wellFormed}
+use Rattle.verifier.specs.private.Shapes.{State, rejected, unreached, holds, operandOf, wordOf, instrOf, instrBy, staying, numberKind, bitKinds, word, kindsOf, Canonical, ArrayHolds, Popped, stateAt, stateOf, Leaves, stops, goes}
+use Rattle.verifier.specs.private.Pass as Pass
+use Rattle.verifier.specs.private.Pass.{verdictOf, Skipping, Merges, Steps, stuck, strays, leaps, forks, leap-clash, fork-clash}
 use Rattle.verifier.proofs.Moves.{under, between, upto}
 use Rattle.verifier.proofs.Numbers.{decode-by}
 use Rattle.verifier.proofs.Bits.{kinds-popped}
@@ -34,7 +34,7 @@ state-holds (suc (suc n)) s h g = refl
 
 -- ---- an instruction that is no jump
 
-pub typed-keeps : {a : List ℕ} {f : Flow} {m : Move} → Leaves a f m → Keeps a (f .held)
+pub typed-keeps : {a : List ℕ} {f : Flow} {m : Move} → Leaves a f m → ArrayHolds a (f .held)
 typed-keeps (stops e k) = k
 typed-keeps (goes e k) = k
 
@@ -53,11 +53,11 @@ module _ (w m : ℕ) where
       go true q f = (eqb-true (operandOf w) 0 q, leb-true (wordOf w) m f)
       go false q f = absurd (false≢true f)
 
-  leap-is : (s : Shape) {d : ℕ} → staying m w ≡ true → d ≡ wordOf w → moveOf (instrOf 7 w) s ≡ leap d s
+  leap-is : (s : Shape) {d : ℕ} → staying m w ≡ true → d ≡ wordOf w → moveOf (instrOf 7 w) s ≡ jump d s
   unfolding moveOf instruction
   leap-is s e q = rw (q, stays e .0)
 
-  leap-known : stands m (instrOf 7 w) ≡ staying m w
+  leap-known : wellFormed m (instrOf 7 w) ≡ staying m w
   unfolding instruction
   leap-known = alone-known m (eqb (operandOf w) 0) (Jump (wordOf w))
 
@@ -81,7 +81,7 @@ module _ (w m : ℕ) where
     unfolding moveOf
     fork-is l o e q = rw (q, stays e .0, kinds-popped l o)
 
-    fork-known : stands m branch ≡ staying m w
+    fork-known : wellFormed m branch ≡ staying m w
     fork-known = alone-known m (eqb (operandOf w) 0) (JumpIf t (wordOf w))
 
     module _ {p : ℕ} {before : ℕ → State} where
@@ -89,7 +89,7 @@ module _ (w m : ℕ) where
       unfolding moveOf
       fork-short l =
           let e : h .height ≡ 0 = omega arith in
-          rw e (stuck (under (λ i. moveOf i [] ≡ refused) (eqb (operandOf w) 0) refl refl))
+          rw e (stuck (under (λ i. moveOf i [] ≡ illTyped) (eqb (operandOf w) 0) refl refl))
 
       pub fork-strays : staying m w ≡ false → Steps branch m p (kindsOf h) before rejected before
       fork-strays e = strays (fork-known ∙ e)
@@ -118,23 +118,23 @@ module _ {code : List ℕ} {n : ℕ} {tops : List ℕ} where
   pub skipping-none : {p : ℕ} → p ≤ n → Skipping code n tops p p
   skipping-none l = record { onward = omega arith; within = l; none = λ q f g. absurd (omega arith); each = λ q f g. absurd (omega arith) }
 
-  pub skipping-more : {p r : ℕ} → Skipping code n tops p r → r < n → getD tops r 0 ≡ 0 → stands (n - suc r) (decodeAt code r) ≡ true → Skipping code n tops p (r + 1)
+  pub skipping-more : {p r : ℕ} → Skipping code n tops p r → r < n → getD tops r 0 ≡ 0 → wellFormed (n - suc r) (decodeAt code r) ≡ true → Skipping code n tops p (r + 1)
   skipping-more {p} {r} k l e f = record {
     onward = omega (arith, k .onward);
     within = omega arith;
     none = λ q g h. upto (λ q. p ≤ q → getD tops q 0 ≡ 0) r (λ q h g. k .none q g h) (λ _. e) q (omega arith) g;
-    each = λ q g h. upto (λ q. p ≤ q → stands (n - suc q) (decodeAt code q) ≡ true) r (λ q h g. k .each q g h) (λ _. f) q (omega arith) g;
+    each = λ q g h. upto (λ q. p ≤ q → wellFormed (n - suc q) (decodeAt code q) ≡ true) r (λ q h g. k .each q g h) (λ _. f) q (omega arith) g;
   }
 
 -- the number w of an instruction says whether it stands
-pub stands-at : (code : List ℕ) (n p : ℕ) {w : ℕ} {b : Bool} → Bytes code → w ≡ fetched code p → b ≡ stands (n - p - 1) (instrBy w) → b ≡ stands (n - suc p) (decodeAt code p)
+pub stands-at : (code : List ℕ) (n p : ℕ) {w : ℕ} {b : Bool} → Bytes code → w ≡ fetched code p → b ≡ wellFormed (n - p - 1) (instrBy w) → b ≡ wellFormed (n - suc p) (decodeAt code p)
 stands-at code n p B e f =
     let l : n - p - 1 ≡ n - suc p = omega arith in
     f ∙ rw (decode-by code p B, ← e, l)
 
 -- ---- the end
 
-module _ {a : List ℕ} {w : Held} (keeps : Keeps a w) where
+module _ {a : List ℕ} {w : Held} (keeps : ArrayHolds a w) where
   pub end-one : w .height ≡ 1 → Verdict.Accepted (numberKind (getD a 0 0)) ≡ verdictOf (holds (kindsOf w))
   end-one e = rw (← keeps .is, e)
 

@@ -14,11 +14,11 @@ use Rattle.code.specs.declared.Instr.{Instr}
 use Rattle.code.specs.Instructions.{instructions}
 use Rattle.verifier.specs.declared.Verdict.{Verdict}
 use Rattle.verifier.specs.declared.Verdict.the-variants.{Accepted, Refused}
-use Rattle.verifier.specs.Typing.{Shape, Move, refused, next, leap, fork, moveOf, stands}
-use Rattle.verifier.specs.Accepts.{Leads, on, over, stay, away, instrAt, Reached, start, onward, Accepts, Right}
+use Rattle.verifier.specs.Typing.{Shape, Move, illTyped, next, jump, fork, moveOf, wellFormed}
+use Rattle.verifier.specs.Accepts.{MovesTo, next-place, jump-target, not-taken, taken, instrAt, Reached, start, onward, Accepts, Right}
 use Rattle.verifier.specs.Verdicts.{State, rejected, unreached, holds, States, sameShape, joinState, joinAt, propagate, transfer, dataflow, entryStates}
 use Rattle.verifier.specs.Verdicts.{verdictOf, verdict, VerdictLaws}
-use Rattle.verifier.specs.Pass.{Agrees}
+use Rattle.verifier.specs.private.Pass.{Agrees}
 use Rattle.verifier.proofs.Moves.{upto, Split, split}
 use Rattle.verifier.proofs.Pass as Pass
 use Rattle.verifier.proofs.Pass.{holds-same, unheld, unfailed, unarrived, Arrives, first, from, arrives, flows, Knows, Or, passes, ahead}
@@ -140,43 +140,43 @@ module _ {f : States} {S : ℕ → Shape → Type 0} (w : Represents f S) (r : S
   }
 
 -- and what an instruction at p leads to
-led : (p : ℕ) (m : Move) {f : States} {S : ℕ → Shape → Type 0} → Represents f S → (m ≡ refused → ⊥)
-    → Represents (propagate p m f) (λ q s. S q s ⊎ Leads p m q s)
-led p refused w n = absurd (n refl)
+led : (p : ℕ) (m : Move) {f : States} {S : ℕ → Shape → Type 0} → Represents f S → (m ≡ illTyped → ⊥)
+    → Represents (propagate p m f) (λ q s. S q s ⊎ MovesTo p m q s)
+led p illTyped w n = absurd (n refl)
 led p (next r) {S = S} w n = likewise (joined w r (suc p)) into out
   where
-    into : (q : ℕ) (s : Shape) → Added S r (suc p) q s → S q s ⊎ Leads p (next r) q s
+    into : (q : ℕ) (s : Shape) → Added S r (suc p) q s → S q s ⊎ MovesTo p (next r) q s
     into q s (old m) = inl m
-    into _ _ new = inr on
+    into _ _ new = inr next-place
 
-    out : (q : ℕ) (s : Shape) → S q s ⊎ Leads p (next r) q s → Added S r (suc p) q s
+    out : (q : ℕ) (s : Shape) → S q s ⊎ MovesTo p (next r) q s → Added S r (suc p) q s
     out q s (inl m) = old m
-    out _ _ (inr on) = new
-led p (leap d r) {S = S} w n = likewise (joined w r (suc p + d)) into out
+    out _ _ (inr next-place) = new
+led p (jump d r) {S = S} w n = likewise (joined w r (suc p + d)) into out
   where
-    into : (q : ℕ) (s : Shape) → Added S r (suc p + d) q s → S q s ⊎ Leads p (leap d r) q s
+    into : (q : ℕ) (s : Shape) → Added S r (suc p + d) q s → S q s ⊎ MovesTo p (jump d r) q s
     into q s (old m) = inl m
-    into _ _ new = inr over
+    into _ _ new = inr jump-target
 
-    out : (q : ℕ) (s : Shape) → S q s ⊎ Leads p (leap d r) q s → Added S r (suc p + d) q s
+    out : (q : ℕ) (s : Shape) → S q s ⊎ MovesTo p (jump d r) q s → Added S r (suc p + d) q s
     out q s (inl m) = old m
-    out _ _ (inr over) = new
+    out _ _ (inr jump-target) = new
 led p (fork d r) {S = S} w n = likewise (joined (joined w r (suc p + d)) r (suc p)) into out
   where
-    into : (q : ℕ) (s : Shape) → Added (Added S r (suc p + d)) r (suc p) q s → S q s ⊎ Leads p (fork d r) q s
+    into : (q : ℕ) (s : Shape) → Added (Added S r (suc p + d)) r (suc p) q s → S q s ⊎ MovesTo p (fork d r) q s
     into q s (old (old m)) = inl m
-    into _ _ (old new) = inr away
-    into _ _ new = inr stay
+    into _ _ (old new) = inr taken
+    into _ _ new = inr not-taken
 
-    out : (q : ℕ) (s : Shape) → S q s ⊎ Leads p (fork d r) q s → Added (Added S r (suc p + d)) r (suc p) q s
+    out : (q : ℕ) (s : Shape) → S q s ⊎ MovesTo p (fork d r) q s → Added (Added S r (suc p + d)) r (suc p) q s
     out q s (inl m) = old (old m)
-    out _ _ (inr away) = old new
-    out _ _ (inr stay) = new
+    out _ _ (inr taken) = old new
+    out _ _ (inr not-taken) = new
 
-refusing : (m : Move) → (m ≡ refused) ⊎ (m ≡ refused → ⊥)
-refusing refused = inl refl
+refusing : (m : Move) → (m ≡ illTyped) ⊎ (m ≡ illTyped → ⊥)
+refusing illTyped = inl refl
 refusing (next r) = inr (λ e. let z : _≡_ {A = ℕ} 0 1 = cc in omega arith)
-refusing (leap d r) = inr (λ e. let z : _≡_ {A = ℕ} 0 1 = cc in omega arith)
+refusing (jump d r) = inr (λ e. let z : _≡_ {A = ℕ} 0 1 = cc in omega arith)
 refusing (fork d r) = inr (λ e. let z : _≡_ {A = ℕ} 0 1 = cc in omega arith)
 
 -- ---- the pass
@@ -187,8 +187,8 @@ module _ (c : List Instr) where
 
   -- all before p is as `Accepts` asks
   record Before (p : ℕ) : Type 0 where
-    each : (q : ℕ) → q < p → stands (length c - suc q) (instrAt c q) ≡ true
-    acts : (q : ℕ) (s : Shape) → q < p → Reached c q s → moveOf (instrAt c q) s ≡ refused → ⊥
+    each : (q : ℕ) → q < p → wellFormed (length c - suc q) (instrAt c q) ≡ true
+    acts : (q : ℕ) (s : Shape) → q < p → Reached c q s → moveOf (instrAt c q) s ≡ illTyped → ⊥
     one : (q : ℕ) (s r : Shape) → q < p → Reached c q s → Reached c q r → s ≡ r
 
   -- what is known when the pass comes to p
@@ -205,14 +205,14 @@ module _ (c : List Instr) where
       let b = w .clash q e in
       b .differ (a .one q (b .one) (b .other) (reached l (b .comes)) (reached l (b .also)))
 
-  module _ {p : ℕ} {f : States} (inside : p < length c) (stood : stands (length c - suc p) (instrAt c p) ≡ true) (a : Before p)
+  module _ {p : ℕ} {f : States} (inside : p < length c) (stood : wellFormed (length c - suc p) (instrAt c p) ≡ true) (a : Before p)
       (w : Represents f (Arrives c p)) where
     finds : {s : Shape} → Reached c p s → Found s (f p)
     finds {s} d = w .found p s (arrives d)
 
     -- the instruction at p leads to L, and to nothing else
     further : {g : States} {L : ℕ → Shape → Type 0} → ((q : ℕ) (r : Shape) → L q r → Arrives c (suc p) q r)
-        → ((x : Shape) (q : ℕ) (r : Shape) → Reached c p x → Leads p (moveOf (instrAt c p) x) q r → L q r)
+        → ((x : Shape) (q : ℕ) (r : Shape) → Reached c p x → MovesTo p (moveOf (instrAt c p) x) q r → L q r)
         → Represents g (λ q r. Arrives c p q r ⊎ L q r) → Represents g (Arrives c (suc p))
     further {L = L} i o v = likewise v into out
       where
@@ -224,14 +224,14 @@ module _ (c : List Instr) where
         out : (q : ℕ) (r : Shape) → Arrives c (suc p) q r → Arrives c p q r ⊎ L q r
         out _ _ first = inl first
         out q r (from {o = n} {s = x} m d u) =
-            upto (λ n. Reached c n x → Leads n (moveOf (instrAt c n) x) q r → Arrives c p q r ⊎ L q r) p
+            upto (λ n. Reached c n x → MovesTo n (moveOf (instrAt c n) x) q r → Arrives c p q r ⊎ L q r) p
             (λ n m d u. inl (from m d u)) (λ d u. inr (o x q r d u)) n m d u
 
-    before-next : ((s : Shape) → Reached c p s → moveOf (instrAt c p) s ≡ refused → ⊥)
+    before-next : ((s : Shape) → Reached c p s → moveOf (instrAt c p) s ≡ illTyped → ⊥)
         → ((s r : Shape) → Reached c p s → Reached c p r → s ≡ r) → Before (suc p)
     before-next f g = record {
-      each = upto (λ q. stands (length c - suc q) (instrAt c q) ≡ true) p (a .each) stood;
-      acts = λ q s l. upto (λ q. Reached c q s → moveOf (instrAt c q) s ≡ refused → ⊥) p (λ q l. a .acts q s l) (f s) q l;
+      each = upto (λ q. wellFormed (length c - suc q) (instrAt c q) ≡ true) p (a .each) stood;
+      acts = λ q s l. upto (λ q. Reached c q s → moveOf (instrAt c q) s ≡ illTyped → ⊥) p (λ q l. a .acts q s l) (f s) q l;
       one = λ q s r l. upto (λ q. Reached c q s → Reached c q r → s ≡ r) p (λ q l. a .one q s r l) (g s r) q l;
     }
 
@@ -253,11 +253,11 @@ module _ (c : List Instr) where
       only : {x : Shape} → Reached c p x → x ≡ s
       only d = found-only (finds d) e
 
-      moved : (moveOf (instrAt c p) s ≡ refused) ⊎ (moveOf (instrAt c p) s ≡ refused → ⊥) → Known (suc p) (propagate p (moveOf (instrAt c p) s) f)
+      moved : (moveOf (instrAt c p) s ≡ illTyped) ⊎ (moveOf (instrAt c p) s ≡ illTyped → ⊥) → Known (suc p) (propagate p (moveOf (instrAt c p) s) f)
       moved (inl i) = refuses (λ k a. a .acts p s here inside i) (λ q. ap (λ m. propagate p m f q) i)
       moved (inr n) = knows
-          (before-next (λ x d. subst (λ x. moveOf (instrAt c p) x ≡ refused → ⊥) (sym (only d)) n) (λ x r d u. only d ∙ sym (only u)))
-          (further (λ q r u. from (omega arith) here u) (λ x q r d u. subst (λ x. Leads p (moveOf (instrAt c p) x) q r) (only d) u)
+          (before-next (λ x d. subst (λ x. moveOf (instrAt c p) x ≡ illTyped → ⊥) (sym (only d)) n) (λ x r d u. only d ∙ sym (only u)))
+          (further (λ q r u. from (omega arith) here u) (λ x q r d u. subst (λ x. MovesTo p (moveOf (instrAt c p) x) q r) (only d) u)
           (led p (moveOf (instrAt c p) s) w n))
 
     stepped : (x : State) → f p ≡ x → Known (suc p) (transfer p (instrAt c p) x f)
@@ -265,7 +265,7 @@ module _ (c : List Instr) where
     stepped unreached e = over-it e
     stepped (holds s) e = moved e (refusing (moveOf (instrAt c p) s))
 
-  onto : {p : ℕ} {f : States} → p < length c → stands (length c - suc p) (instrAt c p) ≡ true → Known p f → Known (suc p) (transfer p (instrAt c p) (f p) f)
+  onto : {p : ℕ} {f : States} → p < length c → wellFormed (length c - suc p) (instrAt c p) ≡ true → Known p f → Known (suc p) (transfer p (instrAt c p) (f p) f)
   onto {p} {f} l t (refuses n z) = rw (z p) (refuses n (λ q. refl))
   onto {p} {f} l t (knows a w) = stepped l t a w (f p) refl
 
@@ -304,12 +304,12 @@ module _ (c : List Instr) where
 
   turn : {i : Instr} {left : List Instr} {p : ℕ} {f : States} → Split i left c p → Known p f
       → (Known (suc p) (transfer p i (f p) f) → Judged (dataflow left (suc p) (transfer p i (f p) f)))
-      → (b : Bool) → stands (length left) i ≡ b → Judged (cond b (dataflow left (suc p) (transfer p i (f p) f)) rejected)
+      → (b : Bool) → wellFormed (length left) i ≡ b → Judged (cond b (dataflow left (suc p) (transfer p i (f p) f)) rejected)
   turn {i} {left} {p} {f} s k ih b e =
       let n : length left ≡ length c - suc p = omega (arith, ap length (s .rest), length-drop (suc p) c, s .inside) in
-      go b (ap (λ n. stands n (instrAt c p)) (sym n) ∙ ap (stands (length left)) (sym (s .first)) ∙ e)
+      go b (ap (λ n. wellFormed n (instrAt c p)) (sym n) ∙ ap (wellFormed (length left)) (sym (s .first)) ∙ e)
     where
-      go : (b : Bool) → stands (length c - suc p) (instrAt c p) ≡ b → Judged (cond b (dataflow left (suc p) (transfer p i (f p) f)) rejected)
+      go : (b : Bool) → wellFormed (length c - suc p) (instrAt c p) ≡ b → Judged (cond b (dataflow left (suc p) (transfer p i (f p) f)) rejected)
       go true t = ih (subst (λ i. Known (suc p) (transfer p i (f p) f)) (sym (s .first)) (onto (s .inside) t k))
       go false t = Pass.refuses (λ k a. true≢false (sym (a .each p (s .inside)) ∙ t))
 
@@ -320,7 +320,7 @@ module _ (c : List Instr) where
       rw n (ended (rw n at k))
   passed (i ∷ left) p f e l k =
       let s = split i left c p e in
-      turn s k (passed left (suc p) (transfer p i (f p) f) (s .rest) (s .inside)) (stands (length left) i) refl
+      turn s k (passed left (suc p) (transfer p i (f p) f) (s .rest) (s .inside)) (wellFormed (length left) i) refl
 
   begun : Known 0 entryStates
   begun = knows before-none (likewise (joined none [] 0) into out)

@@ -3,5 +3,4 @@ pub mod Accepts
 pub mod Stack
 pub mod Safety
 pub mod Verdicts
-pub mod Shapes
-pub mod Pass
+pub mod private

@@ -17,7 +17,7 @@ use Rattle.memory.specs.declared.Bank.{Bank}
 use Rattle.memory.specs.Environment.{Environment}
 use Rattle.code.specs.declared.Instr.{Instr}
 use Rattle.code.specs.declared.Instr.the-variants.{PushInt, PushReal, Load, LoadIndexed, Unary, Binary, Jump, JumpIf}
-use Rattle.machine.specs.Machine.{most}
+use Rattle.machine.specs.Machine.{maxHeight}
 use Rattle.machine.specs.Configurations.{Configuration, Begins, Finishes}
 use Rattle.verifier.specs.Typing.{Shape}
 
@@ -36,7 +36,7 @@ pub data HasOperands : Instr → Shape → Type 0 where
 -- what the run of c in E holds, where the end has a value of the kind k
 pub record StackSafe (E : Environment) (c : List Instr) (k : Kind) : Type 0 where
   -- "never holds more than 128": before and after every instruction, and at the end
-  pub height : {left : List Instr} {d : ℕ} {st : List Value} → Configuration E c left d st → length st ≤ most
+  pub height : {left : List Instr} {d : ℕ} {st : List Value} → Configuration E c left d st → length st ≤ maxHeight
   -- "is never short of a value"
   pub operands : {i : Instr} {st : List Value} → Begins E c i st → HasOperands i (map kindOf st)
   -- "the end has one value"

@@ -10,7 +10,7 @@ use Rattle.operators.specs.Kinds.{unaryKind, unaryTakes, binaryKind, binaryTake
 use Rattle.memory.specs.Cells.{bankKind}
 use Rattle.code.specs.declared.Instr.{Instr}
 use Rattle.code.specs.declared.Instr.the-variants.{PushInt, PushReal, Load, LoadIndexed, Unary, Binary, Jump, JumpIf, Unknown}
-use Rattle.machine.specs.Machine.{most}
+use Rattle.machine.specs.Machine.{maxHeight}
 
 -- the kinds of the values held, the last pushed first
 abbrev pub Shape : Type 0
@@ -18,42 +18,42 @@ Shape = List Kind
 
 -- where an instruction can go: nowhere, since it cannot act on these kinds; to the next; over some; or to either
 pub data Move : Type 0 where
-  refused : Move
+  illTyped : Move
   next : Shape → Move
-  leap : ℕ → Shape → Move
+  jump : ℕ → Shape → Move
   fork : ℕ → Shape → Move
 
 -- "the height never exceeds 128"
 abbrev pub hasRoom : Shape → Bool
-hasRoom s = ltb (length s) most
+hasRoom s = ltb (length s) maxHeight
 
-abbrev pub pushing : Kind → Shape → Move
-pushing k s = cond (hasRoom s) (next (k ∷ s)) refused
+abbrev pub pushKind : Kind → Shape → Move
+pushKind k s = cond (hasRoom s) (next (k ∷ s)) illTyped
 
 unfoldable pub moveOf : Instr → Shape → Move
-moveOf (PushInt z) s = pushing Int s
-moveOf (PushReal x) s = pushing Real s
-moveOf (Load b i) s = pushing (bankKind b) s
-moveOf (LoadIndexed b) [] = refused
+moveOf (PushInt z) s = pushKind Int s
+moveOf (PushReal x) s = pushKind Real s
+moveOf (Load b i) s = pushKind (bankKind b) s
+moveOf (LoadIndexed b) [] = illTyped
 moveOf (LoadIndexed b) (k ∷ s) = next (bankKind b ∷ s)
-moveOf (Unary o) [] = refused
-moveOf (Unary o) (k ∷ s) = cond (unaryTakes o k) (next (unaryKind o k ∷ s)) refused
-moveOf (Binary o) [] = refused
-moveOf (Binary o) (k ∷ []) = refused
-moveOf (Binary o) (k ∷ (j ∷ s)) = cond (binaryTakes o j k) (next (binaryKind o j k ∷ s)) refused
-moveOf (Jump d) s = leap d s
-moveOf (JumpIf t d) [] = refused
+moveOf (Unary o) [] = illTyped
+moveOf (Unary o) (k ∷ s) = cond (unaryTakes o k) (next (unaryKind o k ∷ s)) illTyped
+moveOf (Binary o) [] = illTyped
+moveOf (Binary o) (k ∷ []) = illTyped
+moveOf (Binary o) (k ∷ (j ∷ s)) = cond (binaryTakes o j k) (next (binaryKind o j k ∷ s)) illTyped
+moveOf (Jump d) s = jump d s
+moveOf (JumpIf t d) [] = illTyped
 moveOf (JumpIf t d) (k ∷ s) = fork d s
-moveOf Unknown s = refused
+moveOf Unknown s = illTyped
 
 -- "every one is known ..., jumps go forward and stay within the code or at its end": m instructions follow
-abbrev pub stands : ℕ → Instr → Bool
-stands m (PushInt z) = true
-stands m (PushReal x) = true
-stands m (Load b i) = true
-stands m (LoadIndexed b) = true
-stands m (Unary o) = true
-stands m (Binary o) = true
-stands m (Jump d) = leb d m
-stands m (JumpIf t d) = leb d m
-stands m Unknown = false
+abbrev pub wellFormed : ℕ → Instr → Bool
+wellFormed m (PushInt z) = true
+wellFormed m (PushReal x) = true
+wellFormed m (Load b i) = true
+wellFormed m (LoadIndexed b) = true
+wellFormed m (Unary o) = true
+wellFormed m (Binary o) = true
+wellFormed m (Jump d) = leb d m
+wellFormed m (JumpIf t d) = leb d m
+wellFormed m Unknown = false

@@ -13,7 +13,7 @@ use Rattle.code.specs.declared.Instr.{Instr}
 use Rattle.code.specs.Instructions.{instructions}
 use Rattle.verifier.specs.declared.Verdict.{Verdict}
 use Rattle.verifier.specs.declared.Verdict.the-variants.{Accepted, Refused}
-use Rattle.verifier.specs.Typing.{Shape, Move, refused, next, leap, fork, moveOf, stands}
+use Rattle.verifier.specs.Typing.{Shape, Move, illTyped, next, jump, fork, moveOf, wellFormed}
 use Rattle.verifier.specs.Accepts.{Accepts, Right}
 
 -- what is known of a place: the code is not accepted; the place is not reached as yet; it is reached with these kinds
@@ -43,9 +43,9 @@ joinAt s q f p = cond (eqb p q) (joinState s (f p)) (f p)
 
 -- "every place that its instruction can go to: the next, a jump's, or for a jump on a value both", from the place p
 abbrev pub propagate : ℕ → Move → States → States
-propagate p refused f = λ q. rejected
+propagate p illTyped f = λ q. rejected
 propagate p (next s) f = joinAt s (suc p) f
-propagate p (leap d s) f = joinAt s (suc p + d) f
+propagate p (jump d s) f = joinAt s (suc p + d) f
 propagate p (fork d s) f = joinAt s (suc p) (joinAt s (suc p + d) f)
 
 -- what the instruction at p, which is reached or not, makes known
@@ -57,7 +57,7 @@ transfer p i (holds s) f = propagate p (moveOf i s) f
 -- over the instructions left, the first of them at p, to what is known of the end
 unfoldable pub dataflow : List Instr → ℕ → States → State
 dataflow [] p f = f p
-dataflow (i ∷ left) p f = cond (stands (length left) i) (dataflow left (suc p) (transfer p i (f p) f)) rejected
+dataflow (i ∷ left) p f = cond (wellFormed (length left) i) (dataflow left (suc p) (transfer p i (f p) f)) rejected
 
 -- "the end has one value"
 abbrev pub verdictOf : State → Verdict

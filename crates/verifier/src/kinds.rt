@@ -2,8 +2,8 @@
 // and 1 for a real; 2 is none, for what is no instruction or does not take these kinds.
 ghost use mathlib.Core.Path.{_≡_};
 ghost use Prim.Native.Nat.{ℕ};
-ghost use Rattle.verifier.specs.Typing.{stands};
-ghost use Rattle.verifier.specs.Shapes.{operandOf, wordOf, instrOf, instrBy, staying, Itself, joint, wholly, Makes, Gives, Turns, Pairs, Banked};
+ghost use Rattle.verifier.specs.Typing.{wellFormed};
+ghost use Rattle.verifier.specs.private.Shapes.{operandOf, wordOf, instrOf, instrBy, staying, Itself, joint, bothIntegers, Makes, LeavesKind, ReplacesKind, ReplacesTwo, Banked};
 
 // The operand, and above it the two bytes that must be 0: where they are not, it is larger than any operand.
 pub fn operand(w: u64) -> u64
@@ -34,7 +34,7 @@ fn joined(left: u8, right: u8) -> u8
 
 // Integers only.
 fn whole(left: u8, right: u8) -> u8
-    ensures { λ r. ⌜ Makes wholly left right r ⌝ }
+    ensures { λ r. ⌜ Makes bothIntegers left right r ⌝ }
 {
     if left != 0 {
         return 2;
@@ -43,14 +43,14 @@ fn whole(left: u8, right: u8) -> u8
 }
 
 pub fn int_kind(w: u64) -> u8
-    ensures { λ r. ⌜ Gives (instrOf 1 w) r ⌝ }
+    ensures { λ r. ⌜ LeavesKind (instrOf 1 w) r ⌝ }
 {
     if operand(w) == 0 { 0 } else { 2 }
 }
 
 // An infinity or a NaN, whose exponent is all ones, is not pushed.
 pub fn real_kind(w: u64) -> u8
-    ensures { λ r. ⌜ Gives (instrOf 2 w) r ⌝ }
+    ensures { λ r. ⌜ LeavesKind (instrOf 2 w) r ⌝ }
 {
     if operand(w) != 0 {
         return 2;
@@ -70,7 +70,7 @@ fn bank_kind(bank: u64) -> u8
 
 // The first two banks have 64 elements, the others 256.
 pub fn load_kind(w: u64) -> u8
-    ensures { λ r. ⌜ Gives (instrOf 3 w) r ⌝ }
+    ensures { λ r. ⌜ LeavesKind (instrOf 3 w) r ⌝ }
 {
     let bank = operand(w);
     if bank < 2 {
@@ -80,7 +80,7 @@ pub fn load_kind(w: u64) -> u8
 }
 
 pub fn indexed_kind(w: u64) -> u8
-    ensures { λ r. ⌜ ((k : ℕ) → Turns (instrOf 4 w) k r) ⌝ }
+    ensures { λ r. ⌜ ((k : ℕ) → ReplacesKind (instrOf 4 w) k r) ⌝ }
 {
     if word(w) == 0 {
         bank_kind(operand(w))
@@ -91,7 +91,7 @@ pub fn indexed_kind(w: u64) -> u8
 
 // The operators by number, as docs/INSTRUCTIONS.md has them.
 pub fn unary_kind(w: u64, k: u8) -> u8
-    ensures { λ r. ⌜ Turns (instrOf 5 w) k r ⌝ }
+    ensures { λ r. ⌜ ReplacesKind (instrOf 5 w) k r ⌝ }
 {
     if word(w) != 0 {
         return 2;
@@ -110,7 +110,7 @@ pub fn unary_kind(w: u64, k: u8) -> u8
 }
 
 pub fn binary_kind(w: u64, left: u8, right: u8) -> u8
-    ensures { λ r. ⌜ Pairs (instrOf 6 w) left right r ⌝ }
+    ensures { λ r. ⌜ ReplacesTwo (instrOf 6 w) left right r ⌝ }
 {
     if word(w) != 0 {
         return 2;
@@ -146,7 +146,7 @@ pub fn stays(w: u64, left: usize) -> bool
 
 // An instruction is known where so many follow it, whether or not it is reached. Each that is acts on two integers.
 pub fn known(w: u64, left: usize) -> bool
-    ensures { λ r. ⌜ r ≡ stands left (instrBy w) ⌝ }
+    ensures { λ r. ⌜ r ≡ wellFormed left (instrBy w) ⌝ }
 {
     match w % 256 {
         1 => int_kind(w) < 2,

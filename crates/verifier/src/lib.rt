@@ -7,8 +7,8 @@ ghost use lib.ListN.{length, getD};
 ghost use Rattle.code.specs.declared.Instr.the-variants.{JumpIf};
 ghost use Rattle.code.specs.Instructions.{alone};
 ghost use Rattle.verifier.specs.Accepts.{Right};
-ghost use Rattle.verifier.specs.Shapes.{rejected, holds, kindsOf, operandOf, wordOf, instrOf, instrBy, Neat, Keeps, stateOf, tableOf, Table, Blank};
-ghost use Rattle.verifier.specs.Pass.{Joins, Merges, Steps, Skips, verdictOf};
+ghost use Rattle.verifier.specs.private.Shapes.{rejected, holds, kindsOf, operandOf, wordOf, instrOf, instrBy, Canonical, ArrayHolds, stateOf, tableOf, Table, Blank};
+ghost use Rattle.verifier.specs.private.Pass.{Joins, Merges, Steps, Skips, verdictOf};
 
 mod kinds;
 mod packing;
@@ -24,10 +24,10 @@ pub enum Verdict {
 }
 
 // What jumps brought to a place. The top is one more than the values that they found held, and 0 where no jump came.
-fn brought(place: usize, tops: &[u8], lows: &[u64], highs: &[u64]) -> Held
+fn joined_at(place: usize, tops: &[u8], lows: &[u64], highs: &[u64]) -> Held
     requires { ⌜ (place < length (now tops)) × (0 < getD (now tops) place 0) ⌝ }
     requires { ⌜ Table (length (now tops)) (now tops) (now lows) (now highs) ⌝ }
-    ensures { λ r. ⌜ Neat r × (holds (kindsOf r) ≡ tableOf (now (tops .entry)) (now (lows .entry)) (now (highs .entry)) place) ⌝ }
+    ensures { λ r. ⌜ Canonical r × (holds (kindsOf r) ≡ tableOf (now (tops .entry)) (now (lows .entry)) (now (highs .entry)) place) ⌝ }
 {
     Held {
         height: (tops[place] - 1) as usize,
@@ -38,7 +38,7 @@ fn brought(place: usize, tops: &[u8], lows: &[u64], highs: &[u64]) -> Held
 
 // What flows into a place is what jumps brought there, if they brought anything.
 fn agrees(held: Held, place: usize, tops: &[u8], lows: &[u64], highs: &[u64]) -> bool
-    requires { ⌜ Neat held × (place < length (now tops)) ⌝ }
+    requires { ⌜ Canonical held × (place < length (now tops)) ⌝ }
     requires { ⌜ Table (length (now tops)) (now tops) (now lows) (now highs) ⌝ }
     ensures { λ r. ⌜ Joins (holds (kindsOf held)) (tableOf (now (tops .entry)) (now (lows .entry)) (now (highs .entry)) place)
         (cond r (holds (kindsOf held)) rejected) ⌝ }
@@ -46,12 +46,12 @@ fn agrees(held: Held, place: usize, tops: &[u8], lows: &[u64], highs: &[u64]) ->
     if tops[place] == 0 {
         return true;
     }
-    packing::same(held, brought(place, tops, lows, highs))
+    packing::same(held, joined_at(place, tops, lows, highs))
 }
 
 // A jump brings the kinds held to its target: they must be the same that jumps brought before.
 fn merge(held: Held, target: usize, tops: &mut [u8], lows: &mut [u64], highs: &mut [u64]) -> bool
-    requires { ⌜ Neat held ⌝ }
+    requires { ⌜ Canonical held ⌝ }
     requires { ⌜ target < length (now tops) ⌝ }
     requires { ⌜ Table (length (now tops)) (now tops) (now lows) (now highs) ⌝ }
     ensures { λ r. ⌜ Table (length (now (tops .entry))) (now (tops .exit)) (now (lows .exit)) (now (highs .exit)) ⌝ }
@@ -64,11 +64,11 @@ fn merge(held: Held, target: usize, tops: &mut [u8], lows: &mut [u64], highs: &m
         highs[target] = held.high;
         return true;
     }
-    packing::same(held, brought(target, tops, lows, highs))
+    packing::same(held, joined_at(target, tops, lows, highs))
 }
 
 // A jump leads to its target alone.
-fn leap(
+fn jump(
     w: u64,
     n: usize,
     held: Held,
@@ -77,9 +77,9 @@ fn leap(
     lows: &mut [u64],
     highs: &mut [u64],
 ) -> Flow
-    requires { ⌜ Neat held × (next ≤ n) × (n < length (now tops)) ⌝ }
+    requires { ⌜ Canonical held × (next ≤ n) × (n < length (now tops)) ⌝ }
     requires { ⌜ Table (length (now tops)) (now tops) (now lows) (now highs) ⌝ }
-    ensures { λ r. ⌜ ((a : List ℕ) → Keeps a held → Keeps a (r .held)) ⌝ }
+    ensures { λ r. ⌜ ((a : List ℕ) → ArrayHolds a held → ArrayHolds a (r .held)) ⌝ }
     ensures { λ r. ⌜ Table (length (now (tops .entry))) (now (tops .exit)) (now (lows .exit)) (now (highs .exit)) ⌝ }
     ensures { λ r. ⌜ Steps (instrOf 7 w) (n - next) next (kindsOf held) (tableOf (now (tops .entry)) (now (lows .entry)) (now (highs .entry)))
         (stateOf r) (tableOf (now (tops .exit)) (now (lows .exit)) (now (highs .exit))) ⌝ }
@@ -105,9 +105,9 @@ fn fork(
     lows: &mut [u64],
     highs: &mut [u64],
 ) -> Flow
-    requires { ⌜ Neat held × (next ≤ n) × (n < length (now tops)) ⌝ }
+    requires { ⌜ Canonical held × (next ≤ n) × (n < length (now tops)) ⌝ }
     requires { ⌜ Table (length (now tops)) (now tops) (now lows) (now highs) ⌝ }
-    ensures { λ r. ⌜ ((a : List ℕ) → Keeps a held → Keeps a (r .held)) ⌝ }
+    ensures { λ r. ⌜ ((a : List ℕ) → ArrayHolds a held → ArrayHolds a (r .held)) ⌝ }
     ensures { λ r. ⌜ Table (length (now (tops .entry))) (now (tops .exit)) (now (lows .exit)) (now (highs .exit)) ⌝ }
     ensures { λ r. ⌜ ((t : Bool) → Steps (alone (operandOf w) (JumpIf t (wordOf w))) (n - next) next (kindsOf held)
         (tableOf (now (tops .entry)) (now (lows .entry)) (now (highs .entry))) (stateOf r)
@@ -145,10 +145,10 @@ fn step(
     lows: &mut [u64],
     highs: &mut [u64],
 ) -> Flow
-    requires { ⌜ Keeps (now kinds) held ⌝ }
+    requires { ⌜ ArrayHolds (now kinds) held ⌝ }
     requires { ⌜ (next ≤ n) × (n < length (now tops)) ⌝ }
     requires { ⌜ Table (length (now tops)) (now tops) (now lows) (now highs) ⌝ }
-    ensures { λ r. ⌜ Keeps (now (kinds .exit)) (r .held) ⌝ }
+    ensures { λ r. ⌜ ArrayHolds (now (kinds .exit)) (r .held) ⌝ }
     ensures { λ r. ⌜ Table (length (now (tops .entry))) (now (tops .exit)) (now (lows .exit)) (now (highs .exit)) ⌝ }
     ensures { λ r. ⌜ Steps (instrBy w) (n - next) next (kindsOf held) (tableOf (now (tops .entry)) (now (lows .entry)) (now (highs .entry)))
         (stateOf r) (tableOf (now (tops .exit)) (now (lows .exit)) (now (highs .exit))) ⌝ }
@@ -160,7 +160,7 @@ fn step(
         4 => typing::indexed(kinds, held, w),
         5 => typing::unary(kinds, held, w),
         6 => typing::binary(kinds, held, w),
-        7 => leap(w, n, held, next, tops, lows, highs),
+        7 => jump(w, n, held, next, tops, lows, highs),
         8 | 9 => fork(w, n, held, next, tops, lows, highs),
         _ => Flow { reach: 0, held },
     }
@@ -188,7 +188,7 @@ fn skipped(code: &[u8], n: usize, from: usize, tops: &[u8]) -> usize
 
 // The end has one value.
 fn ended(held: Held, kinds: &[u8; 128]) -> Verdict
-    requires { ⌜ Keeps (now kinds) held ⌝ }
+    requires { ⌜ ArrayHolds (now kinds) held ⌝ }
     ensures { λ r. ⌜ r ≡ verdictOf (holds (kindsOf held)) ⌝ }
 {
     if held.height == 1 {
@@ -226,7 +226,7 @@ fn checked(code: &[u8], n: usize, tops: &mut [u8], lows: &mut [u64], highs: &mut
             if tops[place] == 0 {
                 return Verdict::Refused;
             }
-            let there = brought(place, tops, lows, highs);
+            let there = joined_at(place, tops, lows, highs);
             packing::restore(&mut kinds, held, there);
             held = there;
             continue;

@@ -2,8 +2,8 @@
 ghost use mathlib.Core.Path.{_≡_};
 ghost use Prim.Native.Nat.{_%_, _^_, _<_, _≤_};
 ghost use lib.ListN.{length};
-ghost use Rattle.verifier.specs.Shapes.{heldKinds, kindsOf, word, Neat, Keeps, Pushed, Popped, Replaced};
-ghost use Rattle.verifier.specs.Pass.{Agrees};
+ghost use Rattle.verifier.specs.private.Shapes.{heldKinds, kindsOf, word, Canonical, ArrayHolds, Pushed, Popped, Replaced};
+ghost use Rattle.verifier.specs.private.Pass.{Agrees};
 
 // How many, and a bit for each, the last pushed in the lowest: 1 for a real.
 pub struct Held {
@@ -54,7 +54,7 @@ pub fn replaced(w: Held, n: u8) -> Held
 }
 
 pub fn same(a: Held, b: Held) -> bool
-    requires { ⌜ Neat a × Neat b ⌝ }
+    requires { ⌜ Canonical a × Canonical b ⌝ }
     ensures { λ r. ⌜ Agrees r (kindsOf a) (kindsOf b) ⌝ }
 {
     if a.height != b.height {
@@ -90,9 +90,9 @@ fn unpack(kinds: &mut [u8; 128], packed: Held)
 // The array has some kinds and is to have others. It has them already where a jump went to the next place, and, below one more, where one
 // branch of two has ended with its value and the other begins.
 pub fn restore(kinds: &mut [u8; 128], held: Held, there: Held)
-    requires { ⌜ Keeps (now kinds) held ⌝ }
-    requires { ⌜ Neat there ⌝ }
-    ensures { λ _. ⌜ Keeps (now (kinds .exit)) there ⌝ }
+    requires { ⌜ ArrayHolds (now kinds) held ⌝ }
+    requires { ⌜ Canonical there ⌝ }
+    ensures { λ _. ⌜ ArrayHolds (now (kinds .exit)) there ⌝ }
 {
     if same(held, there) {
         return;

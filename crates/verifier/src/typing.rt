@@ -2,7 +2,7 @@
 ghost use mathlib.Core.Path.{_≡_};
 ghost use Prim.Native.Nat.{_<_};
 ghost use Rattle.verifier.specs.Typing.{moveOf};
-ghost use Rattle.verifier.specs.Shapes.{numberKind, kindsOf, below, leaving, pushed, instrOf, Keeps, Leaves};
+ghost use Rattle.verifier.specs.private.Shapes.{numberKind, kindsOf, below, leaving, pushNumber, instrOf, ArrayHolds, Leaves};
 use crate::kinds;
 use crate::packing;
 use crate::packing::Held;
@@ -23,8 +23,8 @@ pub fn kind(n: u8) -> Kind
 
 // One value more, where there is room for it.
 pub fn push(kinds: &mut [u8; 128], held: Held, n: u8) -> Flow
-    requires { ⌜ Keeps (now kinds) held ⌝ }
-    ensures { λ r. ⌜ Leaves (now (kinds .exit)) r (pushed n (kindsOf held)) ⌝ }
+    requires { ⌜ ArrayHolds (now kinds) held ⌝ }
+    ensures { λ r. ⌜ Leaves (now (kinds .exit)) r (pushNumber n (kindsOf held)) ⌝ }
 {
     if 2 <= n {
         return Flow { reach: 0, held };
@@ -42,7 +42,7 @@ pub fn push(kinds: &mut [u8; 128], held: Held, n: u8) -> Flow
 
 // Another value for the last.
 fn replace(kinds: &mut [u8; 128], held: Held, n: u8) -> Flow
-    requires { ⌜ Keeps (now kinds) held ⌝ }
+    requires { ⌜ ArrayHolds (now kinds) held ⌝ }
     requires { ⌜ 0 < held .height ⌝ }
     ensures { λ r. ⌜ Leaves (now (kinds .exit)) r (leaving n (below held)) ⌝ }
 {
@@ -58,7 +58,7 @@ fn replace(kinds: &mut [u8; 128], held: Held, n: u8) -> Flow
 }
 
 pub fn indexed(kinds: &mut [u8; 128], held: Held, w: u64) -> Flow
-    requires { ⌜ Keeps (now kinds) held ⌝ }
+    requires { ⌜ ArrayHolds (now kinds) held ⌝ }
     ensures { λ r. ⌜ Leaves (now (kinds .exit)) r (moveOf (instrOf 4 w) (kindsOf held)) ⌝ }
 {
     if held.height < 1 {
@@ -68,7 +68,7 @@ pub fn indexed(kinds: &mut [u8; 128], held: Held, w: u64) -> Flow
 }
 
 pub fn unary(kinds: &mut [u8; 128], held: Held, w: u64) -> Flow
-    requires { ⌜ Keeps (now kinds) held ⌝ }
+    requires { ⌜ ArrayHolds (now kinds) held ⌝ }
     ensures { λ r. ⌜ Leaves (now (kinds .exit)) r (moveOf (instrOf 5 w) (kindsOf held)) ⌝ }
 {
     let h = held.height;
@@ -80,7 +80,7 @@ pub fn unary(kinds: &mut [u8; 128], held: Held, w: u64) -> Flow
 }
 
 pub fn binary(kinds: &mut [u8; 128], held: Held, w: u64) -> Flow
-    requires { ⌜ Keeps (now kinds) held ⌝ }
+    requires { ⌜ ArrayHolds (now kinds) held ⌝ }
     ensures { λ r. ⌜ Leaves (now (kinds .exit)) r (moveOf (instrOf 6 w) (kindsOf held)) ⌝ }
 {
     let h = held.height;

@@ -46,8 +46,8 @@ are-bytes (suc k) n (suc j) = are-bytes k (n / 256) j
 pub word-laws : WordLaws
 word-laws =
     record {
-      back = little-bytes;
-      forth = bytes-little;
+      decode-encode = little-bytes;
+      encode-decode = bytes-little;
       below = little-below;
       count = length-bytes;
       bytes = are-bytes;

@@ -10,8 +10,8 @@ abbrev pub Bytes : List ℕ → Type 0
 Bytes s = (k : ℕ) → getD s k 0 < 256
 
 pub record WordLaws : Type 0 where
-  pub back : (k n : ℕ) → little (bytesOf k n) ≡ n % 256 ^ k
-  pub forth : (bs : List ℕ) → Bytes bs → bytesOf (length bs) (little bs) ≡ bs
+  pub decode-encode : (k n : ℕ) → little (bytesOf k n) ≡ n % 256 ^ k
+  pub encode-decode : (bs : List ℕ) → Bytes bs → bytesOf (length bs) (little bs) ≡ bs
   pub below : (bs : List ℕ) → Bytes bs → little bs < 256 ^ length bs
   pub count : (k n : ℕ) → length (bytesOf k n) ≡ k
   pub bytes : (k n : ℕ) → Bytes (bytesOf k n)

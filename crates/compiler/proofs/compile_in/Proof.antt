@@ -1,7 +1,7 @@
 -- `compiler::compile_in` meets its contract: for an accepted text the code of its tree is written, and nothing for any other.
 use mathlib.Core.Path.{subst}
 use native.Mathlib.Omega.{arith}
-use Rattle.token_table.specs.Table.{Fills}
+use Rattle.token_table.specs.private.Table.{Fills}
 use Rattle.compiler.proofs.Answers.{all-read, all-held, wrong-token}
 use borrow.Author.Needs.{needs}
 use Rattle.compiler.proofs.compile_in.Statement.{statement}

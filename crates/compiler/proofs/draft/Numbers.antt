@@ -10,7 +10,7 @@ use Rattle.operators.specs.declared.BinaryOp.the-variants.{Power}
 use Rattle.operators.specs.Tables.{unaryOps, binaryOps, unaryNumber, binaryNumber}
 use Rattle.memory.specs.declared.Bank.the-variants.{X}
 use Rattle.memory.specs.Numbers.{banks, bankNumber}
-use Rattle.compiler.specs.Words.{bankAt, unaryAt, binaryAt}
+use Rattle.compiler.specs.private.Words.{bankAt, unaryAt, binaryAt}
 
 abbrev count : ℕ → ℕ → List ℕ
 count k zero = []

@@ -5,12 +5,12 @@ use mathlib.Core.List.{List}
 use Prim.Native.Nat.{ℕ, suc, _+_}
 use native.Mathlib.Omega.{arith}
 use Rattle.operators.specs.Kinds.{unaryKind, unaryTakes}
-use Rattle.token_table.specs.Table.{wordPlace, wordAt}
+use Rattle.token_table.specs.private.Table.{wordPlace, wordAt}
 use Rattle.grammar.specs.Tree.{unless, earlier}
 use Rattle.code.specs.declared.Instr.the-variants.{Unary}
-use Rattle.compiler.specs.Results.{Read, Done, isDone, readNext, readEnd, readKind, readWrong, readOf}
-use Rattle.compiler.specs.Words.{unaryAt, signOf}
-use Rattle.compiler.specs.Draft.{puts, Unaries, none, more}
+use Rattle.compiler.specs.private.Results.{Read, Done, isDone, readNext, readEnd, readKind, readWrong, readOf}
+use Rattle.compiler.specs.private.Words.{unaryAt, prefixNumber}
+use Rattle.compiler.specs.private.Draft.{putInstr, Unaries, none, more}
 use Rattle.compiler.proofs.results.Fields.{done-is, done-next}
 
 along : {s o a b : List ℕ} {first k : ℕ} {r x y : Read} → Unaries s first o r k a x → a ≡ b → x ≡ y → Unaries s first o r k b y
@@ -27,8 +27,8 @@ module _ {s o : List ℕ} {first r : ℕ} where
   signed-none d = record { done = d; end = refl; under = none }
 
   pub signed-more : {o′ o″ : List ℕ} {i k w r′ r″ : ℕ} → i ≡ suc k → Signed s first o r i o′ r′ → w ≡ wordAt s k
-      → readOf r″ ≡ Done (readNext r′) (readEnd r′ + 1) (unaryKind (unaryAt (signOf w)) (readKind r′)) (earlier (unless (unaryTakes (unaryAt (signOf w)) (readKind r′)) (wordPlace w)) (readWrong r′))
-      → o″ ≡ puts o′ (readEnd r′) (Unary (unaryAt (signOf w))) → Signed s first o r k o″ r″
+      → readOf r″ ≡ Done (readNext r′) (readEnd r′ + 1) (unaryKind (unaryAt (prefixNumber w)) (readKind r′)) (earlier (unless (unaryTakes (unaryAt (prefixNumber w)) (readKind r′)) (wordPlace w)) (readWrong r′))
+      → o″ ≡ putInstr o′ (readEnd r′) (Unary (unaryAt (prefixNumber w))) → Signed s first o r k o″ r″
   signed-more {o′} {r′ = r′} {r″} e x v p q =
       let u = subst (λ n. Unaries s first o (readOf r) n o′ (readOf r′)) e (x .under) in
       let f = done-next r″ p .1 in

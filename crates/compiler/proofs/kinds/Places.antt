@@ -6,9 +6,9 @@ use native.Mathlib.Nat.{min-comm, min-eq-left}
 use native.Mathlib.Omega.{arith}
 use lib.Dec.{ltb}
 use borrow.Author.Tests.{ltb-true, ltb-false, lt-ltb}
-use Rattle.token_table.specs.Table.{wordPlace}
+use Rattle.token_table.specs.private.Table.{wordPlace}
 use Rattle.grammar.specs.Tree.{Place, nowhere, at, earlier}
-use Rattle.compiler.specs.Results.{placed}
+use Rattle.compiler.specs.private.Results.{placed}
 
 pub earlier-first : (a b : ℕ) → a ≤ b → placed a ≡ earlier (placed a) (placed b)
 earlier-first a b h = go (ltb a 65536) (ltb b 65536) refl refl

@@ -10,9 +10,9 @@ use borrow.Author.Tests.{ne-eqb}
 use Rattle.values.specs.declared.Kind.{Kind}
 use Rattle.values.specs.declared.Kind.the-variants.{Int, Real}
 use Rattle.operators.specs.Kinds.{isInt, unaryKind, unaryTakes, binaryKind, binaryTakes}
-use Rattle.tree_code.specs.Code.{over}
-use Rattle.compiler.specs.Results.{kindIs}
-use Rattle.compiler.specs.Words.{unaryAt, binaryAt}
+use Rattle.tree_code.specs.Code.{branchTailSkip}
+use Rattle.compiler.specs.private.Results.{kindIs}
+use Rattle.compiler.specs.private.Words.{unaryAt, binaryAt}
 use Rattle.compiler.proofs.kinds.Ranges.{in-range, bits}
 
 -- ---- binary operators: the operator j has the rule f
@@ -46,5 +46,5 @@ int-test n = go (eqb n 0)
 pub ints-test : (a b : ℕ) → a < 2 → b < 2 → eqb (a + b) 0 ≡ (isInt (kindIs a) && isInt (kindIs b))
 ints-test = bits (λ a b. eqb (a + b) 0 ≡ (isInt (kindIs a) && isInt (kindIs b))) refl refl refl refl
 
-pub over-test : (a b : ℕ) → a < 2 → b < 2 → cond (eqb a b) 0 1 ≡ over (kindIs a) (kindIs b)
-over-test = bits (λ a b. cond (eqb a b) 0 1 ≡ over (kindIs a) (kindIs b)) refl refl refl refl
+pub over-test : (a b : ℕ) → a < 2 → b < 2 → cond (eqb a b) 0 1 ≡ branchTailSkip (kindIs a) (kindIs b)
+over-test = bits (λ a b. cond (eqb a b) 0 1 ≡ branchTailSkip (kindIs a) (kindIs b)) refl refl refl refl

@@ -7,13 +7,13 @@ use native.Mathlib.Omega.{arith}
 use borrow.Author.Tests.{eq-eqb}
 use Rattle.values.specs.declared.Kind.{Kind}
 use Rattle.tokens.specs.Scan.{Tok}
-use Rattle.token_table.specs.Table.{from}
+use Rattle.token_table.specs.private.Table.{tokensFrom}
 use Rattle.grammar.specs.Tree.{Tree, Place}
 use Rattle.grammar.specs.Symbols.{isSymbol}
 use Rattle.grammar.specs.Parse.{Result, ok, bad, deep, starved, andThen, expect, enter}
 use Rattle.grammar.proofs.Laws.{enter-some}
-use Rattle.compiler.specs.Results.{Read, Done, Bad, Deep, isDone}
-use Rattle.compiler.specs.Reading.{Means, Same, same-done, same-bad, same-deep, Span, span-done, span-bad, span-deep, and}
+use Rattle.compiler.specs.private.Results.{Read, Done, Bad, Deep, isDone}
+use Rattle.compiler.specs.private.Reading.{DraftHolds, SameResult, same-done, same-bad, same-deep, Span, span-done, span-bad, span-deep, thenSymbol}
 use Rattle.compiler.proofs.reader.Looking.{Splits, headIs, symbolAt}
 
 -- ---- a result that refuses
@@ -49,23 +49,23 @@ span-stopped at-deep (span-deep h) = span-deep h
 
 -- ---- what was read, and then more
 module _ {s : List ℕ} {pc pc′ : ℕ} {o o₁ o′ o₂ : List ℕ} where
-  pub bind-done : {j e : ℕ} {k : Kind} {w : Place} {r : Read} {q : Result Tree} (c : Tree → List Tok → Result Tree) → Same pc o o₁ s (Done j e k w) q → ((t : Tree) → Means pc o o₁ e k w t → Same pc′ o′ o₂ s r (c t (from s j)))
-      → Same pc′ o′ o₂ s r (andThen q c)
-  bind-done {r = r} c (same-done {t = t} m e) h = subst (λ (ts : List Tok). Same pc′ o′ o₂ s r (c t ts)) (sym e) (h t m)
+  pub bind-done : {j e : ℕ} {k : Kind} {w : Place} {r : Read} {q : Result Tree} (c : Tree → List Tok → Result Tree) → SameResult pc o o₁ s (Done j e k w) q → ((t : Tree) → DraftHolds pc o o₁ e k w t → SameResult pc′ o′ o₂ s r (c t (tokensFrom s j)))
+      → SameResult pc′ o′ o₂ s r (andThen q c)
+  bind-done {r = r} c (same-done {t = t} m e) h = subst (λ (ts : List Tok). SameResult pc′ o′ o₂ s r (c t ts)) (sym e) (h t m)
 
-  pub bind-stopped : {r : Read} {q : Result Tree} (c : Tree → List Tok → Result Tree) → Stopped r → Same pc o o₁ s r q → Same pc′ o′ o₂ s r (andThen q c)
+  pub bind-stopped : {r : Read} {q : Result Tree} (c : Tree → List Tok → Result Tree) → Stopped r → SameResult pc o o₁ s r q → SameResult pc′ o′ o₂ s r (andThen q c)
   bind-stopped c at-bad (same-bad e) = same-bad e
   bind-stopped c at-deep (same-deep e) = same-deep e
 
 -- ---- a symbol that was asked for
-pub expect-past : {X : Type 0} {s : List ℕ} {at n p : ℕ} (c : List Tok → Result X) → Splits s at (symbolAt n p) → expect n (from s at) c ≡ c (from s (at + 1))
+pub expect-past : {X : Type 0} {s : List ℕ} {at n p : ℕ} (c : List Tok → Result X) → Splits s at (symbolAt n p) → expect n (tokensFrom s at) c ≡ c (tokensFrom s (at + 1))
 expect-past {n = n} c h = rw (h .split, expect, eq-eqb n n refl) refl
 
 pub expect-other : {X : Type 0} (n : ℕ) (ts : List Tok) (c : List Tok → Result X) → headIs n ts ≡ false → expect n ts c ≡ bad ts
 expect-other n [] c e = refl
 expect-other n (x ∷ xs) c e = rw (expect, e) refl
 
-pub and-then : {X : Type 0} (n : ℕ) (q : Result Tree) (c : Tree → List Tok → Result X) → andThen (and n q) c ≡ andThen q (λ t r. expect n r (λ z. c t z))
+pub and-then : {X : Type 0} (n : ℕ) (q : Result Tree) (c : Tree → List Tok → Result X) → andThen (thenSymbol n q) c ≡ andThen q (λ t r. expect n r (λ z. c t z))
 and-then n (ok t []) c = refl
 and-then n (ok t (x ∷ xs)) c = go (isSymbol n (x .token))
   where
@@ -94,11 +94,11 @@ pub enter-then : {X Y : Type 0} (d n : ℕ) (ts : List Tok) (k : ℕ → List To
 enter-then zero n ts k c = expect-then n ts (λ r. deep ts) c
 enter-then (suc d) n ts k c = expect-then n ts (λ r. k d r) c
 
-pub enter-inside : {X : Type 0} {s : List ℕ} {at n p : ℕ} (d : ℕ) (k : ℕ → List Tok → Result X) → Splits s at (symbolAt n p) → (d ≡ 0 → ⊥) → enter d n (from s at) k ≡ k (d - 1) (from s (at + 1))
-enter-inside {s = s} {at = at} {n = n} d k h e = enter-some d n (from s at) k e ∙ expect-past (λ r. k (d - 1) r) h
+pub enter-inside : {X : Type 0} {s : List ℕ} {at n p : ℕ} (d : ℕ) (k : ℕ → List Tok → Result X) → Splits s at (symbolAt n p) → (d ≡ 0 → ⊥) → enter d n (tokensFrom s at) k ≡ k (d - 1) (tokensFrom s (at + 1))
+enter-inside {s = s} {at = at} {n = n} d k h e = enter-some d n (tokensFrom s at) k e ∙ expect-past (λ r. k (d - 1) r) h
 
-pub enter-full : {X : Type 0} {s : List ℕ} {at n p : ℕ} (d : ℕ) (k : ℕ → List Tok → Result X) → Splits s at (symbolAt n p) → d ≡ 0 → enter d n (from s at) k ≡ deep (from s at)
-enter-full {s = s} {at = at} zero k h e = expect-past (λ r. deep (from s at)) h
+pub enter-full : {X : Type 0} {s : List ℕ} {at n p : ℕ} (d : ℕ) (k : ℕ → List Tok → Result X) → Splits s at (symbolAt n p) → d ≡ 0 → enter d n (tokensFrom s at) k ≡ deep (tokensFrom s at)
+enter-full {s = s} {at = at} zero k h e = expect-past (λ r. deep (tokensFrom s at)) h
 enter-full (suc d) k h e = absurd (omega arith)
 
 pub enter-other : {X : Type 0} (d n : ℕ) (ts : List Tok) (k : ℕ → List Tok → Result X) → headIs n ts ≡ false → enter d n ts k ≡ bad ts

@@ -9,77 +9,77 @@ use Rattle.values.specs.declared.Kind.{Kind}
 use Rattle.values.specs.declared.Kind.the-variants as K
 use Rattle.operators.specs.Kinds.{join, unaryKind, unaryTakes, binaryKind, binaryTakes}
 use Rattle.tokens.specs.Scan.{Tok}
-use Rattle.token_table.specs.Table.{wordAt, from, Tokens}
+use Rattle.token_table.specs.private.Table.{wordAt, tokensFrom, TokenWords}
 use Rattle.grammar.specs.Tree.{Tree, unary, binary, choice, Place, earlier}
 use Rattle.grammar.specs.Symbols.{loosest, openParen, closeParen, comma, moreArguments, Arguments, one, more, argument, callTree}
 use Rattle.grammar.specs.Parse.{Result, ok, andThen, expression, arguments}
 use Rattle.code.specs.declared.Instr.the-variants.{Unary, Binary, JumpIf}
-use Rattle.tree_code.specs.Code.{tail}
-use Rattle.compiler.specs.Results.{Read, Done, readNext, readEnd, readKind, readWrong}
-use Rattle.compiler.specs.Words.{binaryAt, functionAt, functionOp, isMark}
-use Rattle.compiler.specs.Draft.{puts, chosenCode}
-use Rattle.compiler.specs.Reading.{Means, Same, same-done, Span, span-done, Reads, and, callOf, Branches}
+use Rattle.tree_code.specs.Code.{branchTail}
+use Rattle.compiler.specs.private.Results.{Read, Done, readNext, readEnd, readKind, readWrong}
+use Rattle.compiler.specs.private.Words.{binaryAt, functionAt, functionOp, isMark}
+use Rattle.compiler.specs.private.Draft.{putInstr, chosenCode}
+use Rattle.compiler.specs.private.Reading.{DraftHolds, SameResult, same-done, Span, span-done, ReaderAgrees, thenSymbol, callOf, Branches}
 use Rattle.compiler.proofs.reader.Looking.{There, there}
 use Rattle.compiler.proofs.reader.Binding.{Stopped, span-stopped, bind-done, bind-stopped, and-then, then-then, enter-inside}
 use Rattle.compiler.proofs.reader.Meaning.{means-unary, means-binary, means-choice}
 use Rattle.compiler.proofs.reader.Steps.{Enclosed, Bounds, bounds}
 
 -- ---- the parser's lists of arguments, put one behind another
-last-step : (f d : ℕ) (ts : List Tok) (K : Arguments → List Tok → Result Tree) → andThen (arguments (suc f) d 0 ts) K ≡ andThen (and closeParen (expression f d loosest ts)) (λ t q. K (one t) q)
+last-step : (f d : ℕ) (ts : List Tok) (K : Arguments → List Tok → Result Tree) → andThen (arguments (suc f) d 0 ts) K ≡ andThen (thenSymbol closeParen (expression f d loosest ts)) (λ t q. K (one t) q)
 unfolding arguments
 last-step f d ts K =
     ap (λ (z : Result Arguments). andThen z K) (sym (and-then closeParen (expression f d loosest ts) (λ t q. ok (one t) q)))
-    ∙ then-then (and closeParen (expression f d loosest ts)) (λ t q. ok (one t) q) K
+    ∙ then-then (thenSymbol closeParen (expression f d loosest ts)) (λ t q. ok (one t) q) K
 
 more-step : (f d m : ℕ) (ts : List Tok) (K : Arguments → List Tok → Result Tree)
-    → andThen (arguments (suc f) d (suc m) ts) K ≡ andThen (and comma (expression f d loosest ts)) (λ t q. andThen (arguments f d m q) (λ us z. K (more t us) z))
+    → andThen (arguments (suc f) d (suc m) ts) K ≡ andThen (thenSymbol comma (expression f d loosest ts)) (λ t q. andThen (arguments f d m q) (λ us z. K (more t us) z))
 unfolding arguments
 more-step f d m ts K =
     ap (λ (z : Result Arguments). andThen z K) (sym (and-then comma (expression f d loosest ts) (λ t q. andThen (arguments f d m q) (λ us z. ok (more t us) z))))
-    ∙ then-then (and comma (expression f d loosest ts)) (λ t q. andThen (arguments f d m q) (λ us z. ok (more t us) z)) K
-    ∙ ap (λ (k : Tree → List Tok → Result Tree). andThen (and comma (expression f d loosest ts)) k) (fun-ext (λ t. fun-ext (λ q. then-then (arguments f d m q) (λ us z. ok (more t us) z) K)))
+    ∙ then-then (thenSymbol comma (expression f d loosest ts)) (λ t q. andThen (arguments f d m q) (λ us z. ok (more t us) z)) K
+    ∙ ap (λ (k : Tree → List Tok → Result Tree). andThen (thenSymbol comma (expression f d loosest ts)) k) (fun-ext (λ t. fun-ext (λ q. then-then (arguments f d m q) (λ us z. ok (more t us) z) K)))
 
 -- ---- the last argument, and one with others behind it, each if it was read and if not
 module _ (d : ℕ) {s : List ℕ} {at pc pc′ : ℕ} {o o₁ o₂ o₃ : List ℕ} (K : Arguments → List Tok → Result Tree) where
-  last-stops : {r : Read} → Enclosed closeParen d s at pc′ o₁ o₂ r → Stopped r → (f : ℕ) → (length s - at) * 8 + 4 ≤ f → Same pc o o₃ s r (andThen (arguments f d 0 (from s at)) K)
+  last-stops : {r : Read} → Enclosed closeParen d s at pc′ o₁ o₂ r → Stopped r → (f : ℕ) → (length s - at) * 8 + 4 ≤ f → SameResult pc o o₃ s r (andThen (arguments f d 0 (tokensFrom s at)) K)
   last-stops x h zero le = absurd (omega arith)
-  last-stops x h (suc f) le = rw (last-step f d (from s at) K) (bind-stopped (λ t q. K (one t) q) h (x .same f (omega arith)))
+  last-stops x h (suc f) le = rw (last-step f d (tokensFrom s at) K) (bind-stopped (λ t q. K (one t) q) h (x .same f (omega arith)))
 
-  last-goes : {j e : ℕ} {k : Kind} {w : Place} {r : Read} → Enclosed closeParen d s at pc′ o₁ o₂ (Done j e k w) → ((t : Tree) → Means pc′ o₁ o₂ e k w t → Same pc o o₃ s r (K (one t) (from s j)))
-      → (f : ℕ) → (length s - at) * 8 + 4 ≤ f → Same pc o o₃ s r (andThen (arguments f d 0 (from s at)) K)
+  last-goes : {j e : ℕ} {k : Kind} {w : Place} {r : Read} → Enclosed closeParen d s at pc′ o₁ o₂ (Done j e k w) → ((t : Tree) → DraftHolds pc′ o₁ o₂ e k w t → SameResult pc o o₃ s r (K (one t) (tokensFrom s j)))
+      → (f : ℕ) → (length s - at) * 8 + 4 ≤ f → SameResult pc o o₃ s r (andThen (arguments f d 0 (tokensFrom s at)) K)
   last-goes x g zero le = absurd (omega arith)
-  last-goes x g (suc f) le = rw (last-step f d (from s at) K) (bind-done (λ t q. K (one t) q) (x .same f (omega arith)) g)
+  last-goes x g (suc f) le = rw (last-step f d (tokensFrom s at) K) (bind-done (λ t q. K (one t) q) (x .same f (omega arith)) g)
 
-  more-stops : (m : ℕ) {r : Read} → Enclosed comma d s at pc′ o₁ o₂ r → Stopped r → (f : ℕ) → (length s - at) * 8 + 4 ≤ f → Same pc o o₃ s r (andThen (arguments f d (suc m) (from s at)) K)
+  more-stops : (m : ℕ) {r : Read} → Enclosed comma d s at pc′ o₁ o₂ r → Stopped r → (f : ℕ) → (length s - at) * 8 + 4 ≤ f → SameResult pc o o₃ s r (andThen (arguments f d (suc m) (tokensFrom s at)) K)
   more-stops m x h zero le = absurd (omega arith)
   more-stops m x h (suc f) le =
-      rw (more-step f d m (from s at) K) (bind-stopped (λ t q. andThen (arguments f d m q) (λ us z. K (more t us) z)) h (x .same f (omega arith)))
+      rw (more-step f d m (tokensFrom s at) K) (bind-stopped (λ t q. andThen (arguments f d m q) (λ us z. K (more t us) z)) h (x .same f (omega arith)))
 
   more-goes : (m : ℕ) {j e : ℕ} {k : Kind} {w : Place} {r : Read} → Enclosed comma d s at pc′ o₁ o₂ (Done j e k w)
-      → ((t : Tree) → Means pc′ o₁ o₂ e k w t → (f : ℕ) → (length s - j) * 8 + 4 ≤ f → Same pc o o₃ s r (andThen (arguments f d m (from s j)) (λ us z. K (more t us) z)))
-      → (f : ℕ) → (length s - at) * 8 + 4 ≤ f → Same pc o o₃ s r (andThen (arguments f d (suc m) (from s at)) K)
+      → ((t : Tree) → DraftHolds pc′ o₁ o₂ e k w t → (f : ℕ) → (length s - j) * 8 + 4 ≤ f → SameResult pc o o₃ s r (andThen (arguments f d m (tokensFrom s j)) (λ us z. K (more t us) z)))
+      → (f : ℕ) → (length s - at) * 8 + 4 ≤ f → SameResult pc o o₃ s r (andThen (arguments f d (suc m) (tokensFrom s at)) K)
   more-goes m x g zero le = absurd (omega arith)
   more-goes m x g (suc f) le =
       let b = bounds (x .span) in
-      rw (more-step f d m (from s at) K)
+      rw (more-step f d m (tokensFrom s at) K)
       (bind-done (λ t q. andThen (arguments f d m q) (λ us z. K (more t us) z)) (x .same f (omega arith)) (λ t i. g t i f (omega arith)))
 
 -- ---- the call of the function f at p, from its parenthesis on
 abbrev pub Called : ℕ → ℕ → List ℕ → ℕ → ℕ → List ℕ → List ℕ → Read → Type 0
-Called f d s at pc o o′ r = (p : ℕ) → Reads (λ n ts. callOf (functionAt f) p d n ts) 0 s at pc o o′ r
+Called f d s at pc o o′ r = (p : ℕ) → ReaderAgrees (λ n ts. callOf (functionAt f) p d n ts) 0 s at pc o o′ r
 
 -- the arguments behind the parenthesis
 abbrev Arguing : ℕ → ℕ → ℕ → ℕ → List ℕ → ℕ → ℕ → List ℕ → List ℕ → Read → Type 0
-Arguing m f p d s at pc o o′ r = (n : ℕ) → (length s - at) * 8 + 4 ≤ n → Same pc o o′ s r (andThen (arguments n d m (from s at)) (λ us q. ok (callTree (functionAt f) p us) q))
+Arguing m f p d s at pc o o′ r = (n : ℕ) → (length s - at) * 8 + 4 ≤ n → SameResult pc o o′ s r (andThen (arguments n d m (tokensFrom s at)) (λ us q. ok (callTree (functionAt f) p us) q))
 
-inside : (f d m : ℕ) {s : List ℕ} {at pc : ℕ} {o o′ : List ℕ} {r : Read} → moreArguments (functionAt f) ≡ m → Tokens s → isMark openParen (wordAt s at) ≡ true → (d ≡ 0 → ⊥) → Span s at pc r
+inside : (f d m : ℕ) {s : List ℕ} {at pc : ℕ} {o o′ : List ℕ} {r : Read} → moreArguments (functionAt f) ≡ m → TokenWords s → isMark openParen (wordAt s at) ≡ true → (d ≡ 0 → ⊥) → Span s at pc r
     → ((p : ℕ) → Arguing m f p (d - 1) s (at + 1) pc o o′ r) → Called f d s at pc o o′ r
 inside f d m {s} {at} {pc} {o} {o′} {r} e t i z b x p = record { span = b; same = go }
   where
     h : There openParen s at
     h = there openParen s at t i
 
-    go : (n : ℕ) → (length s - at) * 8 + 0 ≤ n → Same pc o o′ s r (callOf (functionAt f) p d n (from s at))
+    go : (n : ℕ) → (length s - at) * 8 + 0 ≤ n → SameResult pc o o′ s r (callOf (functionAt f) p d n (tokensFrom s at))
     go n le =
         rw (enter-inside d (λ e q. andThen (arguments n e (moreArguments (functionAt f)) q) (λ us z. ok (callTree (functionAt f) p us) z)) (h .splits) z, e)
         (x p n (omega (arith, h .splits .within)))
@@ -125,18 +125,18 @@ more-some f l h = by (f - 6) (omega arith)
     by (suc (suc zero)) e = (1, ap (λ (g : ℕ). moreArguments (functionAt g)) e)
     by (suc (suc (suc i))) e = absurd (omega arith)
 
-module _ (f d : ℕ) {s : List ℕ} {at pc : ℕ} {o o₁ : List ℕ} (t : Tokens s) (i : isMark openParen (wordAt s at) ≡ true) (z : d ≡ 0 → ⊥) where
+module _ (f d : ℕ) {s : List ℕ} {at pc : ℕ} {o o₁ : List ℕ} (t : TokenWords s) (i : isMark openParen (wordAt s at) ≡ true) (z : d ≡ 0 → ⊥) where
   pub only-stopped : {r : Read} → f < 6 → Enclosed closeParen (d - 1) s (at + 1) pc o o₁ r → Stopped r → Called f d s at pc o o₁ r
   only-stopped h x stop = inside f d 0 (ones f h .none) t i z (span-stopped stop (x .span)) (λ p. last-stops (d - 1) (λ us q. ok (callTree (functionAt f) p us) q) x stop)
 
-  pub only-done : {o₂ : List ℕ} {j e : ℕ} {k : Kind} {w : Place} → f < 6 → Enclosed closeParen (d - 1) s (at + 1) pc o o₁ (Done j e k w) → o₂ ≡ puts o₁ e (Unary (functionOp f))
+  pub only-done : {o₂ : List ℕ} {j e : ℕ} {k : Kind} {w : Place} → f < 6 → Enclosed closeParen (d - 1) s (at + 1) pc o o₁ (Done j e k w) → o₂ ≡ putInstr o₁ e (Unary (functionOp f))
       → Called f d s at pc o o₂ (Done j (e + 1) (unaryKind (functionOp f) k) w)
   only-done {o₂} {j} {e} {k} {w} h x q = inside f d 0 (ones f h .none) t i z (reach (bounds (x .span))) (λ p. last-goes (d - 1) (λ us q. ok (callTree (functionAt f) p us) q) x (done p))
     where
       reach : Bounds s (at + 1) pc j e → Span s at pc (Done j (e + 1) (unaryKind (functionOp f) k) w)
       reach b = span-done {j = j} {e = e + 1} (omega arith) (b .within) (omega arith) (omega arith)
 
-      done : (p : ℕ) (u : Tree) → Means pc o o₁ e k w u → Same pc o o₂ s (Done j (e + 1) (unaryKind (functionOp f) k) w) (ok (callTree (functionAt f) p (one u)) (from s j))
+      done : (p : ℕ) (u : Tree) → DraftHolds pc o o₁ e k w u → SameResult pc o o₂ s (Done j (e + 1) (unaryKind (functionOp f) k) w) (ok (callTree (functionAt f) p (one u)) (tokensFrom s j))
       done p u m =
           let y = rw (ones f h .any k) at (means-unary m p (functionOp f) q) in
           rw (ones f h .tree p u) (same-done y refl)
@@ -152,7 +152,7 @@ module _ (f d : ℕ) {s : List ℕ} {at pc : ℕ} {o o₁ : List ℕ} (t : Token
         inside f d 1 (twos f l h .none) t i z (span-stopped stop (y .span))
         (λ p. more-goes (d - 1) (λ us q. ok (callTree (functionAt f) p us) q) 0 x (λ u m. last-stops (d - 1) (λ us q. ok (callTree (functionAt f) p (more u us)) q) y stop))
 
-    pub second-done : {o₂ o₃ : List ℕ} {j′ e′ : ℕ} {k′ : Kind} {w′ : Place} → 6 ≤ f → f < 8 → Enclosed closeParen (d - 1) s j e o₁ o₂ (Done j′ e′ k′ w′) → o₃ ≡ puts o₂ e′ (Binary (binaryAt (12 + f)))
+    pub second-done : {o₂ o₃ : List ℕ} {j′ e′ : ℕ} {k′ : Kind} {w′ : Place} → 6 ≤ f → f < 8 → Enclosed closeParen (d - 1) s j e o₁ o₂ (Done j′ e′ k′ w′) → o₃ ≡ putInstr o₂ e′ (Binary (binaryAt (12 + f)))
         → Called f d s at pc o o₃ (Done j′ (e′ + 1) (binaryKind (binaryAt (12 + f)) k k′) (earlier w w′))
     second-done {o₂} {o₃} {j′} {e′} {k′} {w′} l h y q =
         inside f d 1 (twos f l h .none) t i z (reach (bounds (x .span)) (bounds (y .span)))
@@ -161,8 +161,8 @@ module _ (f d : ℕ) {s : List ℕ} {at pc : ℕ} {o o₁ : List ℕ} (t : Token
         reach : Bounds s (at + 1) pc j e → Bounds s j e j′ e′ → Span s at pc (Done j′ (e′ + 1) (binaryKind (binaryAt (12 + f)) k k′) (earlier w w′))
         reach a b = span-done {j = j′} {e = e′ + 1} (omega arith) (b .within) (omega arith) (omega arith)
 
-        done : (p : ℕ) (u : Tree) → Means pc o o₁ e k w u → (v : Tree) → Means e o₁ o₂ e′ k′ w′ v
-            → Same pc o o₃ s (Done j′ (e′ + 1) (binaryKind (binaryAt (12 + f)) k k′) (earlier w w′)) (ok (callTree (functionAt f) p (more u (one v))) (from s j′))
+        done : (p : ℕ) (u : Tree) → DraftHolds pc o o₁ e k w u → (v : Tree) → DraftHolds e o₁ o₂ e′ k′ w′ v
+            → SameResult pc o o₃ s (Done j′ (e′ + 1) (binaryKind (binaryAt (12 + f)) k k′) (earlier w w′)) (ok (callTree (functionAt f) p (more u (one v))) (tokensFrom s j′))
         done p u m v n =
             let y = rw (twos f l h .any k k′) at (means-binary m p (binaryAt (12 + f)) n q) in
             rw (twos f l h .tree p u v) (same-done y refl)
@@ -171,7 +171,7 @@ module _ (f d : ℕ) {s : List ℕ} {at pc : ℕ} {o o₁ : List ℕ} (t : Token
   choice-reads {o₂} {r} c e x y =
       inside f d 2 (ap (λ (g : ℕ). moreArguments (functionAt g)) e) t i z (reach (bounds (x .span)))
       (λ p. more-goes (d - 1) (λ us q. ok (callTree (functionAt f) p us) q) 1 x
-      (λ u m n le. subst (λ (g : ℕ). Same pc o o₂ s r (andThen (arguments n (d - 1) 1 (from s (readNext c))) (λ us q. ok (callTree (functionAt g) p (more u us)) q))) (sym e) (y .same pc o u m p n le)))
+      (λ u m n le. subst (λ (g : ℕ). SameResult pc o o₂ s r (andThen (arguments n (d - 1) 1 (tokensFrom s (readNext c))) (λ us q. ok (callTree (functionAt g) p (more u us)) q))) (sym e) (y .same pc o u m p n le)))
     where
       reach : Bounds s (at + 1) pc (readNext c) (readEnd c) → Span s at pc r
       reach b = y .span at pc (omega arith) (b .rises) (omega arith)
@@ -191,20 +191,20 @@ module _ (d c : ℕ) {s : List ℕ} {o o₁ : List ℕ} where
       same = λ pc o₀ t m p. more-goes d (λ us q. ok (choice p t (argument 0 us) (argument 1 us)) q) 0 x (λ u n. last-stops d (λ us q. ok (choice p t u (argument 0 us)) q) y stop);
     }
 
-    pub other-done : {o₄ : List ℕ} {j′ e′ : ℕ} {k′ : Kind} {w′ : Place} → o₂ ≡ puts o₁ (readEnd c) (JumpIf false (e - readEnd c)) → Enclosed closeParen d s j (e + 1) o₂ o₃ (Done j′ e′ k′ w′) → o₄ ≡ chosenCode o₃ e e′ k k′
-        → Branches d s c o o₄ (Done j′ (e′ + length (tail k k′)) (join k k′) (earlier (readWrong c) (earlier w w′)))
+    pub other-done : {o₄ : List ℕ} {j′ e′ : ℕ} {k′ : Kind} {w′ : Place} → o₂ ≡ putInstr o₁ (readEnd c) (JumpIf false (e - readEnd c)) → Enclosed closeParen d s j (e + 1) o₂ o₃ (Done j′ e′ k′ w′) → o₄ ≡ chosenCode o₃ e e′ k k′
+        → Branches d s c o o₄ (Done j′ (e′ + length (branchTail k k′)) (join k k′) (earlier (readWrong c) (earlier w w′)))
     other-done {o₄} {j′} {e′} {k′} {w′} q y v = record {
       span = λ at pc a b l. reach at pc a b l (bounds (x .span)) (bounds (y .span));
       same = λ pc o₀ t m p. more-goes d (λ us q. ok (choice p t (argument 0 us) (argument 1 us)) q) 0 x
           (λ u n. last-goes d (λ us q. ok (choice p t u (argument 0 us)) q) y (λ a i. same-done (means-choice p m n q i v) refl));
     }
       where
-        short : (a b : Kind) → length (tail a b) ≤ 2
+        short : (a b : Kind) → length (branchTail a b) ≤ 2
         short K.Int K.Int = omega arith
         short K.Int K.Real = omega arith
         short K.Real K.Int = omega arith
         short K.Real K.Real = omega arith
 
         reach : (at pc : ℕ) → at ≤ readNext c → pc ≤ readEnd c → readEnd c + 8 * at + 8 ≤ pc + 8 * readNext c → Bounds s (readNext c) (readEnd c + 1) j e → Bounds s j (e + 1) j′ e′
-            → Span s at pc (Done j′ (e′ + length (tail k k′)) (join k k′) (earlier (readWrong c) (earlier w w′)))
-        reach at pc g h l a b = span-done {j = j′} {e = e′ + length (tail k k′)} (omega arith) (b .within) (omega arith) (omega (arith, short k k′))
+            → Span s at pc (Done j′ (e′ + length (branchTail k k′)) (join k k′) (earlier (readWrong c) (earlier w w′)))
+        reach at pc g h l a b = span-done {j = j′} {e = e′ + length (branchTail k k′)} (omega arith) (b .within) (omega arith) (omega (arith, short k k′))

@@ -21,16 +21,16 @@ use Rattle.tokens.specs.declared.Function.the-variants.{Abs, ToReal, ToInt, Tru
 use Rattle.tokens.specs.declared.Token.{Token}
 use Rattle.tokens.specs.declared.Token.the-variants.{Number, Cell, Letter, Name, Symbol}
 use Rattle.tokens.specs.Scan.{Tok}
-use Rattle.token_table.specs.Table.{fields, packed, functionNumber, classOf, operandOf, numberOf, wordPlace, entryOf, wordAt, from, Sound, Word, blank, token, Tokens}
-use Rattle.token_table.specs.Table as Sound
+use Rattle.token_table.specs.private.Table.{packFields, packToken, functionNumber, wordClass, wordOperand, wordNumber, wordPlace, entryOf, wordAt, tokensFrom, Sound, TokenWord, blank, token, TokenWords}
+use Rattle.token_table.specs.private.Table as Sound
 use Rattle.token_table.proofs.Laws.{tok, tokenClass, tokenOperand, tokenNumber, class-packed, operand-packed, number-packed, place-packed, unpacked, blank-end, from-is, from-end}
 use Rattle.grammar.specs.Tree.{Tree, literal, cell, nowhere, treeKind, wrongKind}
 use Rattle.grammar.specs.Symbols.{groups, groupNumber, group, isSymbol, Prefix, is, none, prefixOf}
 use Rattle.grammar.specs.Parse.{ok, binds, primary}
 use Rattle.tree_code.specs.Code.{codeOf}
-use Rattle.compiler.specs.Words.{unaryAt, bankAt, functionAt, isMark, signOf, groupIn, placeAt}
-use Rattle.compiler.specs.Draft.{put}
-use Rattle.compiler.specs.Reading.{Means}
+use Rattle.compiler.specs.private.Words.{unaryAt, bankAt, functionAt, isMark, prefixNumber, groupIn, placeAt}
+use Rattle.compiler.specs.private.Draft.{putCode}
+use Rattle.compiler.specs.private.Reading.{DraftHolds}
 
 -- what comes next
 abbrev pub headIs : ℕ → List Tok → Bool
@@ -43,25 +43,25 @@ symbolAt n p = record { token = Symbol n; place = p }
 -- the tokens from a position on begin with this one
 pub record Splits (s : List ℕ) (at : ℕ) (x : Tok) : Type 0 where
   pub within : at < length s
-  pub split : from s at ≡ x ∷ from s (at + 1)
+  pub split : tokensFrom s at ≡ x ∷ tokensFrom s (at + 1)
 
 -- ---- no token, or one that a text can have
 pub data Look (s : List ℕ) (at : ℕ) : ℕ → Type 0 where
-  nothing : from s at ≡ [] → Look s at 0
-  stands : {t : Token} {p : ℕ} → Sound t → p < 65536 → Splits s at (tok t p) → Look s at (packed t p)
+  nothing : tokensFrom s at ≡ [] → Look s at 0
+  stands : {t : Token} {p : ℕ} → Sound t → p < 65536 → Splits s at (tok t p) → Look s at (packToken t p)
 
-pub look : {s : List ℕ} {at w : ℕ} → Tokens s → w ≡ wordAt s at → Look s at w
-look {s} {at} {w} h e = go w e (subst Word (sym e) (h at))
+pub look : {s : List ℕ} {at w : ℕ} → TokenWords s → w ≡ wordAt s at → Look s at w
+look {s} {at} {w} h e = go w e (subst TokenWord (sym e) (h at))
   where
-    go : (w : ℕ) → w ≡ wordAt s at → Word w → Look s at w
+    go : (w : ℕ) → w ≡ wordAt s at → TokenWord w → Look s at w
     go _ e blank = nothing (from-end s at (ap entryOf (sym e) ∙ blank-end))
     go _ e (token t p k lt) =
         let h = from-is s at (ap entryOf (sym e) ∙ unpacked k p lt) in
         let next : suc at ≡ at + 1 = omega arith in
-        stands k lt (record { within = h .0; split = h .1 ∙ ap (λ (i : ℕ). tok t p ∷ from s i) next })
+        stands k lt (record { within = h .0; split = h .1 ∙ ap (λ (i : ℕ). tok t p ∷ tokensFrom s i) next })
 
 -- ---- a symbol that is asked for
-low-half : (w : ℕ) → w % 65536 ≡ classOf w + 256 * operandOf w
+low-half : (w : ℕ) → w % 65536 ≡ wordClass w + 256 * wordOperand w
 low-half w = omega arith
 
 same-mark : (m n : ℕ) → eqb (6 + 256 * m) (6 + 256 * n) ≡ eqb m n
@@ -74,8 +74,8 @@ same-mark m n = by (eqb m n) refl
 other-mark : (c x n : ℕ) → c < 256 → (c ≡ 6 → ⊥) → eqb (c + 256 * x) (6 + 256 * n) ≡ false
 other-mark c x n h k = ne-eqb (c + 256 * x) (6 + 256 * n) (λ e. k (omega arith))
 
-mark-token : {t : Token} {p : ℕ} → Sound t → p < 65536 → (n : ℕ) → isMark n (packed t p) ≡ isSymbol n t
-mark-token {t} {p} k lt n = rw (low-half (packed t p), class-packed k p lt, operand-packed k p lt) (by k)
+mark-token : {t : Token} {p : ℕ} → Sound t → p < 65536 → (n : ℕ) → isMark n (packToken t p) ≡ isSymbol n t
+mark-token {t} {p} k lt n = rw (low-half (packToken t p), class-packed k p lt, operand-packed k p lt) (by k)
   where
     by : {t : Token} → Sound t → eqb (tokenClass t + 256 * tokenOperand t) (6 + 256 * n) ≡ isSymbol n t
     by (Sound.int z h) = other-mark 1 0 n (lit< tt) (λ e. omega arith)
@@ -85,7 +85,7 @@ mark-token {t} {p} k lt n = rw (low-half (packed t p), class-packed k p lt, oper
     by (Sound.name f) = other-mark 5 (functionNumber f) n (lit< tt) (λ e. omega arith)
     by (Sound.symbol m h) = same-mark m n
 
-pub mark : {s : List ℕ} {at w : ℕ} → Look s at w → (n : ℕ) → isMark n w ≡ headIs n (from s at)
+pub mark : {s : List ℕ} {at w : ℕ} → Look s at w → (n : ℕ) → isMark n w ≡ headIs n (tokensFrom s at)
 mark (nothing e) n = ne-eqb 0 (6 + 256 * n) (λ q. omega arith) ∙ ap (headIs n) (sym e)
 mark (stands k lt h) n = mark-token k lt n ∙ ap (headIs n) (sym (h .split))
 
@@ -94,7 +94,7 @@ pub record There (n : ℕ) (s : List ℕ) (at : ℕ) : Type 0 where
   pub splits : Splits s at (symbolAt n place)
 
 -- a symbol that was asked for is there
-pub there : (n : ℕ) (s : List ℕ) (at : ℕ) → Tokens s → isMark n (wordAt s at) ≡ true → There n s at
+pub there : (n : ℕ) (s : List ℕ) (at : ℕ) → TokenWords s → isMark n (wordAt s at) ≡ true → There n s at
 there n s at t m = go (look {s = s} {at = at} t refl) m
   where
     asked : {t : Token} {p : ℕ} → Sound t → Splits s at (tok t p) → isSymbol n t ≡ true → There n s at
@@ -122,7 +122,7 @@ pub record Signed (s : List ℕ) (at : ℕ) (o : UnaryOp) (p : ℕ) : Type 0 whe
 abbrev signed : Bool → Bool → Bool → ℕ
 signed a b c = cond a 0 (cond b 1 (cond c 2 3))
 
-sign-token : {t : Token} {p : ℕ} → Sound t → p < 65536 → signOf (packed t p) ≡ signed (isSymbol 5 t) (isSymbol 20 t) (isSymbol 21 t)
+sign-token : {t : Token} {p : ℕ} → Sound t → p < 65536 → prefixNumber (packToken t p) ≡ signed (isSymbol 5 t) (isSymbol 20 t) (isSymbol 21 t)
 sign-token k lt = rw (mark-token k lt 5, mark-token k lt 20, mark-token k lt 21)
 
 by-sign : (t : Token) → prefixOf t ≡ cond (isSymbol 5 t) (is U.Neg) (cond (isSymbol 20 t) (is U.Complement) (cond (isSymbol 21 t) (is U.Not) none))
@@ -144,13 +144,13 @@ no-sign false true c h = absurd (omega arith)
 no-sign false false true h = absurd (omega arith)
 no-sign false false false h = refl
 
-pub sign-there : {s : List ℕ} {at w : ℕ} → Look s at w → signOf w < 3 → Signed s at (unaryAt (signOf w)) (wordPlace w)
+pub sign-there : {s : List ℕ} {at w : ℕ} → Look s at w → prefixNumber w < 3 → Signed s at (unaryAt (prefixNumber w)) (wordPlace w)
 sign-there (nothing e) h = absurd (omega arith)
 sign-there (stands {t} {p} k lt x) h =
     let e = sign-token k lt in
     rw (place-packed k p lt, e) (record { symbol = t; splits = x; sign = by-sign t ∙ some-sign (isSymbol 5 t) (isSymbol 20 t) (isSymbol 21 t) (rw e at h) })
 
-pub sign-none : {s : List ℕ} {at w : ℕ} → Look s at w → signOf w ≡ 3 → headSign (from s at) ≡ none
+pub sign-none : {s : List ℕ} {at w : ℕ} → Look s at w → prefixNumber w ≡ 3 → headSign (tokensFrom s at) ≡ none
 sign-none (nothing e) h = ap headSign e
 sign-none (stands {t} k lt x) h =
     ap headSign (x .split) ∙ by-sign t ∙ no-sign (isSymbol 5 t) (isSymbol 20 t) (isSymbol 21 t) (rw (sign-token k lt) at h)
@@ -178,7 +178,7 @@ few-groups n h z = by (ltb n 20) refl
     by true e = ltb-true n 20 e
     by false e = absurd (z (late (ltb-false n 20 e)))
 
-group-token : {t : Token} {p : ℕ} → Sound t → p < 65536 → groupIn (packed t p) ≡ group t
+group-token : {t : Token} {p : ℕ} → Sound t → p < 65536 → groupIn (packToken t p) ≡ group t
 group-token {t} {p} k lt = rw (class-packed k p lt, operand-packed k p lt) (by k)
   where
     by : {t : Token} → Sound t → cond (eqb (tokenClass t) 6) (groupNumber (tokenOperand t)) 0 ≡ group t
@@ -189,7 +189,7 @@ group-token {t} {p} k lt = rw (class-packed k p lt, operand-packed k p lt) (by k
     by (Sound.name f) = refl
     by (Sound.symbol m h) = refl
 
-pub operator-there : {s : List ℕ} {at w : ℕ} → Look s at w → (groupIn w ≡ 0 → ⊥) → Operator s at (operandOf w) (wordPlace w) (groupIn w)
+pub operator-there : {s : List ℕ} {at w : ℕ} → Look s at w → (groupIn w ≡ 0 → ⊥) → Operator s at (wordOperand w) (wordPlace w) (groupIn w)
 operator-there (nothing e) z = absurd (z refl)
 operator-there {s} {at} (stands {t} {p} k lt x) z = rw (group-token k lt, operand-packed k p lt, place-packed k p lt) (by k x (λ e. z (group-token k lt ∙ e)))
   where
@@ -201,11 +201,11 @@ operator-there {s} {at} (stands {t} {p} k lt x) z = rw (group-token k lt, operan
     by (Sound.name f) x n = absurd (n refl)
     by (Sound.symbol m h) x n = record { splits = x; few = few-groups m h n; group = refl }
 
-pub no-operator : {s : List ℕ} {at w : ℕ} (l : ℕ) → Look s at w → groupIn w ≡ 0 → headBinds l (from s at) ≡ false
+pub no-operator : {s : List ℕ} {at w : ℕ} (l : ℕ) → Look s at w → groupIn w ≡ 0 → headBinds l (tokensFrom s at) ≡ false
 no-operator l (nothing e) z = ap (headBinds l) e
 no-operator l (stands k lt x) z = ap (headBinds l) (x .split) ∙ rw (sym (group-token k lt) ∙ z)
 
-pub loose-operator : {s : List ℕ} {at w : ℕ} (l : ℕ) → Look s at w → (groupIn w ≡ 0 → ⊥) → l < groupIn w → headBinds l (from s at) ≡ false
+pub loose-operator : {s : List ℕ} {at w : ℕ} (l : ℕ) → Look s at w → (groupIn w ≡ 0 → ⊥) → l < groupIn w → headBinds l (tokensFrom s at) ≡ false
 loose-operator l (nothing e) z h = ap (headBinds l) e
 loose-operator l (stands {t} k lt x) z h =
     let e = group-token k lt in
@@ -241,18 +241,18 @@ pub record Leaf (s : List ℕ) (at c n x p : ℕ) : Type 0 where
   pub few : n < 6
   pub tree : Tree
   pub reads : (f d : ℕ) (xs : List Tok) → primary (suc f) d (tok token p) xs ≡ ok tree xs
-  pub means : (pc : ℕ) (o : List ℕ) → Means pc o (set o pc (fields c n x 0)) (pc + 1) (cond (eqb c 1) Int (cond (eqb c 2) Real (bankKind (bankAt n)))) nowhere tree
+  pub means : (pc : ℕ) (o : List ℕ) → DraftHolds pc o (set o pc (packFields c n x 0)) (pc + 1) (cond (eqb c 1) Int (cond (eqb c 2) Real (bankKind (bankAt n)))) nowhere tree
 
 -- what stands there, sorted by the class
 pub data Primary (s : List ℕ) (at n x p : ℕ) : ℕ → Type 0 where
-  end : from s at ≡ [] → Primary s at n x p 0
+  end : tokensFrom s at ≡ [] → Primary s at n x p 0
   leaf : {c : ℕ} → c < 4 → (c ≡ 0 → ⊥) → Leaf s at c n x p → Primary s at n x p c
   letter : n < 6 → Splits s at (tok (Letter (bankAt n)) p) → Primary s at n x p 4
   name : n < 9 → Splits s at (tok (Name (functionAt n)) p) → Primary s at n x p 5
   symbol : Splits s at (tok (Symbol n) p) → Primary s at n x p 6
 
 sorted : {s : List ℕ} {at p : ℕ} {t : Token} → Sound t → Splits s at (tok t p) → Primary s at (tokenOperand t) (tokenNumber t) p (tokenClass t)
-unfolding codeOf treeKind wrongKind primary put
+unfolding codeOf treeKind wrongKind primary putCode
 sorted {p = p} (Sound.int z h) x =
     leaf {c = 1} (lit< tt) (λ e. omega arith) (record { token = Number (Value.Int z); splits = x; plain = refl; few = lit< tt; tree = literal p (Value.Int z); reads = λ f d xs. refl; means = λ pc o. record { kind = refl; wrong = refl; ends = refl; code = refl } })
 sorted {p = p} (Sound.real y h) x =
@@ -268,19 +268,19 @@ sorted {s} {at} {p} (Sound.name f) x =
     name few (subst (λ (f : Function). Splits s at (tok (Name f) p)) (sym e) x)
 sorted (Sound.symbol m h) x = symbol x
 
-pub primary-there : {s : List ℕ} {at w : ℕ} → Look s at w → Primary s at (operandOf w) (numberOf w) (wordPlace w) (classOf w)
+pub primary-there : {s : List ℕ} {at w : ℕ} → Look s at w → Primary s at (wordOperand w) (wordNumber w) (wordPlace w) (wordClass w)
 primary-there (nothing e) = end e
 primary-there (stands {t} {p} k lt x) = rw (class-packed k p lt, operand-packed k p lt, number-packed k p lt, place-packed k p lt) (sorted k x)
 
 -- as the code has the operand and the class
-pub primary-as : {s : List ℕ} {at w n c : ℕ} → Look s at w → n ≡ operandOf w → c ≡ classOf w → Primary s at n (numberOf w) (wordPlace w) c
-primary-as {s} {at} {w} {n} h a b = rw b (subst (λ (m : ℕ). Primary s at m (numberOf w) (wordPlace w) (classOf w)) (sym a) (primary-there h))
+pub primary-as : {s : List ℕ} {at w n c : ℕ} → Look s at w → n ≡ wordOperand w → c ≡ wordClass w → Primary s at n (wordNumber w) (wordPlace w) c
+primary-as {s} {at} {w} {n} h a b = rw b (subst (λ (m : ℕ). Primary s at m (wordNumber w) (wordPlace w) (wordClass w)) (sym a) (primary-there h))
 
 module _ {s : List ℕ} {at n x p c : ℕ} (h : Primary s at n x p c) where
-  pub at-end : c ≡ 0 → from s at ≡ []
+  pub at-end : c ≡ 0 → tokensFrom s at ≡ []
   at-end e = go (subst (Primary s at n x p) e h)
     where
-      go : Primary s at n x p 0 → from s at ≡ []
+      go : Primary s at n x p 0 → tokensFrom s at ≡ []
       go (end z) = z
       go (leaf l k z) = absurd (k refl)
 
@@ -329,7 +329,7 @@ abbrev pub placeIn : ℕ → List Tok → ℕ
 placeIn size [] = size
 placeIn size (x ∷ xs) = x .place
 
-pub place-there : {s : List ℕ} {at w : ℕ} (size : ℕ) → Look s at w → placeAt size w ≡ placeIn size (from s at)
+pub place-there : {s : List ℕ} {at w : ℕ} (size : ℕ) → Look s at w → placeAt size w ≡ placeIn size (tokensFrom s at)
 place-there size (nothing e) = ap (placeIn size) (sym e)
 place-there size (stands {t} {p} k lt x) = rw (class-packed k p lt, place-packed k p lt) (by k ∙ ap (placeIn size) (sym (x .split)))
   where
@@ -342,9 +342,9 @@ place-there size (stands {t} {p} k lt x) = rw (class-packed k p lt, place-packed
     by (Sound.symbol m h) = refl
 
 -- a token comes next, or none
-pub some-there : {s : List ℕ} {at w : ℕ} → Look s at w → (classOf w ≡ 0 → ⊥) → (t : Token) × Splits s at (tok t (wordPlace w))
+pub some-there : {s : List ℕ} {at w : ℕ} → Look s at w → (wordClass w ≡ 0 → ⊥) → (t : Token) × Splits s at (tok t (wordPlace w))
 some-there (nothing e) z = absurd (z refl)
 some-there (stands {t} {p} k lt x) z = (t, rw (place-packed k p lt) x)
 
-pub none-there : {s : List ℕ} {at w : ℕ} → Look s at w → classOf w ≡ 0 → from s at ≡ []
+pub none-there : {s : List ℕ} {at w : ℕ} → Look s at w → wordClass w ≡ 0 → tokensFrom s at ≡ []
 none-there h z = at-end (primary-there h) z

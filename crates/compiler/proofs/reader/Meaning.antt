@@ -19,67 +19,67 @@ use Rattle.grammar.specs.Tree.{Tree, indexed, unary, binary, logic, choice, tre
 use Rattle.grammar.specs.Symbols.{infixTree}
 use Rattle.code.specs.declared.Instr.{Instr}
 use Rattle.code.specs.declared.Instr.the-variants.{LoadIndexed, Unary, Binary, Jump, JumpIf}
-use Rattle.tree_code.specs.Code.{codeOf, settled, over, tail}
-use Rattle.compiler.specs.Words.{binaryAt}
-use Rattle.compiler.specs.Draft.{puts, put, reserved, settledCode, joinedCode, joinedEnd, infixKind, infixWrong, chosenCode}
-use Rattle.compiler.specs.Reading.{Means}
+use Rattle.tree_code.specs.Code.{codeOf, truthTail, branchTailSkip, branchTail}
+use Rattle.compiler.specs.private.Words.{binaryAt}
+use Rattle.compiler.specs.private.Draft.{putInstr, putCode, reserved, settledCode, joinedCode, joinedEnd, infixKind, infixWrong, chosenCode}
+use Rattle.compiler.specs.private.Reading.{DraftHolds}
 use Rattle.compiler.proofs.Putting.{Lies, lies-add, lies-then, lies-filled}
 
-lies : {pc : ℕ} {o o′ : List ℕ} {e : ℕ} {k : Kind} {w : Place} {t : Tree} → Means pc o o′ e k w t → Lies (codeOf t) pc e o o′
+lies : {pc : ℕ} {o o′ : List ℕ} {e : ℕ} {k : Kind} {w : Place} {t : Tree} → DraftHolds pc o o′ e k w t → Lies (codeOf t) pc e o o′
 lies m = record { ends = m .ends; code = m .code }
 
-made : {pc : ℕ} {o o′ : List ℕ} {e : ℕ} {k : Kind} {w : Place} {t : Tree} → treeKind t ≡ k → wrongKind t ≡ w → Lies (codeOf t) pc e o o′ → Means pc o o′ e k w t
+made : {pc : ℕ} {o o′ : List ℕ} {e : ℕ} {k : Kind} {w : Place} {t : Tree} → treeKind t ≡ k → wrongKind t ≡ w → Lies (codeOf t) pc e o o′ → DraftHolds pc o o′ e k w t
 made k w l = record { kind = k; wrong = w; ends = l .ends; code = l .code }
 
 -- ---- one instruction more
-module _ {pc : ℕ} {o o₁ o₂ : List ℕ} {e : ℕ} {k : Kind} {w : Place} {t : Tree} (m : Means pc o o₁ e k w t) where
-  pub means-indexed : (b : Bank) → o₂ ≡ puts o₁ e (LoadIndexed b) → Means pc o o₂ (e + 1) (bankKind b) w (indexed b t)
+module _ {pc : ℕ} {o o₁ o₂ : List ℕ} {e : ℕ} {k : Kind} {w : Place} {t : Tree} (m : DraftHolds pc o o₁ e k w t) where
+  pub means-indexed : (b : Bank) → o₂ ≡ putInstr o₁ e (LoadIndexed b) → DraftHolds pc o o₂ (e + 1) (bankKind b) w (indexed b t)
   unfolding codeOf treeKind wrongKind
   means-indexed b q = made refl (m .wrong) (lies-then (lies m) (lies-add (LoadIndexed b) q))
 
-  pub means-unary : (p : ℕ) (a : UnaryOp) → o₂ ≡ puts o₁ e (Unary a) → Means pc o o₂ (e + 1) (unaryKind a k) (earlier (unless (unaryTakes a k) p) w) (unary p a t)
+  pub means-unary : (p : ℕ) (a : UnaryOp) → o₂ ≡ putInstr o₁ e (Unary a) → DraftHolds pc o o₂ (e + 1) (unaryKind a k) (earlier (unless (unaryTakes a k) p) w) (unary p a t)
   unfolding codeOf treeKind wrongKind
   means-unary p a q =
       made (ap (unaryKind a) (m .kind)) (ap₂ (λ (x : Kind) (y : Place). earlier (unless (unaryTakes a x) p) y) (m .kind) (m .wrong)) (lies-then (lies m) (lies-add (Unary a) q))
 
 -- ---- two sides
-module _ {pc : ℕ} {o o₁ o₂ o₃ : List ℕ} {e e′ : ℕ} {k k′ : Kind} {w w′ : Place} {t u : Tree} (m : Means pc o o₁ e k w t) where
-  pub means-binary : (p : ℕ) (a : BinaryOp) → Means e o₁ o₂ e′ k′ w′ u → o₃ ≡ puts o₂ e′ (Binary a)
-      → Means pc o o₃ (e′ + 1) (binaryKind a k k′) (earlier (unless (binaryTakes a k k′) p) (earlier w w′)) (binary p a t u)
+module _ {pc : ℕ} {o o₁ o₂ o₃ : List ℕ} {e e′ : ℕ} {k k′ : Kind} {w w′ : Place} {t u : Tree} (m : DraftHolds pc o o₁ e k w t) where
+  pub means-binary : (p : ℕ) (a : BinaryOp) → DraftHolds e o₁ o₂ e′ k′ w′ u → o₃ ≡ putInstr o₂ e′ (Binary a)
+      → DraftHolds pc o o₃ (e′ + 1) (binaryKind a k k′) (earlier (unless (binaryTakes a k k′) p) (earlier w w′)) (binary p a t u)
   unfolding codeOf treeKind wrongKind
   means-binary p a n q =
       made (ap₂ (binaryKind a) (m .kind) (n .kind))
       (ap₂ earlier (ap₂ (λ (x : Kind) (y : Kind). unless (binaryTakes a x y) p) (m .kind) (n .kind)) (ap₂ earlier (m .wrong) (n .wrong)))
       (lies-then (lies m) (lies-then (lies n) (lies-add (Binary a) q)))
 
-  means-logic : (p : ℕ) (d : Bool) → Means (suc e) o₁ o₂ e′ k′ w′ u → o₃ ≡ settledCode o₂ e e′ d → Means pc o o₃ (e′ + 4) K.Int (earlier w w′) (logic p d t u)
+  means-logic : (p : ℕ) (d : Bool) → DraftHolds (suc e) o₁ o₂ e′ k′ w′ u → o₃ ≡ settledCode o₂ e e′ d → DraftHolds pc o o₃ (e′ + 4) K.Int (earlier w w′) (logic p d t u)
   unfolding codeOf treeKind wrongKind
   means-logic p d n q =
       let c : e′ - suc e ≡ length (codeOf u) = omega (arith, n .ends) in
-      let b : Lies (settled d) e′ (e′ + 4) (puts o₂ e (JumpIf d (length (codeOf u) + 3))) o₃ = record { ends = refl; code = q ∙ ap (λ x. put (puts o₂ e (JumpIf d (x + 3))) e′ (settled d)) c } in
+      let b : Lies (truthTail d) e′ (e′ + 4) (putInstr o₂ e (JumpIf d (length (codeOf u) + 3))) o₃ = record { ends = refl; code = q ∙ ap (λ x. putCode (putInstr o₂ e (JumpIf d (x + 3))) e′ (truthTail d)) c } in
       made refl (ap₂ earlier (m .wrong) (n .wrong)) (lies-then (lies m) (lies-then (lies-filled (JumpIf d (length (codeOf u) + 3)) (lies n) refl) b))
 
-  pub means-infix : (n p : ℕ) → Means (e + reserved n) o₁ o₂ e′ k′ w′ u → o₃ ≡ joinedCode o₂ n e e′
-      → Means pc o o₃ (joinedEnd n e′) (infixKind n k k′) (earlier (infixWrong n p k k′) (earlier w w′)) (infixTree n p t u)
+  pub means-infix : (n p : ℕ) → DraftHolds (e + reserved n) o₁ o₂ e′ k′ w′ u → o₃ ≡ joinedCode o₂ n e e′
+      → DraftHolds pc o o₃ (joinedEnd n e′) (infixKind n k k′) (earlier (infixWrong n p k k′) (earlier w w′)) (infixTree n p t u)
   means-infix n p = by (ltb n 18)
     where
       op : BinaryOp
       op = binaryAt n
 
-      by : (b : Bool) → Means (e + cond b 0 1) o₁ o₂ e′ k′ w′ u → o₃ ≡ cond b (puts o₂ e′ (Binary op)) (settledCode o₂ e e′ (eqb n 19))
-          → Means pc o o₃ (e′ + cond b 1 4) (cond b (binaryKind op k k′) K.Int) (earlier (cond b (unless (binaryTakes op k k′) p) nowhere) (earlier w w′)) (cond b (binary p op t u) (logic p (eqb n 19) t u))
+      by : (b : Bool) → DraftHolds (e + cond b 0 1) o₁ o₂ e′ k′ w′ u → o₃ ≡ cond b (putInstr o₂ e′ (Binary op)) (settledCode o₂ e e′ (eqb n 19))
+          → DraftHolds pc o o₃ (e′ + cond b 1 4) (cond b (binaryKind op k k′) K.Int) (earlier (cond b (unless (binaryTakes op k k′) p) nowhere) (earlier w w′)) (cond b (binary p op t u) (logic p (eqb n 19) t u))
       by true h q = means-binary p op (rw add-zero at h) q
       by false h q = means-logic p (eqb n 19) (rw add-one at h) q
 
 -- ---- the branches of IF: c ends at i, t at j and u at e
-pub means-choice : {pc : ℕ} {o o₁ o₂ o₃ o₄ o₅ : List ℕ} {i j e : ℕ} {a b k : Kind} {w v x : Place} {c t u : Tree} (p : ℕ) → Means pc o o₁ i k w c → Means (i + 1) o₁ o₂ j a v t
-    → o₃ ≡ puts o₂ i (JumpIf false (j - i)) → Means (j + 1) o₃ o₄ e b x u → o₅ ≡ chosenCode o₄ j e a b → Means pc o o₅ (e + length (tail a b)) (join a b) (earlier w (earlier v x)) (choice p c t u)
+pub means-choice : {pc : ℕ} {o o₁ o₂ o₃ o₄ o₅ : List ℕ} {i j e : ℕ} {a b k : Kind} {w v x : Place} {c t u : Tree} (p : ℕ) → DraftHolds pc o o₁ i k w c → DraftHolds (i + 1) o₁ o₂ j a v t
+    → o₃ ≡ putInstr o₂ i (JumpIf false (j - i)) → DraftHolds (j + 1) o₃ o₄ e b x u → o₅ ≡ chosenCode o₄ j e a b → DraftHolds pc o o₅ (e + length (branchTail a b)) (join a b) (earlier w (earlier v x)) (choice p c t u)
 unfolding codeOf treeKind wrongKind
 means-choice {o₄ = o₄} {o₅ = o₅} {i = i} {j = j} {e = e} {a = a} {b = b} {t = t} {u = u} p hc ht q hu r =
     let n : j - i ≡ length (codeOf t) + 1 = omega (arith, ht .ends) in
     let m : e - suc j ≡ length (codeOf u) = omega (arith, hu .ends) in
-    let g : Instr = Jump (length (codeOf u) + over (treeKind t) (treeKind u)) in
-    let l : Lies (tail (treeKind t) (treeKind u)) e (e + length (tail a b)) (puts o₄ j g) o₅ =
+    let g : Instr = Jump (length (codeOf u) + branchTailSkip (treeKind t) (treeKind u)) in
+    let l : Lies (branchTail (treeKind t) (treeKind u)) e (e + length (branchTail a b)) (putInstr o₄ j g) o₅ =
     record { ends = rw (ht .kind, hu .kind); code = rw (m, sym (ht .kind), sym (hu .kind)) at r } in
     made (ap₂ join (ht .kind) (hu .kind))
     (ap₂ earlier (hc .wrong) (ap₂ earlier (ht .wrong) (hu .wrong)))

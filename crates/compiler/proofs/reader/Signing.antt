@@ -13,23 +13,23 @@ use Rattle.operators.specs.declared.UnaryOp.{UnaryOp}
 use Rattle.operators.specs.Kinds.{unaryKind, unaryTakes}
 use Rattle.memory.specs.Cells.{bankKind}
 use Rattle.tokens.specs.Scan.{Tok}
-use Rattle.token_table.specs.Table.{fields, wordPlace, wordAt, from, Tokens}
+use Rattle.token_table.specs.private.Table.{packFields, wordPlace, wordAt, tokensFrom, TokenWords}
 use Rattle.grammar.specs.Tree.{unary, Place, nowhere, earlier, unless}
 use Rattle.grammar.specs.Symbols.{none}
 use Rattle.grammar.specs.Parse.{ok, andThen, operand}
 use Rattle.code.specs.declared.Instr.the-variants.{Unary}
-use Rattle.compiler.specs.Results.{Read, Done}
-use Rattle.compiler.specs.Words.{unaryAt, bankAt, signOf, Signs}
-use Rattle.compiler.specs.Draft.{puts, Unaries}
-use Rattle.compiler.specs.Draft as U
-use Rattle.compiler.specs.Reading.{Same, same-done, Span, span-done, Reads, primaryOf}
+use Rattle.compiler.specs.private.Results.{Read, Done}
+use Rattle.compiler.specs.private.Words.{unaryAt, bankAt, prefixNumber, Signs}
+use Rattle.compiler.specs.private.Draft.{putInstr, Unaries}
+use Rattle.compiler.specs.private.Draft as U
+use Rattle.compiler.specs.private.Reading.{SameResult, same-done, Span, span-done, ReaderAgrees, primaryOf}
 use Rattle.compiler.proofs.reader.Looking.{look, headSign, Signed, sign-there, sign-none, Leaf}
 use Rattle.compiler.proofs.reader.Binding.{Stopped, span-earlier, bind-done, bind-stopped}
 use Rattle.compiler.proofs.reader.Meaning.{means-unary}
 use Rattle.compiler.proofs.reader.Steps.{Reading, leaf-reads, Bounds, bounds}
 
 abbrev pub Operand : ℕ → List ℕ → ℕ → ℕ → List ℕ → List ℕ → Read → Type 0
-Operand d s at pc o o′ r = Reads (λ f ts. operand f d ts) 2 s at pc o o′ r
+Operand d s at pc o o′ r = ReaderAgrees (λ f ts. operand f d ts) 2 s at pc o o′ r
 
 -- ---- no unary operator
 plain : (f d : ℕ) (ts : List Tok) → headSign ts ≡ none → operand (suc f) d ts ≡ primaryOf f d ts
@@ -37,19 +37,19 @@ unfolding operand
 plain f d [] e = refl
 plain f d (x ∷ xs) e = rw (operand, e) refl
 
-pub operand-plain : (d : ℕ) {s : List ℕ} {at pc : ℕ} {o o′ : List ℕ} {r : Read} → headSign (from s at) ≡ none → Reading d s at pc o o′ r → Operand d s at pc o o′ r
+pub operand-plain : (d : ℕ) {s : List ℕ} {at pc : ℕ} {o o′ : List ℕ} {r : Read} → headSign (tokensFrom s at) ≡ none → Reading d s at pc o o′ r → Operand d s at pc o o′ r
 operand-plain d {s} {at} {pc} {o} {o′} {r} h x = record { span = x .span; same = go }
   where
-    go : (f : ℕ) → (length s - at) * 8 + 2 ≤ f → Same pc o o′ s r (operand f d (from s at))
+    go : (f : ℕ) → (length s - at) * 8 + 2 ≤ f → SameResult pc o o′ s r (operand f d (tokensFrom s at))
     go zero le = absurd (omega arith)
-    go (suc f) le = rw (plain f d (from s at) h) (x .same f (omega arith))
+    go (suc f) le = rw (plain f d (tokensFrom s at) h) (x .same f (omega arith))
 
-pub operand-leaf : (d : ℕ) {s : List ℕ} {at pc c n x p : ℕ} {o o′ : List ℕ} (l : Leaf s at c n x p) → o′ ≡ set o pc (fields c n x 0)
+pub operand-leaf : (d : ℕ) {s : List ℕ} {at pc c n x p : ℕ} {o o′ : List ℕ} (l : Leaf s at c n x p) → o′ ≡ set o pc (packFields c n x 0)
     → Operand d s at pc o o′ (Done (at + 1) (pc + 1) (cond (eqb c 1) Int (cond (eqb c 2) Real (bankKind (bankAt n)))) nowhere)
 operand-leaf d {pc = pc} {o = o} l e = operand-plain d (ap headSign (l .splits .split) ∙ l .plain) (leaf-reads d l e)
 
 -- ---- one unary operator
-sign-step : (d : ℕ) {s : List ℕ} {at p : ℕ} {a : UnaryOp} → Signed s at a p → (f : ℕ) → operand (suc f) d (from s at) ≡ andThen (operand f d (from s (at + 1))) (λ t r. ok (unary p a t) r)
+sign-step : (d : ℕ) {s : List ℕ} {at p : ℕ} {a : UnaryOp} → Signed s at a p → (f : ℕ) → operand (suc f) d (tokensFrom s at) ≡ andThen (operand f d (tokensFrom s (at + 1))) (λ t r. ok (unary p a t) r)
 unfolding operand
 sign-step d z f = rw (z .splits .split, operand, z .sign) refl
 
@@ -60,12 +60,12 @@ module _ (d : ℕ) {s : List ℕ} {at p pc : ℕ} {o o₁ : List ℕ} {a : Unary
       x : Operand d s (at + 1) pc o o₁ r
       x = rw add-one y
 
-      go : (f : ℕ) → (length s - at) * 8 + 2 ≤ f → Same pc o o₁ s r (operand f d (from s at))
+      go : (f : ℕ) → (length s - at) * 8 + 2 ≤ f → SameResult pc o o₁ s r (operand f d (tokensFrom s at))
       go zero le = absurd (omega arith)
       go (suc f) le = rw (sign-step d z f) (bind-stopped (λ t r. ok (unary p a t) r) h (x .same f (omega (arith, z .splits .within))))
 
   sign-done : {j e : ℕ} {k : Kind} {w : Place} → Operand d s (suc at) pc o o₁ (Done j e k w)
-      → Operand d s at pc o (puts o₁ e (Unary a)) (Done j (e + 1) (unaryKind a k) (earlier (unless (unaryTakes a k) p) w))
+      → Operand d s at pc o (putInstr o₁ e (Unary a)) (Done j (e + 1) (unaryKind a k) (earlier (unless (unaryTakes a k) p) w))
   sign-done {j} {e} {k} {w} y = record { span = reach (bounds (y .span)); same = go }
     where
       x : Operand d s (at + 1) pc o o₁ (Done j e k w)
@@ -74,7 +74,7 @@ module _ (d : ℕ) {s : List ℕ} {at p pc : ℕ} {o o₁ : List ℕ} {a : Unary
       reach : Bounds s (suc at) pc j e → Span s at pc (Done j (e + 1) (unaryKind a k) (earlier (unless (unaryTakes a k) p) w))
       reach b = span-done {j = j} {e = e + 1} (omega arith) (b .within) (omega arith) (omega arith)
 
-      go : (f : ℕ) → (length s - at) * 8 + 2 ≤ f → Same pc o (puts o₁ e (Unary a)) s (Done j (e + 1) (unaryKind a k) (earlier (unless (unaryTakes a k) p) w)) (operand f d (from s at))
+      go : (f : ℕ) → (length s - at) * 8 + 2 ≤ f → SameResult pc o (putInstr o₁ e (Unary a)) s (Done j (e + 1) (unaryKind a k) (earlier (unless (unaryTakes a k) p) w)) (operand f d (tokensFrom s at))
       go zero le = absurd (omega arith)
       go (suc f) le =
           rw (sign-step d z f) (bind-done (λ t r. ok (unary p a t) r) (x .same f (omega (arith, z .splits .within))) (λ t m. same-done (means-unary m p a refl) refl))
@@ -84,11 +84,11 @@ up-to : {s : List ℕ} {first i : ℕ} {o o′ : List ℕ} {r r′ : Read} → U
 up-to U.none = omega arith
 up-to (U.more v) = omega (arith, up-to v)
 
-module _ (d : ℕ) {s : List ℕ} {at first pc : ℕ} {o o₁ : List ℕ} {r : Read} (t : Tokens s) (h : Signs s at first) (x : Reading d s first pc o o₁ r) where
+module _ (d : ℕ) {s : List ℕ} {at first pc : ℕ} {o o₁ : List ℕ} {r : Read} (t : TokenWords s) (h : Signs s at first) (x : Reading d s first pc o o₁ r) where
   last : Operand d s first pc o o₁ r
   last = operand-plain d (sign-none (look {s = s} {at = first} t refl) (h .stops)) x
 
-  signed-at : (i : ℕ) → at ≤ i → i < first → Signed s i (unaryAt (signOf (wordAt s i))) (wordPlace (wordAt s i))
+  signed-at : (i : ℕ) → at ≤ i → i < first → Signed s i (unaryAt (prefixNumber (wordAt s i))) (wordPlace (wordAt s i))
   signed-at i a b = sign-there (look {s = s} {at = i} t refl) (h .each i a b)
 
   pub operand-stopped : Stopped r → Operand d s at pc o o₁ r

@@ -7,7 +7,7 @@ use lib.Dec.{eqb}
 use borrow.Author.Tests.{eqb-true, eqb-false, eq-eqb, ne-eqb}
 use Rattle.values.specs.declared.Kind.{Kind}
 use Rattle.grammar.specs.Tree.{Place}
-use Rattle.compiler.specs.Results.{Read, Done, Bad, Deep, isDone, further, refusal, kindIs, placed, readNext, readEnd, readKind, readWrong, readOf}
+use Rattle.compiler.specs.private.Results.{Read, Done, Bad, Deep, isDone, further, refusal, kindIs, placed, readNext, readEnd, readKind, readWrong, readOf}
 
 abbrev pub status : ℕ → ℕ
 status r = r / 2 ^ 33 % 4

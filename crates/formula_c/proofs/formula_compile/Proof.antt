@@ -1,6 +1,6 @@
 -- `formula_c::formula_compile` meets its contract: the words of the operation's answer.
 use mathlib.Core.Path.{_∙_, ap}
-use Rattle.formula_c.specs.Words.{told}
+use Rattle.formula_c.specs.Words.{reportWords}
 use borrow.Author.Needs.{needs}
 use Rattle.formula_c.proofs.formula_compile.Statement.{statement}
 use Rattle.formula_c.proofs.formula_compile.Tie as tie
@@ -8,14 +8,14 @@ use Rattle.formula_c.proofs.formula_compile.Tie as tie
 compile-requires : tie.Need-compile-requires
 compile-requires c κs = search needs
 
-tell-requires : tie.Need-tell-requires
-tell-requires c κs = search needs
+fill-report-requires : tie.Need-fill-report-requires
+fill-report-requires c κs = search needs
 
 same-length : tie.Need-same-length
 same-length c = search needs
 
 returns : tie.Need-returns
-returns c = (c .tell .ensures ∙ ap told (c .before .before .before .before .compile .ensures .0), c .before .before .before .before .compile .ensures .1)
+returns c = (c .fill-report .ensures ∙ ap reportWords (c .before .before .before .before .compile .ensures .0), c .before .before .before .before .compile .ensures .1)
 
 pub formula-compile-spec : {M : Type 1} → statement M
-formula-compile-spec = tie.close (tie.spec compile-requires tell-requires same-length returns)
+formula-compile-spec = tie.close (tie.spec compile-requires fill-report-requires same-length returns)

@@ -7,22 +7,22 @@ use native.Mathlib.Nat.{lt-of-lt-of-le, mul-le-mul-right, mul-assoc, mul-one, on
 use native.Mathlib.Omega.{arith}
 use lib.Dec.{eqb, leb}
 use lib.ListN.{length, getD, drop}
-use borrow.Author.Tests.{leb-true, leb-false, lt-leb, le-ltb, eq-eqb, ne-eqb}
+use borrow.Author.Tests.{leb-true, leb-false, lt-leb, eq-eqb, ne-eqb}
 use Rattle.values.specs.declared.Value.the-variants.{Int}
 use Rattle.values.specs.Patterns.{signedOf}
 use Rattle.values.proofs.patterns.Readings.{low-signed}
 use Rattle.tokens.specs.declared.Token.the-variants.{Number}
 use Rattle.tokens.specs.declared.Scanned.the-variants.{Good, Bad}
 use Rattle.tokens.specs.Bytes.{all}
-use Rattle.tokens.specs.Numerals.{some, isHex, hexDigit, hexFrom, hexOf, numeralOf}
+use Rattle.tokens.specs.Numerals.{nonEmpty, isHex, hexDigit, hexFrom, hexOf, numeralOf}
 use Rattle.lines.specs.declared.forms.Form.the-variants.{Pattern, Other}
 use Rattle.lines.specs.Forms.{hexForm}
-use Rattle.lines.specs.Steps.{scannedForm}
+use Rattle.lines.specs.private.Steps.{scannedForm}
 use Rattle.lines.proofs.Tests.{both, no}
 
 -- ---- a digit is below 16
 beyond : (c : ℕ) → 102 < c → isHex c ≡ false
-beyond c h = rw (le-ltb c 58 (omega arith), lt-leb c 70 (omega arith), lt-leb c 102 h, and-false, and-false, and-false)
+beyond c h = rw (lt-leb c 57 (omega arith), lt-leb c 70 (omega arith), lt-leb c 102 h, and-false, and-false, and-false)
 
 small : (c : ℕ) → isHex c ≡ true → hexDigit c < 16
 small c e = by (leb c 57) (leb c 70) (leb c 102) refl refl refl
@@ -44,7 +44,7 @@ bound n (c ∷ cs) e =
 eight : (cs : List ℕ) → length cs ≡ 8 → all isHex cs ≡ true → hexFrom 0 cs < 2 ^ 32
 eight cs l e = rw (one-mul, l) at (bound 0 cs e)
 
-some-of : (cs : List ℕ) → 0 < length cs → some cs ≡ true
+some-of : (cs : List ℕ) → 0 < length cs → nonEmpty cs ≡ true
 some-of [] h = absurd (omega arith)
 some-of (c ∷ cs) h = refl
 

@@ -9,7 +9,7 @@ use lib.Dec.{T, ltb, ltb→lt}
 use lib.Ieee.Fits.{and-r}
 use lib.ListN.{length, getD, drop}
 use borrow.Author.Tests.{eq-eqb, ne-eqb}
-use Rattle.memory.specs.Names.{plain, allDigits, decimal, numberBelow}
+use Rattle.memory.specs.Names.{noLeadingZero, allDigits, decimalValue, numberBelow}
 use Rattle.lines.specs.declared.forms.Form.the-variants.{Pattern, Other}
 use Rattle.lines.specs.Forms.{naturalForm, negativeForm, signedForm}
 
@@ -26,22 +26,22 @@ passed false m e = refl
 module _ (half : ℕ) (ds : List ℕ) where
   pub below : (n : ℕ) → Pattern n ≡ naturalForm (half + 1) ds → n ≤ half
   below n e =
-      let h = picked (numberBelow (half + 1) ds) (decimal ds) n e in
+      let h = picked (numberBelow (half + 1) ds) (decimalValue ds) n e in
       let t : T (numberBelow (half + 1) ds) = rw (h .0) tt in
-      omega (arith, ltb→lt (decimal ds) (half + 1) (and-r (plain ds && allDigits ds) (ltb (decimal ds) (half + 1)) t), h .1)
+      omega (arith, ltb→lt (decimalValue ds) (half + 1) (and-r (noLeadingZero ds && allDigits ds) (ltb (decimalValue ds) (half + 1)) t), h .1)
 
   pub no-zero : (n : ℕ) → Pattern n ≡ naturalForm (half + 1) ds → n ≡ 0 → Other ≡ negativeForm half ds
   no-zero n e z =
-      let h = picked (numberBelow (half + 1) ds) (decimal ds) n e in
-      rw (eq-eqb (decimal ds) 0 (h .1 ∙ z), and-false)
+      let h = picked (numberBelow (half + 1) ds) (decimalValue ds) n e in
+      rw (eq-eqb (decimalValue ds) 0 (h .1 ∙ z), and-false)
 
   pub number : (n : ℕ) → Pattern n ≡ naturalForm (half + 1) ds → (n ≡ 0 → ⊥) → Pattern (2 * half - n) ≡ negativeForm half ds
   number n e z =
-      let h = picked (numberBelow (half + 1) ds) (decimal ds) n e in
+      let h = picked (numberBelow (half + 1) ds) (decimalValue ds) n e in
       rw (← add-one half, h .0, h .1, ne-eqb n 0 z)
 
   pub none : Other ≡ naturalForm (half + 1) ds → Other ≡ negativeForm half ds
-  none e = rw (← add-one half, passed (numberBelow (half + 1) ds) (decimal ds) e)
+  none e = rw (← add-one half, passed (numberBelow (half + 1) ds) (decimalValue ds) e)
 
 -- ---- the sign
 pub empty : (half : ℕ) (s : List ℕ) → length s ≡ 0 → Other ≡ signedForm half s

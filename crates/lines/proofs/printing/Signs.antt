@@ -10,7 +10,7 @@ use lib.Dec.{ltb}
 use lib.IntN.{pos, negsuc}
 use Rattle.values.specs.Patterns.{signedOf}
 use Rattle.lines.specs.Printing.{decimalText, signedText}
-use Rattle.lines.specs.Steps.{halfText}
+use Rattle.lines.specs.private.Steps.{halfText}
 
 pub half-text : (k n : ℕ) → 0 < k → n < 2 ^ k → halfText (2 ^ (k - 1)) n ≡ signedText (signedOf k n)
 half-text zero n p h = absurd (omega arith)

@@ -1,7 +1,7 @@
 -- `normalize` meets its contract: the number stays as many times 2 as it was doubled, and it cannot be doubled often.
 use Prim.Native.Nat.{_-_}
 use native.Mathlib.Omega.{arith}
-use Rattle.literals.specs.MixedNumbers.{numerator}
+use Rattle.literals.specs.private.MixedNumbers.{numerator}
 use Rattle.literals.proofs.MixedNumbers.{Doubled, none, few, again}
 use Rattle.literals.proofs.normalize.Statement.{statement}
 use Rattle.literals.proofs.normalize.Tie as tie

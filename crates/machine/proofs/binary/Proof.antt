@@ -2,7 +2,7 @@
 use borrow.Author.Needs.{needs}
 use mathlib.Core.Path.{sym, ap, _∙_}
 use Rattle.code.specs.Instructions.{binaryInstr}
-use Rattle.machine.specs.Steps.{operandOf, wordOf}
+use Rattle.machine.specs.private.Steps.{operandOf, wordOf}
 use Rattle.machine.proofs.Performs.{spoilt, unspoilt, stuck-alone, unknown-made, short-binary, no-binary, binary-made}
 use Rattle.operators.specs.Tables.{binaryOf}
 use Rattle.machine.proofs.binary.Statement.{statement}

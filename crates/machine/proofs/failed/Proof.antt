@@ -10,7 +10,7 @@ use denote.Enum.Declared.{tagOf}
 use Rattle.values.specs.declared.Fault.{Fault}
 use Rattle.machine.specs.declared.How.{How}
 use Rattle.machine.specs.declared.How.the-variants.{Push, Skip, Stop, Stuck}
-use Rattle.machine.specs.Steps.{stuckAt, failedAt}
+use Rattle.machine.specs.private.Steps.{stuckAt, failedAt}
 use Rattle.machine.proofs.How.{the-type}
 use Rattle.machine.proofs.failed.Statement.{statement}
 use Rattle.machine.proofs.failed.Tie as tie

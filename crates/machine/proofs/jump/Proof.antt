@@ -2,7 +2,7 @@
 use borrow.Author.Needs.{needs}
 use mathlib.Core.Path.{ap, _∙_}
 use Rattle.code.specs.declared.Instr.the-variants.{Jump}
-use Rattle.machine.specs.Steps.{wordOf, skipStep}
+use Rattle.machine.specs.private.Steps.{wordOf, skipStep}
 use Rattle.machine.proofs.Performs.{spoilt, unspoilt}
 use Rattle.machine.proofs.jump.Statement.{statement}
 use Rattle.machine.proofs.jump.Tie as tie

@@ -4,7 +4,7 @@ use mathlib.Core.Path.{ap, _∙_}
 use borrow.Author.Tests.{lt-ltb}
 use Prim.Native.Nat.{_-_}
 use Rattle.code.specs.declared.Instr.the-variants.{JumpIf}
-use Rattle.machine.specs.Steps.{operandOf, wordOf, skipStep}
+use Rattle.machine.specs.private.Steps.{operandOf, wordOf, skipStep}
 use Rattle.machine.proofs.Performs.{spoilt, unspoilt, stuck-alone, jumps, stays}
 use Rattle.machine.proofs.jump_if.Statement.{statement}
 use Rattle.machine.proofs.jump_if.Tie as tie

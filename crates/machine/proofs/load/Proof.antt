@@ -6,7 +6,7 @@ use Rattle.operators.proofs.Arms.{first, past}
 use Rattle.memory.specs.declared.Bank.the-variants.{X, C, «V», N, D, R}
 use Rattle.memory.specs.Numbers.{bankNumbered}
 use Rattle.memory.specs.Environment.{memoryOf}
-use Rattle.machine.specs.Steps.{operandOf, wordOf}
+use Rattle.machine.specs.private.Steps.{operandOf, wordOf}
 use Rattle.machine.proofs.Performs.{from-bank, no-load}
 use Rattle.machine.proofs.load.Statement.{statement}
 use Rattle.machine.proofs.load.Tie as tie

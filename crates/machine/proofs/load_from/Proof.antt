@@ -3,7 +3,7 @@ use borrow.Author.Needs.{needs}
 use mathlib.Core.Path.{ap, _∙_}
 use denote.Ref.{now}
 use Rattle.memory.specs.Environment.{memoryOf}
-use Rattle.machine.specs.Steps.{outcomeStep}
+use Rattle.machine.specs.private.Steps.{outcomeStep}
 use Rattle.machine.proofs.Performs.{in-bank, past-bank}
 use Rattle.machine.proofs.load_from.Statement.{statement}
 use Rattle.machine.proofs.load_from.Tie as tie

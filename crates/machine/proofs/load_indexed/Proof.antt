@@ -2,7 +2,7 @@
 use borrow.Author.Needs.{needs}
 use mathlib.Core.Path.{sym, ap, _∙_}
 use Rattle.code.specs.Instructions.{indexedOf}
-use Rattle.machine.specs.Steps.{operandOf, wordOf}
+use Rattle.machine.specs.private.Steps.{operandOf, wordOf}
 use Rattle.machine.proofs.Performs.{spoilt, unspoilt, stuck-alone, unknown-made, short-indexed, no-indexed, indexed-made}
 use Rattle.memory.specs.Numbers.{bankNumbered}
 use denote.Ref.{now}

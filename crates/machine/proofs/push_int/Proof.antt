@@ -6,7 +6,7 @@ use mir.Val.{SFits}
 use mir.ValLaws.{toZ-ofZ}
 use Rattle.values.specs.Patterns.{signedOf}
 use Rattle.code.specs.declared.Instr.the-variants.{PushInt}
-use Rattle.machine.specs.Steps.{wordOf}
+use Rattle.machine.specs.private.Steps.{wordOf}
 use Rattle.machine.proofs.Performs.{spoilt, unspoilt}
 use Rattle.machine.proofs.push_int.Statement.{statement}
 use Rattle.machine.proofs.push_int.Tie as tie

@@ -3,7 +3,7 @@ use borrow.Author.Needs.{needs}
 use mathlib.Core.Path.{_∙_}
 use Rattle.memory.proofs.cells.Exponents.{no-nan}
 use Rattle.code.specs.Instructions.{pushReal}
-use Rattle.machine.specs.Steps.{operandOf, wordOf}
+use Rattle.machine.specs.private.Steps.{operandOf, wordOf}
 use Rattle.machine.proofs.Performs.{spoilt, unspoilt, stuck-alone, finite-made, infinite-made}
 use Rattle.machine.proofs.push_real.Statement.{statement}
 use Rattle.machine.proofs.push_real.Tie as tie

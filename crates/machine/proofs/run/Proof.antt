@@ -8,7 +8,7 @@ use lib.ListN.{length, length-set}
 use denote.Ref.{now}
 use Rattle.words.specs.Laws.{Bytes}
 use Rattle.memory.specs.Environment.{memoryOf}
-use Rattle.machine.specs.Machine.{most}
+use Rattle.machine.specs.Machine.{maxHeight}
 use Rattle.machine.proofs.Held.{held, held-finish}
 use Rattle.machine.proofs.Numbered.{is-int, is-real, is-load, is-indexed, is-unary, is-binary, is-jump, is-jump-false, is-jump-true, is-none}
 use Rattle.machine.proofs.Rest.{Stands, starts, lesser-left, lesser-right, finishes}
@@ -18,7 +18,7 @@ use Rattle.machine.proofs.run.Tie as tie
 
 abbrev Inv-loop : tie.InvT-loop
 Inv-loop code n image stack₀ h₀ place₀ count₀ there stack h place count =
-    (length stack ≡ most) × (h ≤ most) × (count ≤ place) × (there ≤ n) × (there ≤ length code / 8) × Stands (memoryOf image) code n place (held h stack) count
+    (length stack ≡ maxHeight) × (h ≤ maxHeight) × (count ≤ place) × (there ≤ n) × (there ≤ length code / 8) × Stands (memoryOf image) code n place (held h stack) count
 
 abbrev μ-loop : tie.MeasureT-loop
 μ-loop code n image stack₀ h₀ place₀ count₀ there stack h place count = there - place

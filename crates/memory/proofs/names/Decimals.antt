@@ -10,41 +10,42 @@ use lib.Ieee.Fits.{and-l, and-r}
 use lib.ListN.{length, getD, drop, drop-of-length-le}
 use lib.Seq.{drop-cons}
 use borrow.Author.Tests.{lt-ltb, le-ltb, eq-eqb, ne-eqb}
-use Rattle.memory.specs.Names.{isDigit, allDigits, plain, decimalFrom, decimal, numberBelow}
+use Rattle.memory.specs.Names.{isDigit, allDigits, noLeadingZero, decimalFrom, decimalValue, numberBelow}
 
 -- ---- a digit
 pub digit-range : (b : ℕ) → isDigit b ≡ true → (48 ≤ b) × (b < 58)
 digit-range b e =
     let t : T (isDigit b) = rw e tt in
-    (leb→le 48 b (and-l (leb 48 b) (ltb b 58) t), ltb→lt b 58 (and-r (leb 48 b) (ltb b 58) t))
+    let top : b ≤ 57 = leb→le b 57 (and-r (leb 48 b) (leb b 57) t) in
+    (leb→le 48 b (and-l (leb 48 b) (leb b 57) t), omega (arith, top))
 
 -- ---- no leading zero
-pub none : (ds : List ℕ) → length ds ≡ 0 → plain ds ≡ false
+pub none : (ds : List ℕ) → length ds ≡ 0 → noLeadingZero ds ≡ false
 none [] h = refl
 none (d ∷ ds) h = absurd (omega arith)
 
-pub leading : (ds : List ℕ) → getD ds 0 0 ≡ 48 → (length ds ≡ 1 → ⊥) → plain ds ≡ false
+pub leading : (ds : List ℕ) → getD ds 0 0 ≡ 48 → (length ds ≡ 1 → ⊥) → noLeadingZero ds ≡ false
 leading [] e h = refl
 leading (d ∷ []) e h = absurd (h refl)
 leading (d ∷ b ∷ ds) e h = rw (eq-eqb d 48 e)
 
-pub single : (ds : List ℕ) → length ds ≡ 1 → plain ds ≡ true
+pub single : (ds : List ℕ) → length ds ≡ 1 → noLeadingZero ds ≡ true
 single [] h = absurd (omega arith)
 single (d ∷ []) h = refl
 single (d ∷ b ∷ ds) h = absurd (omega arith)
 
-pub no-zero : (ds : List ℕ) → 0 < length ds → (getD ds 0 0 ≡ 48 → ⊥) → plain ds ≡ true
+pub no-zero : (ds : List ℕ) → 0 < length ds → (getD ds 0 0 ≡ 48 → ⊥) → noLeadingZero ds ≡ true
 no-zero [] l h = absurd (omega arith)
 no-zero (d ∷ []) l h = refl
 no-zero (d ∷ b ∷ ds) l h = rw (ne-eqb d 48 h)
 
 -- ---- the loop: n was read from the digits before i
 pub record Read (ds : List ℕ) (n i : ℕ) : Type 0 where
-  pub first : plain ds ≡ true
+  pub first : noLeadingZero ds ≡ true
   pub digits : allDigits ds ≡ allDigits (drop i ds)
-  pub value : decimal ds ≡ decimalFrom n (drop i ds)
+  pub value : decimalValue ds ≡ decimalFrom n (drop i ds)
 
-pub start : (ds : List ℕ) → plain ds ≡ true → Read ds 0 0
+pub start : (ds : List ℕ) → noLeadingZero ds ≡ true → Read ds 0 0
 start ds p = record { first = p; digits = refl; value = refl }
 
 grows : (n : ℕ) (ds : List ℕ) → n ≤ decimalFrom n ds
@@ -64,9 +65,9 @@ module _ (ds : List ℕ) (n i : ℕ) (r : Read ds n i) where
   stop m h e = rw (r .first, r .digits, drop-cons ds i 0 h, e)
 
   pub above : (m : ℕ) → m ≤ n → numberBelow m ds ≡ false
-  above m h = rw (le-ltb (decimal ds) m (omega (arith, r .value, grows n (drop i ds))), and-false)
+  above m h = rw (le-ltb (decimalValue ds) m (omega (arith, r .value, grows n (drop i ds))), and-false)
 
-  pub end : (m : ℕ) → length ds ≤ i → n < m → (numberBelow m ds ≡ true) × (decimal ds ≡ n)
+  pub end : (m : ℕ) → length ds ≤ i → n < m → (numberBelow m ds ≡ true) × (decimalValue ds ≡ n)
   end m h l =
-      let e : decimal ds ≡ n = r .value ∙ rw (drop-of-length-le ds h) in
+      let e : decimalValue ds ≡ n = r .value ∙ rw (drop-of-length-le ds h) in
       (rw (r .first, r .digits, drop-of-length-le ds h, e, lt-ltb n m l), e)

@@ -23,7 +23,7 @@ use Rattle.memory.specs.declared.Bank.{Bank}
 use Rattle.memory.specs.declared.Bank.the-variants.{X, C, «V», N, D, R}
 use Rattle.memory.specs.declared.store.Encoded.the-variants.{Pattern, Stopped}
 use Rattle.memory.specs.Layout.{layoutOf}
-use Rattle.memory.specs.Store.{boolPattern, lowCut, integerOf, encodeFinite, isFinite, encode}
+use Rattle.memory.specs.Store.{boolPattern, lowCut, integerOf, encodeFiniteCell, isFinite, encodeCell}
 use Rattle.memory.proofs.cells.Exponents.{finite-number}
 
 -- ---- no NaN
@@ -41,10 +41,10 @@ no-fault : (f : Fault) (p : ℕ) → Stopped f ≡ Pattern p → ⊥
 no-fault f p e = let z : _≡_ {A = ℕ} 0 1 = cc in omega arith
 
 -- a value that has a pattern is finite
-pub held : (b : Bank) (v : Value) (p : ℕ) → encode b v ≡ Pattern p → encodeFinite b v ≡ Pattern p
+pub held : (b : Bank) (v : Value) (p : ℕ) → encodeCell b v ≡ Pattern p → encodeFiniteCell b v ≡ Pattern p
 held b v p e = by (isFinite v) e
   where
-    by : (t : Bool) → cond t (encodeFinite b v) (Stopped OutOfRange) ≡ Pattern p → encodeFinite b v ≡ Pattern p
+    by : (t : Bool) → cond t (encodeFiniteCell b v) (Stopped OutOfRange) ≡ Pattern p → encodeFiniteCell b v ≡ Pattern p
     by true f = f
     by false f = absurd (no-fault OutOfRange p f)
 
@@ -63,10 +63,10 @@ real-fits : {v : Value} → Proper v → T (fits binary32 (asReal v))
 real-fits (int z t) = ofInt-fits binary32 z
 real-fits (real x s) = s .fit
 
-pub bit-stored : (v : Value) (p : ℕ) → encode C v ≡ Pattern p → p < 2
+pub bit-stored : (v : Value) (p : ℕ) → encodeCell C v ≡ Pattern p → p < 2
 bit-stored v p e = bit-below (truthRule v) p (held C v p e)
 
-pub below : (b : Bank) (v : Value) (p : ℕ) → Proper v → encode b v ≡ Pattern p → p < 256 ^ layoutOf b .width
+pub below : (b : Bank) (v : Value) (p : ℕ) → Proper v → encodeCell b v ≡ Pattern p → p < 256 ^ layoutOf b .width
 below X v p h e = omega (arith, bit-below (truthRule v) p (held X v p e))
 below C v p h e = omega (arith, bit-below (truthRule v) p (held C v p e))
 below «V» v p h e = low-below 16 (integerOf v) p (held «V» v p e)

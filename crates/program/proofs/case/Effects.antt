@@ -9,12 +9,12 @@ use lib.ListN.{length, take, drop, length-drop}
 use lib.Seq.{take-all, length-take-le, length-sets}
 use borrow.Author.Tests.{lt-ltb, le-ltb}
 use Rattle.memory.specs.Names.{namedRule}
-use Rattle.tokens.specs.Symbols.{same}
+use Rattle.tokens.specs.Symbols.{equalBytes}
 use Rattle.program.specs.declared.case.Lengths.{Lengths}
 use Rattle.lines.specs.Lines.{keyLength}
 use Rattle.program.specs.Cases.{Case, targetKey, exprKey, setCell, keyed, afterLine}
-use Rattle.lines.specs.Steps.{Puts}
-use Rattle.program.specs.Stream.{caseIn, Inside}
+use Rattle.lines.specs.private.Steps.{Puts}
+use Rattle.program.specs.Stream.{caseIn, LengthsInside}
 use Rattle.program.proofs.reply.Whole.{front}
 
 pub key-long : (s : List ℕ) (k : ℕ) → k ≤ length s → k ≡ length (take k s)
@@ -31,10 +31,10 @@ module _ (s : Case) (l : List ℕ) {k : ℕ} (e : k ≡ keyLength l) where
   key-line h = rw (← e, lt-ltb k (length l) h)
 
 -- ---- in the buffers
-module _ (m t x : List ℕ) (n : Lengths) (l : List ℕ) (in-target : length l ≤ length t) (in-text : length l ≤ length x) (inside : Inside t x n)
+module _ (m t x : List ℕ) (n : Lengths) (l : List ℕ) (in-target : length l ≤ length t) (in-text : length l ≤ length x) (inside : LengthsInside t x n)
     {k : ℕ} (u : (k ≡ keyLength l) × (k ≤ length l)) where
   abbrev Does : List ℕ → List ℕ → List ℕ → Lengths → Type 0
-  Does m′ t′ x′ r = Inside t′ x′ r × ((caseIn m′ t′ x′ r ≡ afterLine (caseIn m t x n) l) × (r .line ≡ 0))
+  Does m′ t′ x′ r = LengthsInside t′ x′ r × ((caseIn m′ t′ x′ r ≡ afterLine (caseIn m t x n) l) × (r .line ≡ 0))
 
   pub skipped : k ≡ length l → Does m t x (record { target = n .target; text = n .text; line = 0 })
   skipped h = (record { target = inside .target; text = inside .text }, (sym (no-key (caseIn m t x n) l (u .0) (omega arith)), refl))
@@ -46,14 +46,14 @@ module _ (m t x : List ℕ) (n : Lengths) (l : List ℕ) (in-target : length l �
     short : length v ≤ length l
     short = rw (f, length-drop) (omega arith)
 
-    pub target-line : true ≡ same (take k l) targetKey → {t′ : List ℕ} {e : ℕ} → Puts t 0 t′ e v → Does m t′ x (record { target = e; text = n .text; line = 0 })
+    pub target-line : true ≡ equalBytes (take k l) targetKey → {t′ : List ℕ} {e : ℕ} → Puts t 0 t′ e v → Does m t′ x (record { target = e; text = n .text; line = 0 })
     unfolding keyed
     target-line a {t′} {e} p =
         let z : length t′ ≡ length t = ap length (p .bytes) ∙ length-sets t 0 v in
         let y : e ≤ length t = omega (arith, p .end, short) in
         (record { target = omega arith; text = inside .text }, (sym (opened ∙ rw (← a, ← front p y)), refl))
 
-    pub expr-line : false ≡ same (take k l) targetKey → true ≡ same (take k l) exprKey → {x′ : List ℕ} {e : ℕ} → Puts x 0 x′ e v
+    pub expr-line : false ≡ equalBytes (take k l) targetKey → true ≡ equalBytes (take k l) exprKey → {x′ : List ℕ} {e : ℕ} → Puts x 0 x′ e v
         → Does m t x′ (record { target = n .target; text = e; line = 0 })
     unfolding keyed
     expr-line a b {x′} {e} p =
@@ -61,7 +61,7 @@ module _ (m t x : List ℕ) (n : Lengths) (l : List ℕ) (in-target : length l �
         let y : e ≤ length x = omega (arith, p .end, short) in
         (record { target = inside .target; text = omega arith }, (sym (opened ∙ rw (← a, ← b, ← front p y)), refl))
 
-    pub cell-line : false ≡ same (take k l) targetKey → false ≡ same (take k l) exprKey → {m′ : List ℕ} → m′ ≡ setCell m v (namedRule (take k l))
+    pub cell-line : false ≡ equalBytes (take k l) targetKey → false ≡ equalBytes (take k l) exprKey → {m′ : List ℕ} → m′ ≡ setCell m v (namedRule (take k l))
         → Does m′ t x (record { target = n .target; text = n .text; line = 0 })
     unfolding keyed
     cell-line a b g = (record { target = inside .target; text = inside .text }, (sym (opened ∙ rw (← a, ← b, ← g)), refl))

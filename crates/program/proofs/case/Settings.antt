@@ -6,7 +6,7 @@ use Rattle.memory.specs.declared.Bank.{Bank}
 use Rattle.memory.specs.declared.names.Named.{Named}
 use Rattle.memory.specs.declared.names.Named.the-variants as Named
 use Rattle.memory.specs.declared.store.Encoded.the-variants as Encoded
-use Rattle.memory.specs.Store.{written}
+use Rattle.memory.specs.Store.{writeCell}
 use Rattle.lines.specs.declared.forms.Form.the-variants.{Pattern, Other}
 use Rattle.lines.specs.Forms.{patternOf}
 use Rattle.program.specs.Cases.{setCell}
@@ -19,5 +19,5 @@ module _ (m v : List ℕ) {n : Named} where
     pub no-form : Other ≡ patternOf b v → m ≡ setCell m v n
     no-form f = rw (e, ← f)
 
-    pub set : {p : ℕ} {t : List ℕ} → Pattern p ≡ patternOf b v → t ≡ written m b i (Encoded.Pattern p) → t ≡ setCell m v n
+    pub set : {p : ℕ} {t : List ℕ} → Pattern p ≡ patternOf b v → t ≡ writeCell m b i (Encoded.Pattern p) → t ≡ setCell m v n
     set f g = rw (e, ← f) g

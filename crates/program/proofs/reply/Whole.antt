@@ -9,7 +9,7 @@ use Rattle.memory.proofs.Runs.{run-written}
 use Rattle.operations.specs.declared.Answer.{Answer}
 use Rattle.operations.specs.Operations.{request, performed, performedMemory}
 use Rattle.program.specs.Cases.{Case, zeros}
-use Rattle.lines.specs.Steps.{Puts}
+use Rattle.lines.specs.private.Steps.{Puts}
 use Rattle.program.specs.Reply.{answerText, replyTo}
 
 pub text : (s : Case) {code m : List ℕ} {a : Answer} → code ≡ zeros 16384 → a ≡ performed (s .memory) (request (s .target) (s .text) (s .memory) code)

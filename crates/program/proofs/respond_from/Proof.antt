@@ -52,11 +52,11 @@ finish-requires c κs = known (c .before .before .before .before .before .before
 enum-told : tie.Need-enum-told
 enum-told c = search needs
 
-slice-aggregate-hand-over : tie.Need-slice-aggregate-hand-over
-slice-aggregate-hand-over c = search needs
+slice-aggregate-write-text : tie.Need-slice-aggregate-write-text
+slice-aggregate-write-text c = search needs
 
-hand-over-requires : tie.Need-hand-over-requires
-hand-over-requires c κs = search needs
+write-text-requires : tie.Need-write-text-requires
+write-text-requires c κs = search needs
 
 same-length : tie.Need-same-length
 same-length c = search needs
@@ -68,7 +68,7 @@ same-length-2 : tie.Need-same-length-2
 same-length-2 c = search needs
 
 returns-2 : tie.Need-returns-2
-returns-2 c = (reports (c .before .before .hand-over .ensures .0) (c .before .before .hand-over .ensures .1 .0), c .before .before .hand-over .ensures .1 .1)
+returns-2 c = (reports (c .before .before .write-text .ensures .0) (c .before .before .write-text .ensures .1 .0), c .before .before .write-text .ensures .1 .1)
 
 pub respond-from-spec : {M : Type 1} → statement M
 respond-from-spec =
@@ -90,8 +90,8 @@ respond-from-spec =
     slice-aggregate-finish-4
     finish-requires
     enum-told
-    slice-aggregate-hand-over
-    hand-over-requires
+    slice-aggregate-write-text
+    write-text-requires
     same-length
     returns
     same-length-2

@@ -9,7 +9,7 @@ use lib.Seq.{take-all, take-append-le, take-take, take-suc-set, length-take-le, 
 use borrow.Author.Tests.{eq-eqb, ne-eqb}
 use Rattle.program.specs.declared.case.Lengths.{Lengths}
 use Rattle.program.specs.Cases.{Case, afterLine}
-use Rattle.program.specs.Stream.{keptBytes, Progress, afterByte, afterBytes, caseIn, progressIn, Inside, StreamBuffers}
+use Rattle.program.specs.Stream.{keptBytes, Progress, afterByte, afterBytes, caseIn, progressIn, LengthsInside, StreamBuffers}
 
 abbrev kept : Case → List ℕ → Progress
 kept s l = record { case = s; line = l }
@@ -29,7 +29,7 @@ module _ (m t x l : List ℕ) (n : Lengths) (p : StreamBuffers m t x l n) (b : �
   Does m′ t′ x′ l′ r = StreamBuffers m′ t′ x′ l′ r × (progressIn m′ t′ x′ l′ r ≡ afterByte (progressIn m t x l n) b)
 
   pub ended : b ≡ 10 → {m′ t′ x′ : List ℕ} {r : Lengths} → length m′ ≡ length m → length t′ ≡ length t → length x′ ≡ length x
-      → Inside t′ x′ r × ((caseIn m′ t′ x′ r ≡ afterLine (caseIn m t x n) (take (n .line) l)) × (r .line ≡ 0)) → Does m′ t′ x′ l r
+      → LengthsInside t′ x′ r × ((caseIn m′ t′ x′ r ≡ afterLine (caseIn m t x n) (take (n .line) l)) × (r .line ≡ 0)) → Does m′ t′ x′ l r
   ended e {m′} {t′} {x′} {r} i j k g =
       let q : progressIn m′ t′ x′ l r ≡ kept (afterLine (caseIn m t x n) (take (n .line) l)) [] =
       ap (λ (z : ℕ). kept (caseIn m′ t′ x′ r) (take z l)) (g .1 .1) ∙ ap (λ (z : Case). kept z []) (g .1 .0) in (

@@ -14,7 +14,7 @@ use Rattle.memory.specs.declared.names.Named.the-variants.{Cell, Other}
 use Rattle.memory.specs.Layout.{imageSize}
 use Rattle.memory.specs.Names.{namedRule, targetRule}
 use Rattle.tokens.specs.Bytes.{runLen}
-use Rattle.tokens.specs.Symbols.{same}
+use Rattle.tokens.specs.Symbols.{equalBytes}
 use Rattle.text.specs.Judge.{refused, judge}
 use Rattle.operations.specs.Operations.{reportOf, Request, stops, ofText, ofTarget, performed, performedMemory}
 use Rattle.lines.specs.Forms.{patternOf}
@@ -36,8 +36,8 @@ pub itself : (s : Case) → Agrees s s
 itself s = record { memory = refl; target = refl; text = refl }
 
 -- ---- they have one reply
-of-target : (a b : List ℕ) → judge a ≡ judge b → (n : Named) → ofTarget a n ≡ ofTarget b n
-of-target a b e (Cell c i) = ap (ofText c i) e
+of-target : (a b : List ℕ) → judge a ≡ judge b → (n : Named) → ofTarget a (zeros 16384) n ≡ ofTarget b (zeros 16384) n
+of-target a b e (Cell c i) = ap (ofText (zeros 16384) c i) e
 of-target a b e Other = refl
 
 abbrev printed : List ℕ → Named → Request → List ℕ
@@ -49,8 +49,8 @@ guarded m q = cond (eqb (length m) imageSize) (cond (ltb (length (zeros 16384)) 
 pub same-reply : (s t : Case) → Agrees s t → replyTo s ≡ replyTo t
 same-reply s t a =
     let n = targetRule (s .target) in
-    let q = ofTarget (t .text) (targetRule (t .target)) in
-    ap (λ (x : Request). printed (s .memory) n (guarded (s .memory) x)) (of-target (s .text) (t .text) (a .text) n ∙ ap (ofTarget (t .text)) (a .target))
+    let q = ofTarget (t .text) (zeros 16384) (targetRule (t .target)) in
+    ap (λ (x : Request). printed (s .memory) n (guarded (s .memory) x)) (of-target (s .text) (t .text) (a .text) n ∙ ap (ofTarget (t .text) (zeros 16384)) (a .target))
     ∙ ap (λ (x : Named). printed (s .memory) x (guarded (s .memory) q)) (a .target)
     ∙ ap (λ (x : List ℕ). printed x (targetRule (t .target)) (guarded x q)) (a .memory)
 
@@ -86,19 +86,19 @@ run-within p (c ∷ l) = by (p c) (run-within p l)
     by true h = omega arith
     by false h = omega arith
 
-differ : (a b : List ℕ) → (length a ≡ length b → ⊥) → same a b ≡ false
+differ : (a b : List ℕ) → (length a ≡ length b → ⊥) → equalBytes a b ≡ false
 differ [] [] n = absurd (n refl)
 differ [] (d ∷ b) n = refl
 differ (c ∷ a) [] n = refl
 differ (c ∷ a) (d ∷ b) n = rw (differ a b (λ e. n (ap suc e)), and-false)
 
-same-length : (a b : List ℕ) → same a b ≡ true → length a ≡ length b
+same-length : (a b : List ℕ) → equalBytes a b ≡ true → length a ≡ length b
 same-length [] [] e = refl
 same-length [] (d ∷ b) e = no e
 same-length (c ∷ a) [] e = no e
 same-length (c ∷ a) (d ∷ b) e = ap suc (same-length a b (by (eqb c d) e))
   where
-    by : (t : Bool) → (t && same a b) ≡ true → same a b ≡ true
+    by : (t : Bool) → (t && equalBytes a b) ≡ true → equalBytes a b ≡ true
     by true f = f
     by false f = no f
 
@@ -109,8 +109,8 @@ either false f g = g refl
 
 -- two values under a key come to the same
 record Like (key v w : List ℕ) : Type 0 where
-  target : same key targetKey ≡ true → targetRule v ≡ targetRule w
-  text : same key exprKey ≡ true → judge v ≡ judge w
+  target : equalBytes key targetKey ≡ true → targetRule v ≡ targetRule w
+  text : equalBytes key exprKey ≡ true → judge v ≡ judge w
   form : (b : Bank) {i : ℕ} → namedRule key ≡ Cell b i → patternOf b v ≡ patternOf b w
 
 module _ (s t : Case) (a : Agrees s t) where
@@ -121,8 +121,8 @@ module _ (s t : Case) (a : Agrees s t) where
   line : (key v w : List ℕ) → Like key v w → Agrees (keyed s key v) (keyed t key w)
   unfolding keyed
   line key v w k =
-      either (same key targetKey) (λ e. record { memory = a .memory; target = k .target e; text = a .text })
-      (λ _. either (same key exprKey) (λ e. record { memory = a .memory; target = a .target; text = k .text e })
+      either (equalBytes key targetKey) (λ e. record { memory = a .memory; target = k .target e; text = a .text })
+      (λ _. either (equalBytes key exprKey) (λ e. record { memory = a .memory; target = a .target; text = k .text e })
       (λ _. record { memory = set-cell key v w k (namedRule key) refl; target = a .target; text = a .text }))
 
   same-line : (l : List ℕ) → Agrees (afterLine s l) (afterLine t l)

@@ -6,8 +6,8 @@ use Prim.Native.Nat.{ℕ, zero, suc}
 use lib.Dec.{eqb}
 use lib.ListN.{take}
 use Rattle.memory.specs.Layout.{imageSize}
-use Rattle.lines.specs.Lines.{before, lines}
-use Rattle.program.specs.Cases.{Case, afterLine, afterLines, opened, zeros, caseOf}
+use Rattle.lines.specs.Lines.{consLine, lines}
+use Rattle.program.specs.Cases.{Case, afterLine, afterLines, emptyCase, zeros, caseOf}
 use Rattle.program.specs.Reply.{replyTo, reply}
 use Rattle.program.specs.Stream.{keptBytes, Progress, noProgress, afterByte, afterBytes, caseAtEnd, StreamLaws}
 use Rattle.program.proofs.stream.Cuts.{Agrees, itself, same-reply, kept-line}
@@ -26,7 +26,7 @@ unfolding afterLines afterLine joined
 none-joined s [] = refl
 none-joined s (x ∷ xs) = refl
 
-one-joined : (l : List ℕ) (c : ℕ) (ls : List (List ℕ)) → joined (l ++ (c ∷ [])) ls ≡ joined l (before c ls)
+one-joined : (l : List ℕ) (c : ℕ) (ls : List (List ℕ)) → joined (l ++ (c ∷ [])) ls ≡ joined l (consLine c ls)
 unfolding joined
 one-joined l c [] = refl
 one-joined l c (x ∷ xs) = ap (λ (y : List ℕ). y ∷ xs) (append-assoc l (c ∷ []) x)
@@ -50,14 +50,14 @@ rest (c ∷ cs) l s t a =
     step : (b : Bool) → Ends cs [] (afterLine s (take keptBytes l)) (afterLine t l) → Ends cs (l ++ (c ∷ [])) s t
         → Agrees
         (caseAtEnd (afterBytes (cond b (record { case = afterLine s (take keptBytes l); line = [] }) (record { case = s; line = take keptBytes (take keptBytes l ++ (c ∷ [])) })) cs))
-        (afterLines t (joined l (cond b ([] ∷ lines cs) (before c (lines cs)))))
+        (afterLines t (joined l (cond b ([] ∷ lines cs) (consLine c (lines cs)))))
     step true e f = rw (append-nil l) (rw (none-joined (afterLine t l) (lines cs)) at e)
     step false e f = rw (take-more keptBytes l c, ← one-joined l c (lines cs)) f
 
 exactly : (input : List ℕ) → replyTo (caseAtEnd (afterBytes noProgress input)) ≡ reply input
 unfolding reply caseOf
 exactly input =
-    let start = opened (zeros imageSize) in
+    let start = emptyCase (zeros imageSize) in
     let end = rest input [] start start (itself start) in
     same-reply _ _ end ∙ ap replyTo (none-joined start (lines input))
 

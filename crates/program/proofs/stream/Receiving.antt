@@ -8,8 +8,8 @@ use Rattle.memory.specs.Layout.{imageSize}
 use Rattle.program.specs.declared.case.Lengths.{Lengths}
 use Rattle.program.specs.declared.stream.Receipt.{Receipt}
 use Rattle.program.specs.declared.stream.Receipt.the-variants.{All, Unread}
-use Rattle.program.specs.Cases.{opened, zeros}
-use Rattle.program.specs.Reply.{replyTo, reply, handed, handedCount, Lies, unreadLine, answer, unread, Outputs}
+use Rattle.program.specs.Cases.{emptyCase, zeros}
+use Rattle.program.specs.Reply.{replyTo, reply, writeText, writtenLength, HasPrefix, unreadLine, answer, unread, Outputs}
 use Rattle.program.specs.Stream.{Progress, noProgress, afterBytes, caseAtEnd, noLengths, progressIn, StreamBuffers, Receives, all, missed, Replies}
 use Rattle.program.proofs.stream.Pieces.{stream-laws}
 
@@ -21,7 +21,7 @@ pub record Receiving (m t x l : List ℕ) (n : Lengths) : Type 0 where
 
 -- before the first byte
 abbrev pub first : List ℕ → Progress
-first m = record { case = opened m; line = [] }
+first m = record { case = emptyCase m; line = [] }
 
 pub start : {m : List ℕ} → m ≡ zeros imageSize → first m ≡ noProgress
 start e = ap first e
@@ -51,11 +51,11 @@ pub reply-is : {p : Progress} (input : List ℕ) → p ≡ afterBytes noProgress
 reply-is input e = ap (λ (p : Progress). replyTo (caseAtEnd p)) e ∙ stream-laws .exact input
 
 pub replies : {p : Progress} (input : List ℕ) → p ≡ afterBytes noProgress input → {out new : List ℕ} {r : ℕ} → Replies p out r new
-    → (r ≡ handedCount out (reply input)) × ((new ≡ handed out (reply input)) × ((length (reply input) ≤ 64) × Lies r new))
+    → (r ≡ writtenLength out (reply input)) × ((new ≡ writeText out (reply input)) × ((length (reply input) ≤ 64) × HasPrefix r new))
 replies input k {out} g =
     let e = reply-is input k in (
-      g .count ∙ ap (handedCount out) e,
-      (g .bytes ∙ ap (handed out) e, (subst (λ (z : List ℕ). length z ≤ 64) e (g .short), g .there)),
+      g .count ∙ ap (writtenLength out) e,
+      (g .bytes ∙ ap (writeText out) e, (subst (λ (z : List ℕ). length z ≤ 64) e (g .short), g .there)),
     )
 
 pub outputs : {m t x l : List ℕ} {n : Lengths} (s : Receiving m t x l n) {out new : List ℕ} {r : ℕ} → Replies (progressIn m t x l n) out r new
@@ -65,9 +65,9 @@ outputs s {out} g =
     record {
       text = reply (s .input);
       output = answer (s .input);
-      count = g .count ∙ ap (handedCount out) e;
-      bytes = g .bytes ∙ ap (handed out) e;
+      count = g .count ∙ ap (writtenLength out) e;
+      bytes = g .bytes ∙ ap (writeText out) e;
     }
 
-pub reports : {out new : List ℕ} {r : ℕ} → r ≡ handedCount out unreadLine → new ≡ handed out unreadLine → Outputs out r new
+pub reports : {out new : List ℕ} {r : ℕ} → r ≡ writtenLength out unreadLine → new ≡ writeText out unreadLine → Outputs out r new
 reports a b = record { text = unreadLine; output = unread; count = a; bytes = b }

@@ -20,14 +20,14 @@ use Rattle.memory.proofs.cells.Exponents.{finite-number}
 use Rattle.tokens.specs.declared.Token.the-variants.{Number}
 use Rattle.tokens.specs.declared.Scanned.the-variants.{Good}
 use Rattle.tokens.specs.Bytes.{isWord, isRun, all}
-use Rattle.tokens.specs.Numerals.{digits, literal, notDot, isHexRun, numeralOf}
-use Rattle.tokens.specs.Scan.{running}
+use Rattle.tokens.specs.Numerals.{digits, realLiteral, notDot, isHexRun, numeralOf}
+use Rattle.tokens.specs.Scan.{runLexeme}
 use Rattle.tokens.proofs.Tests.{by-test, both, no}
 use Rattle.tokens.proofs.Runs.{all-append}
 use Rattle.tokens.proofs.Readings.{decimals, append}
 use Rattle.tokens.proofs.numerals.Seven.{both-small}
-use Rattle.token_table.specs.Table.{fields}
-use Rattle.token_table.specs.Lexing.{Lexes, found, Reads}
+use Rattle.token_table.specs.private.Table.{packFields}
+use Rattle.token_table.specs.private.Lexing.{Lexes, found, DigitsAt}
 use Rattle.token_table.proofs.Lexemes.{lexes-as}
 use Rattle.token_table.proofs.numerals.Runs.{some, inside, wider, digit-word, digit-run, run-append, the-run}
 
@@ -44,7 +44,7 @@ last : {x : ℕ} → isWord x ≡ false → (x ≡ 46 → ⊥) → (isDigit x �
 last {x} f n =
     (by-test (isDigit x) (λ d. no (sym f ∙ digit-word x d)) (λ d. d), rw (f, ne-eqb x 46 n))
 
-pub decimal-run : {s : List ℕ} {at v e x : ℕ} → Reads s at 0 v e x → isDigit (getD s at 0) ≡ true → isWord x ≡ false → (x ≡ 46 → ⊥) → v ≤ 2147483647 → Lexes (running isRun numeralOf (drop at s) at) (fields 1 0 v 0) e
+pub decimal-run : {s : List ℕ} {at v e x : ℕ} → DigitsAt s at 0 v e x → isDigit (getD s at 0) ≡ true → isWord x ≡ false → (x ≡ 46 → ⊥) → v ≤ 2147483647 → Lexes (runLexeme isRun numeralOf (drop at s) at) (packFields 1 0 v 0) e
 decimal-run {s} {at} {v} {e} r d w n l =
     let f = last w n in
     let h = some r d (f .0) in
@@ -54,10 +54,10 @@ decimal-run {s} {at} {v} {e} r d w n l =
     rw (q, g) (lexes-as (rw (mod-eq-of-lt small)) (r .ends) (found (Number (Int (pos v))) at (at + length (r .run))))
 
 -- ---- real literals: digits, a dot, digits
-pub at-dot : {s : List ℕ} {at n v e x : ℕ} → Reads s at n v e x → isDigit (getD s at 0) ≡ true → x ≡ 46 → (at < e) × Reads s at n v e 46
-at-dot {s} {at} {n} {v} {e} r d q = (some r d (ap isDigit q), subst (λ (k : ℕ). Reads s at n v e k) q r)
+pub at-dot : {s : List ℕ} {at n v e x : ℕ} → DigitsAt s at n v e x → isDigit (getD s at 0) ≡ true → x ≡ 46 → (at < e) × DigitsAt s at n v e 46
+at-dot {s} {at} {n} {v} {e} r d q = (some r d (ap isDigit q), subst (λ (k : ℕ). DigitsAt s at n v e k) q r)
 
-pub dot-inside : {s : List ℕ} {at n v e : ℕ} → Reads s at n v e 46 → e + 1 ≤ length s
+pub dot-inside : {s : List ℕ} {at n v e : ℕ} → DigitsAt s at n v e 46 → e + 1 ≤ length s
 dot-inside {s} {e = e} r = omega (arith, inside s e 46 (r .behind) (lit< tt))
 
 no-digits : (s t : List ℕ) → all isDigit (s ++ 46 ∷ t) ≡ false
@@ -83,14 +83,14 @@ past-dot [] t = refl
 past-dot (c ∷ cs) t = past-dot cs t
 
 module _ (s t : List ℕ) (h : 0 < length s) (k : 0 < length t) (e : all isDigit s ≡ true) (f : all isDigit t ≡ true) (l : length s + length t ≤ 7) where
-  real-is : numeralOf (s ++ 46 ∷ t) ≡ Good (Number (Real (literal (decimalFrom (decimalFrom 0 s) t) (length t))))
+  real-is : numeralOf (s ++ 46 ∷ t) ≡ Good (Number (Real (realLiteral (decimalFrom (decimalFrom 0 s) t) (length t))))
   real-is =
       rw (not-decimal s t, no-hex s t e, run-append notDot s (46 ∷ t) (wider isDigit notDot no-dot s e) refl, take-append-seam, past-dot s t, all-digits s h e, all-digits t k f, le-leb (length s + length t) 7 l, append decimals 0 s t)
 
   small : decimalFrom (decimalFrom 0 s) t < 10000000
   small = both-small s t (all-digits s h e) (all-digits t k f) l
 
-module _ {s : List ℕ} {at dot v w e x : ℕ} (a : Reads s at 0 v dot 46) (h : at < dot) (b : Reads s (dot + 1) v w e x) (k : e ≡ dot + 1 → ⊥) (l : e ≤ at + 8) where
+module _ {s : List ℕ} {at dot v w e x : ℕ} (a : DigitsAt s at 0 v dot 46) (h : at < dot) (b : DigitsAt s (dot + 1) v w e x) (k : e ≡ dot + 1 → ⊥) (l : e ≤ at + 8) where
   whole : 0 < length (a .run)
   whole = omega (arith, a .ends)
 
@@ -110,10 +110,10 @@ module _ {s : List ℕ} {at dot v w e x : ℕ} (a : Reads s at 0 v dot 46) (h : 
   literal-small =
       (omega (arith, value, small (a .run) (b .run) whole part (a .digits) (b .digits) seven), omega (arith, a .ends, b .ends))
 
-  pub literal-finite : T (not (isNan (literal w (e - dot - 1))))
-  literal-finite = finite-number (literal w (e - dot - 1)) (real-laws .read w (e - dot - 1) (literal-small .0) (literal-small .1) .real)
+  pub literal-finite : T (not (isNan (realLiteral w (e - dot - 1))))
+  literal-finite = finite-number (realLiteral w (e - dot - 1)) (real-laws .literal-single w (e - dot - 1) (literal-small .0) (literal-small .1) .real)
 
-  pub real-run : isRun x ≡ false → Lexes (running isRun numeralOf (drop at s) at) (fields 2 0 (toBits binary32 (literal w (e - dot - 1))) 0) e
+  pub real-run : isRun x ≡ false → Lexes (runLexeme isRun numeralOf (drop at s) at) (packFields 2 0 (toBits binary32 (realLiteral w (e - dot - 1))) 0) e
   real-run f =
       let run = a .run ++ (46 ∷ b .run) in
       let n = decimalFrom (decimalFrom 0 (a .run)) (b .run) in
@@ -123,6 +123,6 @@ module _ {s : List ℕ} {at dot v w e x : ℕ} (a : Reads s at 0 v dot 46) (h : 
       let all-run = all-append isRun (a .run) (46 ∷ b .run) (wider isDigit isRun digit-run (a .run) (a .digits)) (wider isDigit isRun digit-run (b .run) (b .digits)) in
       let q = the-run isRun numeralOf s run at e splits all-run (sym (ap isRun (b .behind)) ∙ f) in
       let g = real-is (a .run) (b .run) whole part (a .digits) (b .digits) seven in
-      let same = ap (λ (m : ℕ). fields 2 0 (toBits binary32 (literal m (e - dot - 1))) 0) value ∙ ap (λ (m : ℕ). fields 2 0 (toBits binary32 (literal n m)) 0) places in
+      let same = ap (λ (m : ℕ). packFields 2 0 (toBits binary32 (realLiteral m (e - dot - 1))) 0) value ∙ ap (λ (m : ℕ). packFields 2 0 (toBits binary32 (realLiteral n m)) 0) places in
       let ends : e ≡ at + length run = rw length-append (omega (arith, a .ends, b .ends)) in
-      rw (q, g) (lexes-as same ends (found (Number (Real (literal n (length (b .run))))) at (at + length run)))
+      rw (q, g) (lexes-as same ends (found (Number (Real (realLiteral n (length (b .run))))) at (at + length run)))

@@ -10,19 +10,19 @@ use lib.Seq.{drop-cons, append-snoc, take-append-seam}
 use Rattle.memory.specs.Names.{isDigit}
 use Rattle.tokens.specs.declared.Scanned.{Scanned}
 use Rattle.tokens.specs.Bytes.{isWord, isRun, runLen, all}
-use Rattle.tokens.specs.Scan.{lexeme, running}
+use Rattle.tokens.specs.Scan.{lexeme, runLexeme}
 use Rattle.tokens.proofs.Tests.{both, no}
 use Rattle.tokens.proofs.Runs.{all-append}
 use Rattle.tokens.proofs.Readings.{decimals, append}
-use Rattle.token_table.specs.Lexing.{Reads}
+use Rattle.token_table.specs.private.Lexing.{DigitsAt}
 
 -- ---- one digit after another
-pub begin : (s : List ℕ) (at n : ℕ) → at ≤ length s → Reads s at n n at (getD s at 0)
+pub begin : (s : List ℕ) (at n : ℕ) → at ≤ length s → DigitsAt s at n n at (getD s at 0)
 begin s at n h =
     record { run = []; splits = refl; ends = omega arith; within = h; digits = refl; makes = refl; behind = refl }
 
-module _ {s : List ℕ} {at n v i x : ℕ} (r : Reads s at n v i x) where
-  pub more : i < length s → isDigit (getD s i 0) ≡ true → Reads s at n (v * 10 + (getD s i 0 - 48)) (i + 1) (getD s (i + 1) 0)
+module _ {s : List ℕ} {at n v i x : ℕ} (r : DigitsAt s at n v i x) where
+  pub more : i < length s → isDigit (getD s i 0) ≡ true → DigitsAt s at n (v * 10 + (getD s i 0 - 48)) (i + 1) (getD s (i + 1) 0)
   more h d =
       record {
         run = r .run ++ (getD s i 0 ∷ []);
@@ -35,7 +35,7 @@ module _ {s : List ℕ} {at n v i x : ℕ} (r : Reads s at n v i x) where
       }
 
   -- no byte stands behind the text
-  pub at-end : length s ≤ i → Reads s at n v i 0
+  pub at-end : length s ≤ i → DigitsAt s at n v i 0
   at-end h =
       record {
         run = r .run;
@@ -86,5 +86,5 @@ stops p (c ∷ cs) zero f = rw f
 stops p (c ∷ cs) (suc i) f = stops p cs i f
 
 -- bytes of a class, with none of it behind them, are the run that is judged
-pub the-run : (p : ℕ → Bool) (f : List ℕ → Scanned) (s run : List ℕ) (at e : ℕ) → drop at s ≡ run ++ drop e s → all p run ≡ true → p (getD s e 0) ≡ false → running p f (drop at s) at ≡ lexeme at (length run) (f run)
+pub the-run : (p : ℕ → Bool) (f : List ℕ → Scanned) (s run : List ℕ) (at e : ℕ) → drop at s ≡ run ++ drop e s → all p run ≡ true → p (getD s e 0) ≡ false → runLexeme p f (drop at s) at ≡ lexeme at (length run) (f run)
 the-run p f s run at e q a z = rw (q, run-append p run (drop e s) a (stops p s e z), take-append-seam)

@@ -8,16 +8,16 @@ use lib.Dec.{eqb}
 use lib.ListN.{length, getD, drop}
 use borrow.Author.Tests.{eqb-true, ne-eqb}
 use Rattle.tokens.specs.declared.Token.the-variants.{Symbol}
-use Rattle.tokens.specs.Symbols.{symbols, symbolCount, symbolBytes, find, longest}
+use Rattle.tokens.specs.Symbols.{symbols, symbolCount, symbolBytes, findSymbol, longest}
 use Rattle.tokens.specs.Scan.{symbolLexeme}
 use Rattle.tokens.proofs.Tests.{by-test, both, no}
 use Rattle.tokens.proofs.symbols.Longest.{three}
-use Rattle.token_table.specs.Table.{fields}
-use Rattle.token_table.specs.Lexing.{Lexes, found, Takes}
+use Rattle.token_table.specs.private.Table.{packFields}
+use Rattle.token_table.specs.private.Lexing.{Lexes, found, SymbolSize}
 use Rattle.token_table.proofs.Lexemes.{lexes-as}
 
 -- ---- the word of a symbol
-pub a-symbol : (at n m : ℕ) → Takes n m → Lexes (symbolLexeme at n) (fields 6 n 0 0) (at + m)
+pub a-symbol : (at n m : ℕ) → SymbolSize n m → Lexes (symbolLexeme at n) (packFields 6 n 0 0) (at + m)
 a-symbol at n m h =
     let other : (n ≡ symbolCount → ⊥) = λ e. omega (arith, h .symbol) in
     rw (ne-eqb n symbolCount other) (lexes-as refl (ap (λ (k : ℕ). at + k) (h .size)) (found (Symbol n) at (at + length (symbolBytes n))))
@@ -77,7 +77,7 @@ avoided a x (k ∷ ks) v e =
     (λ t. ne-eqb x a (λ p. v .1 (sym p ∙ eqb-true x k t)))
     (λ t. avoided a x ks (v .0) (rw t at e))
 
-unfound : (n a : ℕ) (cs ks : List ℕ) (ss : List (List ℕ)) → Avoids a ks → begin ks ss ≡ true → find n ss (a ∷ cs) ≡ n + length ss
+unfound : (n a : ℕ) (cs ks : List ℕ) (ss : List (List ℕ)) → Avoids a ks → begin ks ss ≡ true → findSymbol n ss (a ∷ cs) ≡ n + length ss
 unfound n a cs ks [] v e = omega arith
 unfound n a cs ks ([] ∷ ss) v e = no e
 unfound n a cs ks ((x ∷ xs) ∷ ss) v e =
@@ -89,5 +89,5 @@ starts = 44 ∷ 93 ∷ 91 ∷ 41 ∷ 40 ∷ 126 ∷ 124 ∷ 94 ∷ 38 ∷ 33 ∷
 
 pub nothing : (a b c : ℕ) → Avoids a starts → symbolCount ≡ longest (a ∷ b ∷ c ∷ [])
 nothing a b c v =
-    let u : (cs : List ℕ) → find 0 symbols (a ∷ cs) ≡ symbolCount = λ cs. unfound 0 a cs starts symbols v refl in
+    let u : (cs : List ℕ) → findSymbol 0 symbols (a ∷ cs) ≡ symbolCount = λ cs. unfound 0 a cs starts symbols v refl in
     rw (u (b ∷ c ∷ []), u (b ∷ []), u [])

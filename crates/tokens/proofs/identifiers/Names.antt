@@ -9,25 +9,25 @@ use Rattle.memory.specs.Names.{bankOf, namedRule}
 use Rattle.tokens.specs.declared.Function.{Function}
 use Rattle.tokens.specs.declared.Token.the-variants.{Name}
 use Rattle.tokens.specs.declared.Scanned.the-variants.{Good}
-use Rattle.tokens.specs.Symbols.{same}
-use Rattle.tokens.specs.Words.{nameOf, named, functions, letterWord, cellWord, otherWord, wordOf}
+use Rattle.tokens.specs.Symbols.{equalBytes}
+use Rattle.tokens.specs.Words.{nameOf, functionNamed, functions, letterWord, cellWord, otherWord, wordToken}
 
 -- the functions that may still have the name s
 pub record Left (fs : List Function) (s : List ℕ) : Type 0 where
-  pub rest : wordOf s ≡ named fs s (otherWord s)
+  pub rest : wordToken s ≡ functionNamed fs s (otherWord s)
 
 pub all-left : (s : List ℕ) → Left functions s
-unfolding wordOf
+unfolding wordToken
 all-left s = record { rest = refl }
 
 module _ {f : Function} {fs : List Function} {s : List ℕ} (l : Left (f ∷ fs) s) where
-  pub not-this : same (nameOf f) s ≡ false → Left fs s
+  pub not-this : equalBytes (nameOf f) s ≡ false → Left fs s
   not-this e = record { rest = rw e at (l .rest) }
 
-  pub this : same (nameOf f) s ≡ true → Good (Name f) ≡ wordOf s
+  pub this : equalBytes (nameOf f) s ≡ true → Good (Name f) ≡ wordToken s
   this e = sym (rw e at (l .rest))
 
-pub none-left : {s : List ℕ} → Left [] s → otherWord s ≡ wordOf s
+pub none-left : {s : List ℕ} → Left [] s → otherWord s ≡ wordToken s
 none-left l = sym (l .rest)
 
 pub one : (s : List ℕ) → length s ≡ 1 → otherWord s ≡ letterWord (bankOf (getD s 0 0))

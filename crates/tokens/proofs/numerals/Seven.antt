@@ -9,13 +9,13 @@ use lib.Dec.{T, lit<, lit≤}
 use lib.ListN.{length, getD, length-append}
 use Rattle.memory.specs.Names.{isDigit, decimalFrom}
 use Rattle.tokens.specs.Bytes.{all}
-use Rattle.tokens.specs.Numerals.{some, digits}
+use Rattle.tokens.specs.Numerals.{nonEmpty, digits}
 use Rattle.tokens.proofs.Tests.{both, digit-small}
 use Rattle.tokens.proofs.Runs.{all-append}
 use Rattle.tokens.proofs.Readings.{decimals, append, below}
 
 all-of : (s : List ℕ) → digits s ≡ true → all isDigit s ≡ true
-all-of s e = both (some s) (all isDigit s) e .1
+all-of s e = both (nonEmpty s) (all isDigit s) e .1
 
 pub whole-small : (s : List ℕ) → digits s ≡ true → length s ≤ 7 → decimalFrom 0 s < 10000000
 whole-small s e h = below decimals digit-small 7 s (lit< tt) (all-of s e) h

@@ -11,7 +11,7 @@ use lib.Seq.{drop-cons, getD-drop, take-append-seam}
 use borrow.Author.Tests.{leb-true, eqb-true, eqb-false, not-true}
 use Rattle.memory.specs.Names.{isDigit}
 use Rattle.tokens.specs.Bytes.{isLetter, isSpace}
-use Rattle.tokens.specs.Symbols.{symbols, symbolCount, symbolBytes, same, find, symbolOf, orElse, longest}
+use Rattle.tokens.specs.Symbols.{symbols, symbolCount, symbolBytes, equalBytes, findSymbol, symbolOf, orElse, longest}
 use Rattle.tokens.specs.Theorems.{Matches}
 use Rattle.tokens.proofs.Tests.{by-test, both, no}
 use Rattle.tokens.proofs.Same.{equal}
@@ -56,12 +56,12 @@ next n s ss cs k (absent e) = absent (omega arith)
 next n s ss cs k (at l h e) =
     let p : k - n ≡ suc (k - suc n) = omega arith in at (omega arith) (omega arith) (rw p e)
 
-place : (n : ℕ) (ss : List (List ℕ)) (cs : List ℕ) → Place n ss cs (find n ss cs)
+place : (n : ℕ) (ss : List (List ℕ)) (cs : List ℕ) → Place n ss cs (findSymbol n ss cs)
 place n [] cs = absent (omega arith)
 place n (s ∷ ss) cs =
-    by-test (same s cs)
+    by-test (equalBytes s cs)
     (λ t. rw t (at (omega arith) (omega arith) (rw (sub-self n) (equal s cs t))))
-    (λ t. rw t (next n s ss cs (find (suc n) ss cs) (place (suc n) ss cs)))
+    (λ t. rw t (next n s ss cs (findSymbol (suc n) ss cs) (place (suc n) ss cs)))
 
 -- n is no symbol, or one that the bytes cs begin with
 pub data Front (cs : List ℕ) (n : ℕ) : Type 0 where

@@ -12,7 +12,7 @@ use lib.Ieee.Fits.{down-pos}
 use lib.Ieee.Exact.{HasValue}
 use lib.Ieee.Nearest.{div-same}
 use borrow.Author.Tests.{lt-ltb, ltb-true}
-use Rattle.reals.specs.Singles.{units, signed}
+use Rattle.reals.specs.Singles.{unitCount, signed}
 use Rattle.values.specs.declared.Cut.the-variants.{Outside}
 use Rattle.values.specs.Integers.{inRange}
 use Rattle.values.specs.Convert.{cut, cutBy, truncated}
@@ -20,7 +20,7 @@ use Rattle.values.proofs.Ranges.{below-range, above-range}
 use Rattle.values.proofs.convert.Limits.{limit, Fails, below-high, beyond, at-most, passes-high, passes-low}
 
 -- ---- the whole part: 2 ^ 149 units are 1
-whole-units : (s : Bool) (m : ℕ) (e : ℤ) → units (fin s m e) / 2 ^ 149 ≡ m * up e / down e
+whole-units : (s : Bool) (m : ℕ) (e : ℤ) → unitCount (fin s m e) / 2 ^ 149 ≡ m * up e / down e
 whole-units s m e = div-div-eq-div-mul (m * up e * 2 ^ 149) (down e) (2 ^ 149) ∙ mul-div-mul-right (m * up e) (down e) (pow-pos 149)
 
 -- ---- the cast to 64 bits, where its two tests pass
@@ -71,7 +71,7 @@ pub outside : (f : ℕ → ℕ) → ((n : ℕ) → n / 2 ^ 149 ≤ f n) → (k :
 outside f g k K nan t = refl
 outside f g k K (inf s) t = refl
 outside f g k K (fin s m e) t =
-    let n = units (fin s m e) in
+    let n = unitCount (fin s m e) in
     let w : 2 ^ k ≤ n / 2 ^ 149 = rw (whole-units s m e) (le-div-iff-mul-le (down-pos e) .1 (beyond k m e s t)) in
     rw (out-of-range s (f n) (lt-of-lt-of-le (pow-lt K) (le-trans w (g n))))
 

@@ -8,7 +8,7 @@ use lib.IntN.{ℤ}
 use lib.Pow.{pow-pos}
 use lib.Ieee.{Float, nan, inf, fin, up, down, lt, add, fits, binary32}
 use lib.Ieee.Fits.{down-pos}
-use Rattle.reals.specs.Singles.{units, signed}
+use Rattle.reals.specs.Singles.{unitCount, signed}
 use Rattle.values.specs.declared.Cut.the-variants.{Outside}
 use Rattle.values.specs.Convert.{cut, rounded}
 use Rattle.values.proofs.convert.Limits.{limit, Fails, between}
@@ -29,7 +29,7 @@ doubled (inf false) F a b = unfold lt in absurd (false≢true b)
 doubled (fin s m e) F a b =
     let n = m * up e in
     let d = down e in
-    let u = units (fin s m e) in
+    let u = unitCount (fin s m e) in
     let small = between 62 m e s a b in
     let double : 2 * u / 2 ^ 149 ≡ 2 * n / d = twice-units n d (2 ^ 148) (pow-pos 148) in
     let near : (2 * n / d + 1) / 2 ≡ (2 * u + 2 ^ 149) / (2 * 2 ^ 149) = rw (← double) (nearest-half u (2 ^ 149) (pow-pos 149)) in

@@ -12,7 +12,7 @@ use mir.Val.{SFits, toZ, ofZ}
 use mir.ValLaws.{ofZ-fits}
 use Rattle.values.specs.declared.BitOp.{BitOp}
 use Rattle.values.specs.declared.BitOp.the-variants.{And, Or, Xor}
-use Rattle.values.specs.Patterns.{signedOf, digit, number, digitOf, bitwiseInt}
+use Rattle.values.specs.Patterns.{signedOf, digit, fromDigits, digitOf, bitwiseInt}
 use Rattle.values.proofs.patterns.Digits.{digit-lt, number-digits, number-same}
 use Rattle.values.proofs.patterns.Readings.{low-ofZ, signed-toZ}
 
@@ -58,7 +58,7 @@ digit-bits o a b i =
     ap (λ (x : ℕ). x % 2) (shifted o a b i ∙ step o (a / 2 ^ i) (b / 2 ^ i))
     ∙ digits-mod (bitsOf o (a / 2 ^ i / 2) (b / 2 ^ i / 2)) (digitOf-lt o (digit a i) (digit b i) (digit-lt a i) (digit-lt b i))
 
-pub number-bits : (o : BitOp) (k a b : ℕ) → bitsOf o a b % 2 ^ k ≡ number k (λ i. digitOf o (digit a i) (digit b i))
+pub number-bits : (o : BitOp) (k a b : ℕ) → bitsOf o a b % 2 ^ k ≡ fromDigits k (λ i. digitOf o (digit a i) (digit b i))
 number-bits o k a b = sym (number-digits (bitsOf o a b) k) ∙ number-same k _ _ (digit-bits o a b)
 
 -- so at 32 bits the operation reads as the rule
@@ -68,4 +68,4 @@ bitwise-read o a b F G =
     let y = ofZ w32 b in
     sym (signed-toZ w32 (bitsOf o x y))
     ∙ ap (signedOf 32) (sym (mod-eq-of-lt (bounded o 32 x y (ofZ-fits w32 a F .fits) (ofZ-fits w32 b G .fits))) ∙ number-bits o 32 x y)
-    ∙ sym (ap₂ (λ (x y : ℕ). signedOf 32 (number 32 (λ i. digitOf o (digit x i) (digit y i)))) (low-ofZ w32 a F) (low-ofZ w32 b G))
+    ∙ sym (ap₂ (λ (x y : ℕ). signedOf 32 (fromDigits 32 (λ i. digitOf o (digit x i) (digit y i)))) (low-ofZ w32 a F) (low-ofZ w32 b G))

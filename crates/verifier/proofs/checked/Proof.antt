@@ -8,7 +8,7 @@ use borrow.Author.Needs.{needs}
 use borrow.Author.Tests.{not-true, not-false}
 use Rattle.words.specs.Laws.{Bytes}
 use Rattle.operators.proofs.Arms.{first as some}
-use Rattle.verifier.specs.Shapes.{State, unreached, holds, instrBy, kindsOf, stateAt, stateOf, tableOf}
+use Rattle.verifier.specs.private.Shapes.{State, unreached, holds, instrBy, kindsOf, stateAt, stateOf, tableOf}
 use Rattle.verifier.proofs.Checking.{too-short, Passing, first, Came, turn, fails, agreed, disagreed, landed, lost, ends}
 use Rattle.verifier.proofs.Merging.{sized, resized}
 use Rattle.verifier.proofs.Numbers.{decode-by}
@@ -131,13 +131,13 @@ returns-3 c =
     let m = c .before .before .before .before .before .before .before .before .before .before .before .before .before .before .before in
     lost _ _ (came m) (came-not m (c .before .before .before .before .if3 .taken)) (λ q e. rw e) (c .before .before .skipped .ensures) (entry m .pre .0 .0) (entry m .pre .0 .1) (c .if4 .taken)
 
-brought-requires : tie.Need-brought-requires Inv-loop μ-loop
-brought-requires c κs =
+joined-at-requires : tie.Need-joined-at-requires Inv-loop μ-loop
+joined-at-requires c κs =
     let m = c .before .before .before .before .before .before .before .before .before .before .before .before .before .before .before .before .before .before in
     ((omega (arith, c .before .before .before .before .before .skipped .ensures .way .within, tops-after m, entry m .pre .1 .room), some (c .before .before .before .if4 .left)), sized (m .step .ensures .1 .0))
 
 restore-requires : tie.Need-restore-requires Inv-loop μ-loop
-restore-requires c κs = (c .before .before .before .before .before .before .before .before .before .before .before .before .before .before .before .before .before .before .before .before .step .ensures .0, c .before .brought .ensures .0)
+restore-requires c κs = (c .before .before .before .before .before .before .before .before .before .before .before .before .before .before .before .before .before .before .before .before .step .ensures .0, c .before .joined-at .ensures .0)
 
 loop-less : tie.Need-loop-less Inv-loop μ-loop
 loop-less c = omega (arith, c .before .before .before .before .before .before .before .before .skipped .ensures .way .onward, c .before .before .before .before .before .before .before .before .skipped .ensures .way .within, c .before .before .before .before .before .before .before .before .before .before .before .before .before .before .before .before .before .before .before .before .before .before .before .before .before .before .before .loop-test .taken)
@@ -149,13 +149,13 @@ loop-again c =
       within = c .before .before .before .before .before .before .before .before .skipped .ensures .way .within;
       keeps = c .restore .ensures;
       table = resized (tops-kept (at-loop m)) (m .step .ensures .1 .0);
-      knows = landed _ _ (came m) (came-not m (c .before .before .before .before .before .before .before .before .before .before .if3 .taken)) (λ q e. rw e) (c .before .before .before .before .before .before .before .before .skipped .ensures) (c .before .before .brought .ensures .1);
+      knows = landed _ _ (came m) (came-not m (c .before .before .before .before .before .before .before .before .before .before .if3 .taken)) (λ q e. rw e) (c .before .before .before .before .before .before .before .before .skipped .ensures) (c .before .before .joined-at .ensures .1);
     }
 
 agrees-requires : tie.Need-agrees-requires Inv-loop μ-loop
 agrees-requires c κs =
     let m = c .before .before .before .before .before .before .before .before .before .before .before .before .before .before in
-    ((m .step .ensures .0 .neat, omega (arith, c .before .before .before .before .before .before .before .before .before .before .before .before .before .before .before .before .before .before .before .before .loop-test .taken, tops-after m, entry m .pre .1 .room)), sized (m .step .ensures .1 .0))
+    ((m .step .ensures .0 .canonical, omega (arith, c .before .before .before .before .before .before .before .before .before .before .before .before .before .before .before .before .before .before .before .before .loop-test .taken, tops-after m, entry m .pre .1 .room)), sized (m .step .ensures .1 .0))
 
 same-length-7 : tie.Need-same-length-7 Inv-loop μ-loop
 same-length-7 c = tops-after (c .before .before .before .before .before .before .before .before .before .before .before .before .before .before .before .before)
@@ -222,7 +222,7 @@ checked-spec =
     same-length-5
     same-length-6
     returns-3
-    brought-requires
+    joined-at-requires
     restore-requires
     loop-less
     loop-again

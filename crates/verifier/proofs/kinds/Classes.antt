@@ -23,22 +23,22 @@ use Rattle.memory.proofs.cells.Exponents.{exponent, single-cell, infinite-cell}
 use Rattle.code.specs.declared.Instr.{Instr}
 use Rattle.code.specs.declared.Instr.the-variants.{Unknown}
 use Rattle.code.specs.Instructions.{alone, finiteOnly, loadOf, indexedOf, unaryInstr, binaryInstr, instruction}
-use Rattle.verifier.specs.Typing.{Shape, Move, refused, next, moveOf}
-use Rattle.verifier.specs.Shapes.{numberKind, pushed, Itself, joint, wholly, Makes, Gives, Turns, Pairs, Banked, has, lacks}
+use Rattle.verifier.specs.Typing.{Shape, Move, illTyped, next, moveOf}
+use Rattle.verifier.specs.private.Shapes.{numberKind, pushNumber, Itself, joint, bothIntegers, Makes, LeavesKind, ReplacesKind, ReplacesTwo, Banked, has, lacks}
 use Rattle.verifier.proofs.Moves.{between}
 
 -- ---- what is no instruction leaves nothing
 
 module _ {i : Instr} (e : i ≡ Unknown) where
-  pub gives-none : Gives i 2
+  pub gives-none : LeavesKind i 2
   unfolding moveOf
   gives-none = record { is = λ s. rw e }
 
-  turns-none : (k : ℕ) → Turns i k 2
+  turns-none : (k : ℕ) → ReplacesKind i k 2
   unfolding moveOf
   turns-none k = record { is = λ s. rw e }
 
-  pairs-none : (j k : ℕ) → Pairs i j k 2
+  pairs-none : (j k : ℕ) → ReplacesTwo i j k 2
   unfolding moveOf
   pairs-none j k = record { is = λ s. rw e }
 
@@ -48,7 +48,7 @@ other {n} i h = rw (ne-eqb n 0 h)
 -- ---- kinds
 
 abbrev pub raised : Kind → Kind → Shape → Move
-raised j k s = cond (isInt k) (next (j ∷ s)) refused
+raised j k s = cond (isInt k) (next (j ∷ s)) illTyped
 
 abbrev pub truth : Kind → Kind → Shape → Move
 truth j k s = next (Int ∷ s)
@@ -67,13 +67,13 @@ module _ {j k : ℕ} where
   pub joint-real : (j ≡ 0 → ⊥) → Makes joint j k 1
   joint-real h = record { is = λ s. rw (ne-eqb j 0 h) }
 
-  pub wholly-left : (j ≡ 0 → ⊥) → Makes wholly j k 2
+  pub wholly-left : (j ≡ 0 → ⊥) → Makes bothIntegers j k 2
   wholly-left h = record { is = λ s. rw (ne-eqb j 0 h) }
 
-  pub wholly-right : j ≡ 0 → (k ≡ 0 → ⊥) → Makes wholly j k 2
+  pub wholly-right : j ≡ 0 → (k ≡ 0 → ⊥) → Makes bothIntegers j k 2
   wholly-right e h = record { is = λ s. rw (e, ne-eqb k 0 h) }
 
-  pub wholly-both : j ≡ 0 → k ≡ 0 → Makes wholly j k 0
+  pub wholly-both : j ≡ 0 → k ≡ 0 → Makes bothIntegers j k 0
   wholly-both e f = record { is = λ s. rw (e, f) }
 
   -- a power has its base's kind, and takes an integer
@@ -86,28 +86,28 @@ module _ {j k : ℕ} where
 -- ---- pushes
 
 module _ (a d : ℕ) where
-  pub int-is : a ≡ 0 → Gives (instruction 1 a d) 0
+  pub int-is : a ≡ 0 → LeavesKind (instruction 1 a d) 0
   unfolding moveOf instruction
   int-is e = record { is = λ s. rw e }
 
-  pub int-not : (a ≡ 0 → ⊥) → Gives (instruction 1 a d) 2
+  pub int-not : (a ≡ 0 → ⊥) → LeavesKind (instruction 1 a d) 2
   unfolding instruction
   int-not h = gives-none (other _ h)
 
-  pub real-not : (a ≡ 0 → ⊥) → Gives (instruction 2 a d) 2
+  pub real-not : (a ≡ 0 → ⊥) → LeavesKind (instruction 2 a d) 2
   unfolding instruction
   real-not h = gives-none (other _ h)
 
-  pub real-is : a ≡ 0 → (exponent d ≡ 255 → ⊥) → Gives (instruction 2 a d) 1
+  pub real-is : a ≡ 0 → (exponent d ≡ 255 → ⊥) → LeavesKind (instruction 2 a d) 1
   unfolding moveOf instruction
   real-is e h = record { is = λ s. rw e (kept s (ofBits binary32 d) (single-cell d h .real)) }
     where
-      kept : (s : Shape) (x : Float) → T (finite x) → moveOf (finiteOnly x) s ≡ pushed 1 s
+      kept : (s : Shape) (x : Float) → T (finite x) → moveOf (finiteOnly x) s ≡ pushNumber 1 s
       kept s nan t = absurd t
       kept s (inf b) t = absurd t
       kept s (fin b m e) t = refl
 
-  pub real-infinite : a ≡ 0 → exponent d ≡ 255 → Gives (instruction 2 a d) 2
+  pub real-infinite : a ≡ 0 → exponent d ≡ 255 → LeavesKind (instruction 2 a d) 2
   unfolding instruction
   real-infinite e h = gives-none (rw e (left (ofBits binary32 d) (infinite-cell d h)))
     where
@@ -133,20 +133,20 @@ module _ {b : ℕ} where
   bank-real l m = has {n = 1} m (omega arith) (between (λ b. Real ≡ bankKind (getD banks b X)) 5 1 (refl, tt) l m)
 
 module _ (a d : ℕ) where
-  pub load-few : a < 2 → d < 64 → Gives (instruction 3 a d) 0
+  pub load-few : a < 2 → d < 64 → LeavesKind (instruction 3 a d) 0
   unfolding moveOf instruction
   load-few l m = let b : a < 6 = omega arith in record { is = λ s. rw (lt-ltb a 6 b, few l .0, lt-ltb d 64 m, few l .1) }
 
-  pub load-few-beyond : a < 2 → 64 ≤ d → Gives (instruction 3 a d) 2
+  pub load-few-beyond : a < 2 → 64 ≤ d → LeavesKind (instruction 3 a d) 2
   unfolding instruction
   load-few-beyond l m = let b : a < 6 = omega arith in gives-none (rw (lt-ltb a 6 b, few l .0, le-ltb d 64 m))
 
-  pub load-many : {n : ℕ} → 2 ≤ a → d < 256 → Banked a n → Gives (instruction 3 a d) n
+  pub load-many : {n : ℕ} → 2 ≤ a → d < 256 → Banked a n → LeavesKind (instruction 3 a d) n
   unfolding moveOf instruction
   load-many {n} l m (has b t e) = record { is = λ s. rw (lt-ltb a 6 b, many l b, lt-ltb d 256 m, lt-ltb n 2 t, e) }
   load-many l m (lacks b) = record { is = λ s. rw (le-ltb a 6 b) }
 
-  pub load-beyond : 2 ≤ a → 256 ≤ d → Gives (instruction 3 a d) 2
+  pub load-beyond : 2 ≤ a → 256 ≤ d → LeavesKind (instruction 3 a d) 2
   unfolding instruction
   load-beyond l m = gives-none (go (ltb a 6) refl)
     where
@@ -154,12 +154,12 @@ module _ (a d : ℕ) where
       go true e = rw (e, many l (ltb-true a 6 e), le-ltb d 256 m)
       go false e = rw e
 
-  pub indexed-is : {n : ℕ} → d ≡ 0 → Banked a n → (k : ℕ) → Turns (instruction 4 a d) k n
+  pub indexed-is : {n : ℕ} → d ≡ 0 → Banked a n → (k : ℕ) → ReplacesKind (instruction 4 a d) k n
   unfolding moveOf instruction
   indexed-is {n} e (has b t q) k = record { is = λ s. rw (e, lt-ltb a 6 b, lt-ltb n 2 t, q) }
   indexed-is e (lacks b) k = record { is = λ s. rw (e, le-ltb a 6 b) }
 
-  pub indexed-not : (d ≡ 0 → ⊥) → (k : ℕ) → Turns (instruction 4 a d) k 2
+  pub indexed-not : (d ≡ 0 → ⊥) → (k : ℕ) → ReplacesKind (instruction 4 a d) k 2
   unfolding instruction
   indexed-not h = turns-none (other _ h)
 
@@ -181,44 +181,44 @@ module _ {o : ℕ} where
   unfolding moveOf
   sums l m = record { is = λ j k s. between (Did joint j k s) 1 5 (refl, (refl, (refl, (refl, (refl, tt))))) l m }
 
-  pub shifts : 6 ≤ o → o < 9 → Does wholly o
+  pub shifts : 6 ≤ o → o < 9 → Does bothIntegers o
   unfolding moveOf
-  shifts l m = record { is = λ j k s. between (Did wholly j k s) 6 3 (refl, (refl, (refl, tt))) l m }
+  shifts l m = record { is = λ j k s. between (Did bothIntegers j k s) 6 3 (refl, (refl, (refl, tt))) l m }
 
   pub comparisons : 9 ≤ o → o < 15 → Does truth o
   unfolding moveOf
   comparisons l m = record { is = λ j k s. between (Did truth j k s) 9 6 (refl, (refl, (refl, (refl, (refl, (refl, tt)))))) l m }
 
-  pub bitwise : 15 ≤ o → o < 18 → Does wholly o
+  pub bitwise : 15 ≤ o → o < 18 → Does bothIntegers o
   unfolding moveOf
-  bitwise l m = record { is = λ j k s. between (Did wholly j k s) 15 3 (refl, (refl, (refl, tt))) l m }
+  bitwise l m = record { is = λ j k s. between (Did bothIntegers j k s) 15 3 (refl, (refl, (refl, tt))) l m }
 
   pub choices : 18 ≤ o → o < 20 → Does joint o
   unfolding moveOf
   choices l m = record { is = λ j k s. between (Did joint j k s) 18 2 (refl, (refl, tt)) l m }
 
 module _ (a d : ℕ) where
-  pub unary-not : (d ≡ 0 → ⊥) → (k : ℕ) → Turns (instruction 5 a d) k 2
+  pub unary-not : (d ≡ 0 → ⊥) → (k : ℕ) → ReplacesKind (instruction 5 a d) k 2
   unfolding instruction
   unary-not h = turns-none (other _ h)
 
-  pub unary-none : d ≡ 0 → 8 ≤ a → (k : ℕ) → Turns (instruction 5 a d) k 2
+  pub unary-none : d ≡ 0 → 8 ≤ a → (k : ℕ) → ReplacesKind (instruction 5 a d) k 2
   unfolding instruction
   unary-none e l = turns-none (rw (e, le-ltb a 8 l))
 
   -- the operator of the number o
-  pub unary-is : {o k n : ℕ} → d ≡ 0 → a ≡ o → Turns (unaryInstr (unaryOf o)) k n → Turns (instruction 5 a d) k n
+  pub unary-is : {o k n : ℕ} → d ≡ 0 → a ≡ o → ReplacesKind (unaryInstr (unaryOf o)) k n → ReplacesKind (instruction 5 a d) k n
   unfolding instruction
   unary-is e q f = rw (e, q) f
 
-  pub binary-not : (d ≡ 0 → ⊥) → (j k : ℕ) → Pairs (instruction 6 a d) j k 2
+  pub binary-not : (d ≡ 0 → ⊥) → (j k : ℕ) → ReplacesTwo (instruction 6 a d) j k 2
   unfolding instruction
   binary-not h = pairs-none (other _ h)
 
-  pub binary-none : d ≡ 0 → 20 ≤ a → (j k : ℕ) → Pairs (instruction 6 a d) j k 2
+  pub binary-none : d ≡ 0 → 20 ≤ a → (j k : ℕ) → ReplacesTwo (instruction 6 a d) j k 2
   unfolding instruction
   binary-none e l = pairs-none (rw (e, le-ltb a 20 l))
 
-  pub binary-is : {f : Kind → Kind → Shape → Move} {j k n : ℕ} → d ≡ 0 → Does f a → Makes f j k n → Pairs (instruction 6 a d) j k n
+  pub binary-is : {f : Kind → Kind → Shape → Move} {j k n : ℕ} → d ≡ 0 → Does f a → Makes f j k n → ReplacesTwo (instruction 6 a d) j k n
   unfolding instruction
   binary-is {j = j} {k} e g h = record { is = λ s. rw e (g .is (numberKind j) (numberKind k) s ∙ sym (h .is s)) }

@@ -14,8 +14,8 @@ use Rattle.operators.specs.Kinds.{unaryTakes, binaryTakes}
 use Rattle.code.specs.declared.Instr.{Instr}
 use Rattle.code.specs.declared.Instr.the-variants.{PushInt, PushReal, Load, LoadIndexed, Unary, Binary, Jump, JumpIf, Unknown}
 use Rattle.code.specs.Instructions.{instruction}
-use Rattle.verifier.specs.Typing.{Shape, refused, next, moveOf, stands}
-use Rattle.verifier.specs.Shapes.{Gives, Turns, Pairs}
+use Rattle.verifier.specs.Typing.{Shape, illTyped, next, moveOf, wellFormed}
+use Rattle.verifier.specs.private.Shapes.{LeavesKind, ReplacesKind, ReplacesTwo}
 use Rattle.verifier.proofs.Moves.{between}
 
 abbrev two : Shape
@@ -40,12 +40,12 @@ binary-int (Bits o) = refl
 binary-int (Choice o) = refl
 
 -- it goes on or not
-goes-on : (b : Bool) {x : Shape} (r : Shape) → next x ≡ cond b (next r) refused → b ≡ true
+goes-on : (b : Bool) {x : Shape} (r : Shape) → next x ≡ cond b (next r) illTyped → b ≡ true
 goes-on true r e = refl
 goes-on false r e = let z : _≡_ {A = ℕ} 0 1 = cc in absurd (omega arith)
 
 module _ (m : ℕ) where
-  acts : (i : Instr) (b : Bool) (r : Shape) → moveOf i two ≡ cond b (next r) refused → b ≡ stands m i
+  acts : (i : Instr) (b : Bool) (r : Shape) → moveOf i two ≡ cond b (next r) illTyped → b ≡ wellFormed m i
   unfolding moveOf
   acts (PushInt z) b r e = goes-on b r e
   acts (PushReal x) b r e = goes-on b r e
@@ -61,23 +61,23 @@ module _ (m : ℕ) where
   acts Unknown false r e = refl
 
   module _ {i : Instr} {n : ℕ} where
-    pub gives-known : Gives i n → ltb n 2 ≡ stands m i
+    pub gives-known : LeavesKind i n → ltb n 2 ≡ wellFormed m i
     gives-known f = acts i (ltb n 2) _ (f .is two)
 
-    pub turns-known : Turns i 0 n → ltb n 2 ≡ stands m i
+    pub turns-known : ReplacesKind i 0 n → ltb n 2 ≡ wellFormed m i
     turns-known f = acts i (ltb n 2) _ (f .is (Int ∷ []))
 
-    pub pairs-known : Pairs i 0 0 n → ltb n 2 ≡ stands m i
+    pub pairs-known : ReplacesTwo i 0 0 n → ltb n 2 ≡ wellFormed m i
     pairs-known f = acts i (ltb n 2) _ (f .is [])
 
   -- a jump, of the operand a and the distance d
-  pub alone-known : (b : Bool) (i : Instr) → stands m (cond b i Unknown) ≡ cond b (stands m i) false
+  pub alone-known : (b : Bool) (i : Instr) → wellFormed m (cond b i Unknown) ≡ cond b (wellFormed m i) false
   alone-known true i = refl
   alone-known false i = refl
 
   module _ (a d : ℕ) where
     abbrev Stays : ℕ → Type 0
-    Stays o = stands m (instruction o a d) ≡ cond (eqb a 0) (leb d m) false
+    Stays o = wellFormed m (instruction o a d) ≡ cond (eqb a 0) (leb d m) false
 
     jump-known : Stays 7
     unfolding instruction
@@ -91,5 +91,5 @@ module _ (m : ℕ) where
     unfolding instruction
     if-true-known = alone-known (eqb a 0) (JumpIf true d)
 
-    pub jumps-known : {o : ℕ} {r : Bool} → r ≡ cond (eqb a 0) (leb d m) false → 7 ≤ o → o < 10 → r ≡ stands m (instruction o a d)
+    pub jumps-known : {o : ℕ} {r : Bool} → r ≡ cond (eqb a 0) (leb d m) false → 7 ≤ o → o < 10 → r ≡ wellFormed m (instruction o a d)
     jumps-known e l h = e ∙ sym (between Stays 7 3 (jump-known, (if-false-known, (if-true-known, tt))) l h)

@@ -42,8 +42,8 @@ returns c =
     let s = c .before .before .before .before .before .before in
     (stored (s .pre .1 .1) _ (s .args .held) (s .pre .1 .0) (s .pre .0), merge-adds (s .pre .1 .1) _ (s .args .held) (s .pre .1 .0) (c .before .if1 .taken))
 
-brought-requires : tie.Need-brought-requires
-brought-requires c κs = search needs
+joined-at-requires : tie.Need-joined-at-requires
+joined-at-requires c κs = search needs
 
 same-requires : tie.Need-same-requires
 same-requires c κs = search needs
@@ -58,7 +58,7 @@ same-length-6 : tie.Need-same-length-6
 same-length-6 c = search needs
 
 returns-2 : tie.Need-returns-2
-returns-2 c = (c .before .before .before .before .before .before .before .before .before .before .pre .1 .1, merge-same (c .before .before .before .before .before .before .before .before .before .before .args .held) (c .before .brought .result) (c .same .result) (c .before .brought .ensures .1) (c .same .ensures))
+returns-2 c = (c .before .before .before .before .before .before .before .before .before .before .pre .1 .1, merge-same (c .before .before .before .before .before .before .before .before .before .before .args .held) (c .before .joined-at .result) (c .same .result) (c .before .joined-at .ensures .1) (c .same .ensures))
 
 pub merge-spec : {M : Type 1} → statement M
 merge-spec =
@@ -76,7 +76,7 @@ merge-spec =
     same-length-2
     same-length-3
     returns
-    brought-requires
+    joined-at-requires
     same-requires
     same-length-4
     same-length-5

@@ -6,7 +6,7 @@ use denote.Ref.{now}
 use borrow.Author.Needs.{needs}
 use borrow.Author.Tests.{not-true, not-false}
 use Rattle.words.specs.Laws.{Bytes}
-use Rattle.verifier.specs.Pass.{Skipping}
+use Rattle.verifier.specs.private.Pass.{Skipping}
 use Rattle.verifier.proofs.Stepping.{skipping-none, skipping-more, stands-at}
 use Rattle.verifier.proofs.skipped.Statement.{statement}
 use Rattle.verifier.proofs.skipped.Tie as tie

@@ -35,8 +35,8 @@ unary-requires c κs = search needs
 binary-requires : tie.Need-binary-requires
 binary-requires c κs = search needs
 
-leap-requires : tie.Need-leap-requires
-leap-requires c κs = search needs
+jump-requires : tie.Need-jump-requires
+jump-requires c κs = search needs
 
 fork-requires : tie.Need-fork-requires
 fork-requires c κs = search needs
@@ -69,7 +69,7 @@ same-length-3 : tie.Need-same-length-3
 same-length-3 c = search needs
 
 returns-7 : tie.Need-returns-7
-returns-7 c = (c .before .before .before .before .before .before .leap .ensures .0 _ (c .before .before .before .before .before .before .before .before .before .before .before .before .before .before .pre .0), (c .before .before .before .before .before .before .leap .ensures .1 .0, rw (c .before .before .before .before .before .before .before .before .before .before .match .keys7) (c .before .before .before .before .before .before .leap .ensures .1 .1)))
+returns-7 c = (c .before .before .before .before .before .before .jump .ensures .0 _ (c .before .before .before .before .before .before .before .before .before .before .before .before .before .before .pre .0), (c .before .before .before .before .before .before .jump .ensures .1 .0, rw (c .before .before .before .before .before .before .before .before .before .before .match .keys7) (c .before .before .before .before .before .before .jump .ensures .1 .1)))
 
 same-length-4 : tie.Need-same-length-4
 same-length-4 c = search needs
@@ -107,7 +107,7 @@ step-spec =
     indexed-requires
     unary-requires
     binary-requires
-    leap-requires
+    jump-requires
     fork-requires
     returns
     returns-2

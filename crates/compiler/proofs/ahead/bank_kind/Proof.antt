@@ -4,7 +4,7 @@ use native.Mathlib.Omega.{arith}
 use borrow.Author.Needs.{needs}
 use Rattle.values.specs.declared.Kind.the-variants.{Int}
 use Rattle.memory.specs.Cells.{bankKind}
-use Rattle.compiler.specs.Words.{bankAt}
+use Rattle.compiler.specs.private.Words.{bankAt}
 use Rattle.compiler.proofs.kinds.Ranges.{in-range}
 use Rattle.compiler.proofs.ahead.bank_kind.Statement.{statement}
 use Rattle.compiler.proofs.ahead.bank_kind.Tie as tie

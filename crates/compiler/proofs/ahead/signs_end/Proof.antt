@@ -4,14 +4,14 @@ use native.Mathlib.Omega.{arith}
 use lib.ListN.{length}
 use borrow.Author.Count.{below-more}
 use borrow.Author.Needs.{needs}
-use Rattle.token_table.specs.Table.{wordAt}
-use Rattle.compiler.specs.Words.{signOf}
+use Rattle.token_table.specs.private.Table.{wordAt}
+use Rattle.compiler.specs.private.Words.{prefixNumber}
 use Rattle.compiler.proofs.ahead.Signs.{sign-here, sign-stops}
 use Rattle.compiler.proofs.ahead.signs_end.Statement.{statement}
 use Rattle.compiler.proofs.ahead.signs_end.Tie as tie
 
 abbrev Inv-loop : tie.InvT-loop
-Inv-loop table at end₀ end = (at ≤ end) × (end ≤ length table) × ((i : ℕ) → i < end → at ≤ i → signOf (wordAt table i) < 3)
+Inv-loop table at end₀ end = (at ≤ end) × (end ≤ length table) × ((i : ℕ) → i < end → at ≤ i → prefixNumber (wordAt table i) < 3)
 
 abbrev μ-loop : tie.MeasureT-loop
 μ-loop table at end₀ end = length table - end

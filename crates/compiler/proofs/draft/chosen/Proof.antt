@@ -1,7 +1,7 @@
 -- `compiler::draft::chosen` meets its contract.
 use native.Mathlib.Omega.{arith}
 use borrow.Author.Needs.{needs}
-use Rattle.compiler.specs.Results.{kindIs}
+use Rattle.compiler.specs.private.Results.{kindIs}
 use Rattle.compiler.proofs.draft.Words.{chosen-way, few}
 use Rattle.compiler.proofs.draft.chosen.Statement.{statement}
 use Rattle.compiler.proofs.draft.chosen.Tie as tie

@@ -5,7 +5,7 @@ use native.Mathlib.Omega.{arith}
 use lib.ListN.{length, take, length-set}
 use lib.Seq.{sets}
 use borrow.Author.Needs.{needs}
-use Rattle.compiler.specs.Draft.{wordBytes}
+use Rattle.compiler.specs.private.Draft.{wordBytes}
 use Rattle.compiler.proofs.draft.Copied.{copied-more}
 use Rattle.compiler.proofs.draft.copy.Statement.{statement}
 use Rattle.compiler.proofs.draft.copy.Tie as tie

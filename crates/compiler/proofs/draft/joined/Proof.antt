@@ -3,7 +3,7 @@ use Prim.Native.Nat.{_≤_, _<_}
 use native.Mathlib.Omega.{arith}
 use borrow.Author.Tests.{lt-ltb, le-ltb}
 use borrow.Author.Needs.{needs}
-use Rattle.token_table.specs.Table.{operandOf}
+use Rattle.token_table.specs.private.Table.{wordOperand}
 use Rattle.compiler.proofs.draft.Numbers.{binary-at}
 use Rattle.compiler.proofs.draft.Words.{which}
 use Rattle.compiler.proofs.draft.joined.Statement.{statement}
@@ -29,7 +29,7 @@ end-of-requires-2 c κs = search needs
 
 settle-requires : tie.Need-settle-requires
 settle-requires c κs =
-    let n = operandOf (c .before .before .before .before .before .before .before .before .before .args .w) in
+    let n = wordOperand (c .before .before .before .before .before .before .before .before .before .args .w) in
     let l : 18 ≤ n = omega arith in
     let h = rw (le-ltb n 18 l) at (c .before .before .before .before .before .before .before .before .before .pre .1) in
     (omega arith, omega arith, omega arith)
@@ -48,7 +48,7 @@ same-length c = search needs
 
 returns : tie.Need-returns
 returns c =
-    let n = operandOf (c .before .before .before .before .before .before .before .before .before .before .before .before .before .before .args .w) in
+    let n = wordOperand (c .before .before .before .before .before .before .before .before .before .before .before .before .before .before .args .w) in
     let l : 18 ≤ n = omega arith in
     rw (le-ltb n 18 l) (cc, cc (which n l (c .before .before .before .before .before .before .before .before .before .before .before .before .before .before .pre .0)))
 
@@ -78,7 +78,7 @@ same-length-2 c = search needs
 
 returns-2 : tie.Need-returns-2
 returns-2 c =
-    let n = operandOf (c .before .before .before .before .before .before .before .before .before .before .before .before .before .before .before .before .args .w) in
+    let n = wordOperand (c .before .before .before .before .before .before .before .before .before .before .before .before .before .before .before .before .args .w) in
     let l : n < 18 = omega arith in
     rw (lt-ltb n 18 l) (cc, cc (binary-at n (c .before .before .before .before .before .before .before .before .before .before .before .before .before .before .before .before .pre .0)))
 

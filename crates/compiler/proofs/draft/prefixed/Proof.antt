@@ -1,7 +1,7 @@
 -- `compiler::draft::prefixed` meets its contract.
 use native.Mathlib.Omega.{arith}
 use borrow.Author.Needs.{needs}
-use Rattle.compiler.specs.Words.{signOf}
+use Rattle.compiler.specs.private.Words.{prefixNumber}
 use Rattle.compiler.proofs.draft.Numbers.{unary-at}
 use Rattle.compiler.proofs.draft.prefixed.Statement.{statement}
 use Rattle.compiler.proofs.draft.prefixed.Tie as tie
@@ -34,7 +34,7 @@ same-length : tie.Need-same-length
 same-length c = search needs
 
 returns : tie.Need-returns
-returns c = (cc, cc (unary-at (signOf (c .before .before .before .before .before .before .before .before .before .before .before .before .args .w)) (omega (arith, c .before .before .before .before .before .before .before .before .before .before .before .before .pre .0))))
+returns c = (cc, cc (unary-at (prefixNumber (c .before .before .before .before .before .before .before .before .before .before .before .before .args .w)) (omega (arith, c .before .before .before .before .before .before .before .before .before .before .before .before .pre .0))))
 
 pub prefixed-spec : {M : Type 1} → statement M
 prefixed-spec =

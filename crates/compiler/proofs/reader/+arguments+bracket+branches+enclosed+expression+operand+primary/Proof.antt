@@ -9,9 +9,9 @@ use borrow.Author.Needs.{needs}
 use lib.ListN.{length}
 use Rattle.grammar.specs.Symbols.{openParen, moreArguments, callTree}
 use Rattle.grammar.specs.Parse.{ok, andThen, bracket as bracketOf, arguments as argumentsOf}
-use Rattle.compiler.specs.Results.{isDone, readNext, readOf}
-use Rattle.compiler.specs.Words.{functionAt}
-use Rattle.compiler.specs.Draft.{reserved}
+use Rattle.compiler.specs.private.Results.{isDone, readNext, readOf}
+use Rattle.compiler.specs.private.Words.{functionAt}
+use Rattle.compiler.specs.private.Draft.{reserved}
 use Rattle.compiler.proofs.reader.Looking.{look, there, primary-there, primary-as, is-leaf, at-end, a-leaf, a-letter, a-name, a-symbol}
 use Rattle.compiler.proofs.reader.Binding.{stopped, met, unmet}
 use Rattle.compiler.proofs.reader.Steps.{being, as-done, moved, reached, enclosed-stopped, enclosed-closed, enclosed-open, shut-reads, full-reads, bracket-inside, primary-end, letter-stopped, letter-done, primary-name, primary-symbol, leaf-reads}

@@ -1,6 +1,6 @@
 -- `results::end_of` meets its contract.
 use borrow.Author.Needs.{needs}
-use Rattle.compiler.specs.Results.{readEnd}
+use Rattle.compiler.specs.private.Results.{readEnd}
 use Rattle.compiler.proofs.results.end_of.Statement.{statement}
 use Rattle.compiler.proofs.results.end_of.Tie as tie
 

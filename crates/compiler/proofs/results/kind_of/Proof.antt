@@ -1,6 +1,6 @@
 -- `results::kind_of` meets its contract.
 use borrow.Author.Needs.{needs}
-use Rattle.compiler.specs.Results.{readKind}
+use Rattle.compiler.specs.private.Results.{readKind}
 use Rattle.compiler.proofs.results.kind_of.Statement.{statement}
 use Rattle.compiler.proofs.results.kind_of.Tie as tie
 

@@ -1,6 +1,6 @@
 -- `results::next_of` meets its contract.
 use borrow.Author.Needs.{needs}
-use Rattle.compiler.specs.Results.{readNext}
+use Rattle.compiler.specs.private.Results.{readNext}
 use Rattle.compiler.proofs.results.next_of.Statement.{statement}
 use Rattle.compiler.proofs.results.next_of.Tie as tie
 

@@ -1,6 +1,6 @@
 -- `results::past` meets its contract: no field but the position changes.
 use borrow.Author.Needs.{needs}
-use Rattle.compiler.specs.Results.{readNext}
+use Rattle.compiler.specs.private.Results.{readNext}
 use Rattle.compiler.proofs.results.Fields.{further-is}
 use Rattle.compiler.proofs.results.past.Statement.{statement}
 use Rattle.compiler.proofs.results.past.Tie as tie

@@ -1,6 +1,6 @@
 -- `results::wrong_of` meets its contract.
 use borrow.Author.Needs.{needs}
-use Rattle.compiler.specs.Results.{readWrong}
+use Rattle.compiler.specs.private.Results.{readWrong}
 use Rattle.compiler.proofs.results.wrong_of.Statement.{statement}
 use Rattle.compiler.proofs.results.wrong_of.Tie as tie
 

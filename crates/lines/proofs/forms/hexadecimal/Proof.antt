@@ -1,7 +1,7 @@
 -- `forms::hexadecimal` meets its contract: the text has ten bytes and begins with `0x`, and the numeral's rule does the rest.
 use mathlib.Core.Path.{ap, _∙_}
 use borrow.Author.Needs.{needs}
-use Rattle.lines.specs.Steps.{scannedForm}
+use Rattle.lines.specs.private.Steps.{scannedForm}
 use Rattle.lines.proofs.forms.Hexadecimals.{pattern, other-length, other-first, other-second}
 use Rattle.lines.proofs.forms.hexadecimal.Statement.{statement}
 use Rattle.lines.proofs.forms.hexadecimal.Tie as tie

@@ -8,7 +8,7 @@ use lib.Seq.{take-all}
 use borrow.Author.Needs.{needs}
 use Rattle.memory.specs.declared.Bank.{Bank}
 use Rattle.memory.specs.declared.names.Letter.the-variants.{Of}
-use Rattle.memory.specs.Names.{elementRule, cellOf, namedRule}
+use Rattle.memory.specs.Names.{elementRule, cellAfterLetter, namedRule}
 use Rattle.memory.proofs.names.Words.{empty, named, no-cell, cell-is, beyond}
 use Rattle.memory.proofs.names.cell_named.Statement.{statement}
 use Rattle.memory.proofs.names.cell_named.Tie as tie
@@ -21,7 +21,7 @@ module _ (c : tie.After-element-of) where
   abbrev bank : Bank
   bank = c .before .before .before .bank .given .0 .0
 
-  by-bank : namedRule word ≡ cellOf (drop 1 word) (Of bank)
+  by-bank : namedRule word ≡ cellAfterLetter (drop 1 word) (Of bank)
   by-bank = named word (search needs) (sym (c .before .before .before .bank .given .1) ∙ c .before .before .before .before .before .bank-of .ensures)
 
   by-number : c .element-of .result ≡ elementRule (drop 1 word)

@@ -9,13 +9,13 @@ use Rattle.memory.specs.declared.Bank.{Bank}
 use Rattle.memory.specs.declared.Bank.the-variants.{X, C, «V», N, D, R}
 use Rattle.memory.specs.declared.store.Encoded.{Encoded}
 use Rattle.memory.specs.declared.store.Encoded.the-variants.{Pattern}
-use Rattle.memory.specs.Store.{boolPattern, lowCut, encodeFinite, isFinite, encode}
+use Rattle.memory.specs.Store.{boolPattern, lowCut, encodeFiniteCell, isFinite, encodeCell}
 use Rattle.memory.proofs.store.Encodings.{number}
 use Rattle.memory.proofs.store.pattern_of.Statement.{statement}
 use Rattle.memory.proofs.store.pattern_of.Tie as tie
 
 -- ---- the value is finite
-at-bank : (b a : Bank) (v : Value) {r : Encoded} → isFinite v ≡ true → b ≡ a → r ≡ encodeFinite a v → r ≡ encode b v
+at-bank : (b a : Bank) (v : Value) {r : Encoded} → isFinite v ≡ true → b ≡ a → r ≡ encodeFiniteCell a v → r ≡ encodeCell b v
 at-bank b a v f e h = rw f (cc)
 
 module _ (c : tie.Else1) where
@@ -28,7 +28,7 @@ module _ (c : tie.Else1) where
   finite : isFinite v ≡ true
   finite = sym (c .before .is-finite .ensures) ∙ not-false _ (c .if1 .left)
 
-  holds : (a : Bank) {r : Encoded} → bank ≡ a → r ≡ encodeFinite a v → r ≡ encode bank v
+  holds : (a : Bank) {r : Encoded} → bank ≡ a → r ≡ encodeFiniteCell a v → r ≡ encodeCell bank v
   holds a e h = at-bank bank a v finite e h
 
 is-finite-requires : tie.Need-is-finite-requires

@@ -12,14 +12,14 @@ use Rattle.memory.specs.declared.Bank.the-variants.{X, C, «V», N, D, R
 use Rattle.memory.specs.declared.Layout.{Layout}
 use Rattle.memory.specs.declared.store.Encoded.the-variants.{Pattern}
 use Rattle.memory.specs.Layout.{layoutOf}
-use Rattle.memory.specs.Store.{written}
+use Rattle.memory.specs.Store.{writeCell}
 use Rattle.memory.proofs.Places.{row-within}
 use Rattle.memory.proofs.store.put.Statement.{statement}
 use Rattle.memory.proofs.store.put.Tie as tie
 
 -- the rule at the bank a, with the place from a row
 write-row : (s : List ℕ) (b a : Bank) (i p : ℕ) (row : Layout) {t : List ℕ} → row ≡ layoutOf b → b ≡ a
-    → t ≡ sets s (row .place + i * row .width) (bytesOf (layoutOf a .width) p) → t ≡ written s b i (Pattern p)
+    → t ≡ sets s (row .place + i * row .width) (bytesOf (layoutOf a .width) p) → t ≡ writeCell s b i (Pattern p)
 write-row s b a i p row w e h = cc
 
 -- ---- once the row is known
@@ -42,7 +42,7 @@ module _ (c : tie.After-layout-of) where
   reach : (a : Bank) → bank ≡ a → at + layoutOf a .width ≤ length image
   reach a e = row-within image bank a element (c .layout-of .result) (c .layout-of .ensures) e (c .before .before .pre)
 
-  writes : (a : Bank) {t : List ℕ} → bank ≡ a → t ≡ sets image at (bytesOf (layoutOf a .width) pattern) → t ≡ written image bank element (Pattern pattern)
+  writes : (a : Bank) {t : List ℕ} → bank ≡ a → t ≡ sets image at (bytesOf (layoutOf a .width) pattern) → t ≡ writeCell image bank element (Pattern pattern)
   writes a e h = write-row image bank a element pattern (c .layout-of .result) (c .layout-of .ensures) e h
 
 layout-of-requires : tie.Need-layout-of-requires

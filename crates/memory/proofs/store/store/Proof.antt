@@ -9,7 +9,7 @@ use Rattle.values.specs.declared.Value.{Value}
 use Rattle.memory.specs.declared.Bank.{Bank}
 use Rattle.memory.specs.declared.store.Encoded.{Encoded}
 use Rattle.memory.specs.Layout.{hasCell}
-use Rattle.memory.specs.Store.{encode, written, answerOf, storeAnswer, storeImage}
+use Rattle.memory.specs.Store.{encodeCell, writeCell, answerOf, storeAnswer, storeImage}
 use Rattle.memory.proofs.store.store.Statement.{statement}
 use Rattle.memory.proofs.store.store.Tie as tie
 
@@ -30,7 +30,7 @@ module _ (c : tie.Else1) where
   has : hasCell image bank element ≡ true
   has = sym (c .before .has-cell .ensures) ∙ not-false _ (c .if1 .left)
 
-  outcome : {x : Encoded} {t : List ℕ} → encode bank v ≡ x → t ≡ written image bank element x
+  outcome : {x : Encoded} {t : List ℕ} → encodeCell bank v ≡ x → t ≡ writeCell image bank element x
       → (answerOf x ≡ storeAnswer image bank element v) × (t ≡ storeImage image bank element v)
   outcome e w = rw (has, e) (refl, w)
 

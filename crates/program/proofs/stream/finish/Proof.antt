@@ -5,7 +5,7 @@ use native.Mathlib.Omega.{arith}
 use lib.ListN.{length, take, length-take}
 use lib.Seq.{length-take-le}
 use borrow.Author.Needs.{needs}
-use Rattle.program.specs.Reply.{replyTo, handed, handedCount}
+use Rattle.program.specs.Reply.{replyTo, writeText, writtenLength}
 use Rattle.program.specs.Stream.{caseIn, progressIn, caseAtEnd}
 use Rattle.program.proofs.reply.Whole.{text, front}
 use Rattle.program.proofs.stream.Buffers.{taken, within}
@@ -54,11 +54,11 @@ put-reply-requires c κs = search needs
 array-share-prefix-bytes : tie.Need-array-share-prefix-bytes
 array-share-prefix-bytes c = search needs
 
-slice-aggregate-hand-over : tie.Need-slice-aggregate-hand-over
-slice-aggregate-hand-over c = taken (c .before .before .put-reply .last .0) (c .before .before .put-reply .result) (omega arith)
+slice-aggregate-write-text : tie.Need-slice-aggregate-write-text
+slice-aggregate-write-text c = taken (c .before .before .put-reply .last .0) (c .before .before .put-reply .result) (omega arith)
 
-hand-over-requires : tie.Need-hand-over-requires
-hand-over-requires c κs = search needs
+write-text-requires : tie.Need-write-text-requires
+write-text-requires c κs = search needs
 
 same-length : tie.Need-same-length
 same-length c = search needs
@@ -79,14 +79,14 @@ returns c =
     let code = c .before .before .before .before .before .before .before .before .before .before .before .before .before .before .before .before .before .before .blank-code .ensures in
     let ran = c .before .before .before .before .before .before .before .before .before .before .before .before .before .compile-and-run in
     let put = c .before .before .before .before .before .before .put-reply in
-    let out = c .before .before .hand-over in
+    let out = c .before .before .write-text in
     let s = caseIn (line .last .1 .0) (line .last .1 .1 .0) (line .last .1 .1 .1 .0) (line .result) in
     let e : take (put .result) (put .last .0) ≡ replyTo (caseAtEnd (progressIn (a .memory .now) (a .target .now) (a .text .now) (a .line .now) (a .n))) =
     front (put .ensures .0) (put .ensures .1) ∙ text s (code .1) (ran .ensures .0) (ran .ensures .1 .0) ∙ ap replyTo (line .ensures .1 .0) in
     let short : length (take (put .result) (put .last .0)) ≤ 64 = rw length-take (omega (arith, put .ensures .1)) in
     record {
-      count = out .ensures .0 ∙ ap (handedCount (a .output .now)) e;
-      bytes = out .ensures .1 .0 ∙ ap (handed (a .output .now)) e;
+      count = out .ensures .0 ∙ ap (writtenLength (a .output .now)) e;
+      bytes = out .ensures .1 .0 ∙ ap (writeText (a .output .now)) e;
       short = rw e at short;
       there = out .ensures .1 .1;
     }
@@ -109,8 +109,8 @@ finish-spec =
     slice-aggregate-put-reply-2
     put-reply-requires
     array-share-prefix-bytes
-    slice-aggregate-hand-over
-    hand-over-requires
+    slice-aggregate-write-text
+    write-text-requires
     same-length
     same-length-2
     same-length-3

@@ -8,7 +8,7 @@ use borrow.Author.Tests.{not-false}
 use Rattle.memory.specs.declared.Layout.{Layout}
 use Rattle.memory.specs.Layout.{layoutOf}
 use Rattle.memory.proofs.names.Decimals.{digit-range}
-use Rattle.token_table.specs.Table.{fields}
+use Rattle.token_table.specs.private.Table.{packFields}
 use Rattle.token_table.proofs.Lexemes.{lexes-as}
 use Rattle.token_table.proofs.identifiers.Cells.{digit-inside, cell-run}
 use Rattle.token_table.proofs.identifiers.cell_at.Statement.{statement}
@@ -83,7 +83,7 @@ word-requires c κs = search needs
 returns-5 : tie.Need-returns-5
 returns-5 c =
     let l : c .before .before .before .before .before .before .before .before .digits .result .value < layoutOf (c .before .before .before .before .before .before .before .before .before .before .before .before .before .args .bank) .elements = omega (arith, c .before .before .before .if3 .left, ap (λ (x : Layout). x .elements) (c .before .before .before .before .before .layout-of .ensures)) in
-    lexes-as (c .word .ensures ∙ ap (λ (k : ℕ). fields 3 k (c .before .before .before .before .before .before .before .before .digits .result .value) 0) (c .before .bank-number .ensures)) refl
+    lexes-as (c .word .ensures ∙ ap (λ (k : ℕ). packFields 3 k (c .before .before .before .before .before .before .before .before .digits .result .value) 0) (c .before .bank-number .ensures)) refl
     (cell-run _ _ (c .before .before .before .before .before .before .before .before .before .before .before .before .before .pre .1 .0) (c .before .before .before .before .before .before .before .before .before .before .before .before .before .pre .1 .1) (c .before .before .before .before .before .before .before .before .before .before .before .byte-at .ensures) (sym (c .before .before .before .before .before .before .before .before .before .before .is-digit .ensures) ∙ not-false _ (c .before .before .before .before .before .before .before .before .before .if1 .left)) (c .before .before .before .before .before .before .before .before .digits .ensures) (sym (c .before .before .before .before .before .before .before .is-word .ensures) ∙ c .before .before .before .before .before .before .if2 .left) l (⊎-elim (λ w _. omega (arith, w .1 .left)) (λ w z. absurd (w .left z)) (c .before .before .if4 .came)))
 
 pub cell-at-spec : {M : Type 1} → statement M

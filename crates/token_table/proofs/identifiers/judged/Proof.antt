@@ -2,7 +2,7 @@
 use mathlib.Core.Path.{sym, _∙_}
 use borrow.Author.Needs.{needs}
 use Rattle.tokens.specs.Bytes.{isWord}
-use Rattle.tokens.specs.Words.{wordOf}
+use Rattle.tokens.specs.Words.{wordToken}
 use Rattle.tokens.proofs.Known.{known-word}
 use Rattle.token_table.proofs.Fields.{known-sound}
 use Rattle.token_table.proofs.Lexemes.{whole-run}
@@ -28,7 +28,7 @@ pack-scanned-requires : tie.Need-pack-scanned-requires
 pack-scanned-requires c κs = λ t q. known-sound (known-word _ (sym (c .word .ensures) ∙ q))
 
 returns : tie.Need-returns
-returns c = whole-run isWord wordOf _ _ (c .before .before .before .word-end .ensures .0) (c .before .word .ensures) (c .pack-scanned .ensures)
+returns c = whole-run isWord wordToken _ _ (c .before .before .before .word-end .ensures .0) (c .before .word .ensures) (c .pack-scanned .ensures)
 
 pub judged-spec : {M : Type 1} → statement M
 judged-spec =

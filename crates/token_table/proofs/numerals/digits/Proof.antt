@@ -6,13 +6,13 @@ use lib.ListN.{length, getD}
 use borrow.Author.Needs.{needs}
 use borrow.Author.Tests.{not-false, ltb-false}
 use Rattle.memory.proofs.names.Decimals.{digit-range}
-use Rattle.token_table.specs.Lexing.{Reads}
+use Rattle.token_table.specs.private.Lexing.{DigitsAt}
 use Rattle.token_table.proofs.numerals.Runs.{begin, more, at-end}
 use Rattle.token_table.proofs.numerals.digits.Statement.{statement}
 use Rattle.token_table.proofs.numerals.digits.Tie as tie
 
 abbrev Inv-loop : tie.InvT-loop
-Inv-loop text at n limit value₀ i₀ value i = Reads text at n value i (getD text i 0)
+Inv-loop text at n limit value₀ i₀ value i = DigitsAt text at n value i (getD text i 0)
 
 abbrev μ-loop : tie.MeasureT-loop
 μ-loop text at n limit value₀ i₀ value i = length text - i

@@ -3,7 +3,7 @@ use mathlib.Core.Path.{refl, sym, ap, _∙_}
 use native.Mathlib.Omega.{arith}
 use lib.Ieee.{Float, binary32, toBits}
 use borrow.Author.Needs.{needs}
-use Rattle.token_table.specs.Table.{fields}
+use Rattle.token_table.specs.private.Table.{packFields}
 use Rattle.token_table.proofs.Lexemes.{lexes-as}
 use Rattle.token_table.proofs.numerals.Forms.{dot-inside, literal-small, literal-finite, real-run}
 use Rattle.token_table.proofs.numerals.real_at.Statement.{statement}
@@ -62,7 +62,7 @@ word-requires c κs = search needs
 
 returns-4 : tie.Need-returns-4
 returns-4 c =
-    lexes-as (c .word .ensures ∙ ap (λ (x : Float). fields 2 0 (toBits binary32 x) 0) (c .before .quotient .ensures)) refl
+    lexes-as (c .word .ensures ∙ ap (λ (x : Float). packFields 2 0 (toBits binary32 x) 0) (c .before .quotient .ensures)) refl
     (real-run (c .before .before .before .before .before .before .before .before .before .pre .1) (c .before .before .before .before .before .before .before .before .before .pre .0) (c .before .before .before .before .before .before .before .digits .ensures) (c .before .before .before .before .if2 .left) (omega (arith, c .before .before .before .if3 .left)) (sym (c .before .before .before .before .before .before .is-run .ensures) ∙ c .before .before .before .before .before .if1 .left))
 
 pub real-at-spec : {M : Type 1} → statement M

@@ -4,7 +4,7 @@ use borrow.Author.Needs.{needs}
 use mir.Syntax.{w32}
 use mir.ValLaws.{toZ-ofZ}
 use Rattle.tokens.specs.declared.Token.the-variants.{Number}
-use Rattle.token_table.specs.Table.{Sound}
+use Rattle.token_table.specs.private.Table.{Sound}
 use Rattle.token_table.proofs.Fields.{has-pattern}
 use Rattle.token_table.proofs.packing.pack.Statement.{statement}
 use Rattle.token_table.proofs.packing.pack.Tie as tie

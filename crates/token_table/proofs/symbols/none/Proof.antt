@@ -1,7 +1,7 @@
 -- `symbols::none` meets its contract.
 use mathlib.Core.Path.{refl}
 use borrow.Author.Needs.{needs}
-use Rattle.token_table.specs.Lexing.{wrong}
+use Rattle.token_table.specs.private.Lexing.{wrong}
 use Rattle.token_table.proofs.Lexemes.{lexes-as}
 use Rattle.token_table.proofs.symbols.none.Statement.{statement}
 use Rattle.token_table.proofs.symbols.none.Tie as tie

@@ -8,7 +8,7 @@ use mir.ValLaws.{toZ-ofZ}
 use borrow.Author.Needs.{needs}
 use borrow.Author.Tests.{not-true, not-false, le-leb, lt-leb}
 use Rattle.tokens.specs.Bytes.{all}
-use Rattle.tokens.specs.Numerals.{some, isHex}
+use Rattle.tokens.specs.Numerals.{nonEmpty, isHex}
 use Rattle.tokens.proofs.Tests.{both, hex-small}
 use Rattle.tokens.proofs.Readings.{hexes, below}
 use Rattle.tokens.proofs.numerals.hexadecimal.Statement.{statement}
@@ -27,7 +27,7 @@ hex-value-requires : tie.Need-hex-value-requires
 hex-value-requires c κs =
     let e = sym (c .before .before .all-hex .ensures) ∙ not-false _ (c .before .if1 .left) in
     let s = c .before .before .before .before .args .run .now in
-    (e, below hexes hex-small 8 s (lit< tt) (both (some s) (all isHex s) e .1) (omega arith))
+    (e, below hexes hex-small 8 s (lit< tt) (both (nonEmpty s) (all isHex s) e .1) (omega arith))
 
 from-pattern-requires : tie.Need-from-pattern-requires
 from-pattern-requires c κs = search needs

@@ -1,5 +1,5 @@
 -- `verifier::kinds::bank_kind` meets its contract: integers, reals, or no bank.
-use Rattle.verifier.specs.Shapes.{lacks}
+use Rattle.verifier.specs.private.Shapes.{lacks}
 use Rattle.verifier.proofs.kinds.Classes.{bank-int, bank-real}
 use Rattle.verifier.proofs.kinds.bank_kind.Statement.{statement}
 use Rattle.verifier.proofs.kinds.bank_kind.Tie as tie

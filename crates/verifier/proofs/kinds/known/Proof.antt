@@ -3,7 +3,7 @@ use mathlib.Core.Path.{sym, ap}
 use native.Mathlib.Omega.{arith}
 use borrow.Author.Needs.{needs}
 use Rattle.operators.proofs.Arms.{past}
-use Rattle.verifier.specs.Typing.{stands}
+use Rattle.verifier.specs.Typing.{wellFormed}
 use Rattle.verifier.proofs.Numbers.{no-opcode, past-opcodes}
 use Rattle.verifier.proofs.kinds.Standing.{gives-known, turns-known, pairs-known, jumps-known}
 use Rattle.verifier.proofs.kinds.known.Statement.{statement}
@@ -56,10 +56,10 @@ returns-7 c =
 returns-8 : tie.Need-returns-8
 returns-8 c =
     let r = c .before .match .rest in
-    ap (stands (c .before .before .args .left)) (sym (no-opcode _ _ (r .0 .0 .0 .0 .0 .1) (r .0 .0 .0 .0 .1) (r .0 .0 .0 .1) (r .0 .0 .1) (r .0 .1) (r .1) (λ e. omega arith) (λ e. omega arith) (λ e. omega arith)))
+    ap (wellFormed (c .before .before .args .left)) (sym (no-opcode _ _ (r .0 .0 .0 .0 .0 .1) (r .0 .0 .0 .0 .1) (r .0 .0 .0 .1) (r .0 .0 .1) (r .0 .1) (r .1) (λ e. omega arith) (λ e. omega arith) (λ e. omega arith)))
 
 returns-9 : tie.Need-returns-9
-returns-9 c = ap (stands (c .before .before .before .args .left)) (sym (past-opcodes _ _ (c .if2 .left)))
+returns-9 c = ap (wellFormed (c .before .before .before .args .left)) (sym (past-opcodes _ _ (c .if2 .left)))
 
 pub known-spec : {M : Type 1} → statement M
 known-spec =

@@ -16,7 +16,7 @@ popped-requires c κs = search needs
 same-requires-2 : tie.Need-same-requires-2
 same-requires-2 c κs =
     let s = c .before .before .before .before .before in
-    (keeps-popped (s .pre .0) (c .before .if2 .taken) (c .popped .ensures) .neat, s .pre .1)
+    (keeps-popped (s .pre .0) (c .before .if2 .taken) (c .popped .ensures) .canonical, s .pre .1)
 
 returns-2 : tie.Need-returns-2
 returns-2 c =

@@ -16,7 +16,7 @@ element-write-kinds : tie.Need-element-write-kinds
 element-write-kinds c = search needs
 
 pushed-requires : tie.Need-pushed-requires
-pushed-requires c κs = (omega arith, room-high (c .before .before .pre .neat) (c .if2 .left), c .before .if1 .left)
+pushed-requires c κs = (omega arith, room-high (c .before .before .pre .canonical) (c .if2 .left), c .before .if1 .left)
 
 returns-3 : tie.Need-returns-3
 returns-3 c = pushes (c .before .before .before .pre) (c .before .before .if1 .left) (c .before .if2 .left) (c .pushed .ensures)

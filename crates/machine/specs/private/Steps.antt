@@ -26,7 +26,7 @@ use Rattle.machine.specs.declared.Ran.{Ran}
 use Rattle.machine.specs.declared.How.{How}
 use Rattle.machine.specs.declared.How.the-variants as How
 use Rattle.machine.specs.declared.Step.{Step}
-use Rattle.machine.specs.Machine.{most}
+use Rattle.machine.specs.Machine.{maxHeight}
 
 -- the operand and the word of an instruction's number; the bytes that must be 0 count as the operand's
 abbrev pub operandOf : ℕ → ℕ
@@ -77,8 +77,8 @@ abbrev pub pushStep : ℕ → Value → Step
 pushStep k v = record { how = How.Push; height = k; skip = 0; value = v; fault = Overflow }
 
 -- a value on k others, where there is room
-abbrev pub pushing : ℕ → Value → Step
-pushing k v = cond (ltb k most) (pushStep k v) stuckStep
+abbrev pub pushOrStuck : ℕ → Value → Step
+pushOrStuck k v = cond (ltb k maxHeight) (pushStep k v) stuckStep
 
 -- ---- the step of an instruction
 -- t of h values are taken: stuck where there are fewer
@@ -86,7 +86,7 @@ abbrev pub taking : ℕ → ℕ → Step → Step
 taking h t x = cond (ltb h t) stuckStep x
 
 abbrev pub outcomeStep : ℕ → Outcome → Step
-outcomeStep k (Outcome.Done v) = pushing k v
+outcomeStep k (Outcome.Done v) = pushOrStuck k v
 outcomeStep k (Outcome.Stopped f) = stopStep f
 outcomeStep k Outcome.WrongKind = stuckStep
 
@@ -100,8 +100,8 @@ jumpStep h v t d = taking h 1 (cond (Bool·beq (truthRule v) t) (skipStep (h - 1
 
 -- l and r are the two last of h values
 abbrev pub stepOf : Environment → Instr → ℕ → Value → Value → Step
-stepOf E (PushInt z) h l r = pushing h (Int z)
-stepOf E (PushReal x) h l r = pushing h (Real x)
+stepOf E (PushInt z) h l r = pushOrStuck h (Int z)
+stepOf E (PushReal x) h l r = pushOrStuck h (Real x)
 stepOf E (Load b i) h l r = outcomeStep h (E .cell b i)
 stepOf E (LoadIndexed b) h l r = givenStep h 1 (E .indexed b r)
 stepOf E (Unary o) h l r = givenStep h 1 (unaryRule o r)
@@ -111,21 +111,21 @@ stepOf E (JumpIf t d) h l r = jumpStep h r t d
 stepOf E Unknown h l r = stuckStep
 
 -- x is the step of an instruction that takes no value, wherever it is run; that takes the last value, r; that takes the two last
-abbrev pub Does : Instr → ℕ → Step → Type 0
-Does i h x = (E : Environment) (l r : Value) → x ≡ stepOf E i h l r
+abbrev pub IsStep : Instr → ℕ → Step → Type 0
+IsStep i h x = (E : Environment) (l r : Value) → x ≡ stepOf E i h l r
 
-abbrev pub DoesOn : Instr → ℕ → Value → Step → Type 0
-DoesOn i h r x = (E : Environment) (l : Value) → x ≡ stepOf E i h l r
+abbrev pub IsStepOn : Instr → ℕ → Value → Step → Type 0
+IsStepOn i h r x = (E : Environment) (l : Value) → x ≡ stepOf E i h l r
 
-abbrev pub DoesOnBoth : Instr → ℕ → Value → Value → Step → Type 0
-DoesOnBoth i h l r x = (E : Environment) → x ≡ stepOf E i h l r
+abbrev pub IsStepOnBoth : Instr → ℕ → Value → Value → Step → Type 0
+IsStepOnBoth i h l r x = (E : Environment) → x ≡ stepOf E i h l r
 
 -- the same in a memory, for the two that read it
-abbrev pub Loads : Environment → Instr → ℕ → Step → Type 0
-Loads E i h x = (l r : Value) → x ≡ stepOf E i h l r
+abbrev pub IsLoad : Environment → Instr → ℕ → Step → Type 0
+IsLoad E i h x = (l r : Value) → x ≡ stepOf E i h l r
 
-abbrev pub LoadsOn : Environment → Instr → ℕ → Value → Step → Type 0
-LoadsOn E i h r x = (l : Value) → x ≡ stepOf E i h l r
+abbrev pub IsLoadOn : Environment → Instr → ℕ → Value → Step → Type 0
+IsLoadOn E i h r x = (l : Value) → x ≡ stepOf E i h l r
 
 -- a load from the bank, of an element that may be beyond it
 abbrev pub bankStep : Environment → Bank → ℕ → ℕ → Step

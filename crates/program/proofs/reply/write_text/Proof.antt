@@ -1,8 +1,8 @@
--- `reply::hand_over` meets its contract.
+-- `reply::write_text` meets its contract.
 use borrow.Author.Needs.{needs}
 use Rattle.program.proofs.reply.Endings.{no-room, room}
-use Rattle.program.proofs.reply.hand_over.Statement.{statement}
-use Rattle.program.proofs.reply.hand_over.Tie as tie
+use Rattle.program.proofs.reply.write_text.Statement.{statement}
+use Rattle.program.proofs.reply.write_text.Tie as tie
 
 returns : tie.Need-returns
 returns c = no-room (c .before .before .before .args .output .now) (c .before .before .before .args .bytes .now) (c .if1 .taken)
@@ -18,5 +18,5 @@ returns-2 c =
     let a = c .before .before .before .before .before .before .before .args in
     room (a .output .now) (a .bytes .now) (c .before .before .before .before .if1 .left) (c .before .before .put-all .ensures)
 
-pub hand-over-spec : {M : Type 1} → statement M
-hand-over-spec = tie.close (tie.spec returns put-all-requires same-length returns-2)
+pub write-text-spec : {M : Type 1} → statement M
+write-text-spec = tie.close (tie.spec returns put-all-requires same-length returns-2)

@@ -19,7 +19,7 @@ use Rattle.memory.specs.Numbers.{banks}
 use Rattle.tokens.specs.declared.Function.{Function}
 use Rattle.tokens.specs.declared.Function.the-variants.{Abs}
 use Rattle.tokens.specs.Words.{functions}
-use Rattle.token_table.specs.Table.{classOf, operandOf, wordPlace, wordAt}
+use Rattle.token_table.specs.private.Table.{wordClass, wordOperand, wordPlace, wordAt}
 use Rattle.grammar.specs.Symbols.{groupNumber}
 
 -- operators, banks and functions by number
@@ -41,30 +41,30 @@ functionOp n = getD (U.Abs ∷ U.ToReal ∷ U.Trunc ∷ U.Trunc ∷ U.Round ∷ 
 
 -- a number or a cell
 abbrev pub isLeaf : ℕ → Bool
-isLeaf w = cond (eqb (classOf w) 0) false (ltb (classOf w) 4)
+isLeaf w = cond (eqb (wordClass w) 0) false (ltb (wordClass w) 4)
 
 abbrev pub leafKind : ℕ → Kind
-leafKind w = cond (eqb (classOf w) 1) Int (cond (eqb (classOf w) 2) Real (bankKind (bankAt (operandOf w))))
+leafKind w = cond (eqb (wordClass w) 1) Int (cond (eqb (wordClass w) 2) Real (bankKind (bankAt (wordOperand w))))
 
 -- the symbol n
 abbrev pub isMark : ℕ → ℕ → Bool
 isMark n w = eqb (w % 65536) (6 + 256 * n)
 
 -- the number of a unary operator, or 3
-abbrev pub signOf : ℕ → ℕ
-signOf w = cond (eqb (w % 65536) 1286) 0 (cond (eqb (w % 65536) 5126) 1 (cond (eqb (w % 65536) 5382) 2 3))
+abbrev pub prefixNumber : ℕ → ℕ
+prefixNumber w = cond (eqb (w % 65536) 1286) 0 (cond (eqb (w % 65536) 5126) 1 (cond (eqb (w % 65536) 5382) 2 3))
 
 -- the group of a binary operator, or 0
 abbrev pub groupIn : ℕ → ℕ
-groupIn w = cond (eqb (classOf w) 6) (groupNumber (operandOf w)) 0
+groupIn w = cond (eqb (wordClass w) 6) (groupNumber (wordOperand w)) 0
 
 -- the place of a token; the text's size behind the last
 abbrev pub placeAt : ℕ → ℕ → ℕ
-placeAt size w = cond (eqb (classOf w) 0) size (wordPlace w)
+placeAt size w = cond (eqb (wordClass w) 0) size (wordPlace w)
 
 -- unary operators stand from `at` up to `end`, and no further
 pub record Signs (s : List ℕ) (at end : ℕ) : Type 0 where
   pub ahead : at ≤ end
   pub within : end ≤ length s
-  pub each : (i : ℕ) → at ≤ i → i < end → signOf (wordAt s i) < 3
-  pub stops : signOf (wordAt s end) ≡ 3
+  pub each : (i : ℕ) → at ≤ i → i < end → prefixNumber (wordAt s i) < 3
+  pub stops : prefixNumber (wordAt s end) ≡ 3

@@ -17,7 +17,7 @@ use Rattle.code.specs.declared.Instr.{Instr}
 use Rattle.code.specs.Instructions.{instruction}
 use Rattle.verifier.specs.declared.packing.Held.{Held}
 use Rattle.verifier.specs.declared.typing.Flow.{Flow}
-use Rattle.verifier.specs.Typing.{Shape, Move, refused, next, pushing, moveOf}
+use Rattle.verifier.specs.Typing.{Shape, Move, illTyped, next, pushKind, moveOf}
 pub use Rattle.verifier.specs.Verdicts.{State, rejected, unreached, holds}
 
 -- ---- an instruction as a number: the opcode, behind it the operand with the two bytes that must be 0, and the word
@@ -51,10 +51,10 @@ kindNumber Real = 1
 -- ---- what an instruction leaves: the number of a kind, or more than 1 for nothing
 
 abbrev pub leaving : ℕ → Shape → Move
-leaving n s = cond (ltb n 2) (next (numberKind n ∷ s)) refused
+leaving n s = cond (ltb n 2) (next (numberKind n ∷ s)) illTyped
 
-abbrev pub pushed : ℕ → Shape → Move
-pushed n s = cond (ltb n 2) (pushing (numberKind n) s) refused
+abbrev pub pushNumber : ℕ → Shape → Move
+pushNumber n s = cond (ltb n 2) (pushKind (numberKind n) s) illTyped
 
 -- the kind k itself, and what two kinds can make
 pub record Itself (k n : ℕ) : Type 0 where
@@ -63,20 +63,20 @@ pub record Itself (k n : ℕ) : Type 0 where
 abbrev pub joint : Kind → Kind → Shape → Move
 joint j k s = next (join j k ∷ s)
 
-abbrev pub wholly : Kind → Kind → Shape → Move
-wholly j k s = cond (isInt j && isInt k) (next (Int ∷ s)) refused
+abbrev pub bothIntegers : Kind → Kind → Shape → Move
+bothIntegers j k s = cond (isInt j && isInt k) (next (Int ∷ s)) illTyped
 
 pub record Makes (f : Kind → Kind → Shape → Move) (j k n : ℕ) : Type 0 where
   pub is : (s : Shape) → leaving n s ≡ f (numberKind j) (numberKind k) s
 
 -- an instruction that leaves it in the place of nothing, of a value of the kind k, or of two, j below k
-pub record Gives (i : Instr) (n : ℕ) : Type 0 where
-  pub is : (s : Shape) → moveOf i s ≡ pushed n s
+pub record LeavesKind (i : Instr) (n : ℕ) : Type 0 where
+  pub is : (s : Shape) → moveOf i s ≡ pushNumber n s
 
-pub record Turns (i : Instr) (k n : ℕ) : Type 0 where
+pub record ReplacesKind (i : Instr) (k n : ℕ) : Type 0 where
   pub is : (s : Shape) → moveOf i (numberKind k ∷ s) ≡ leaving n s
 
-pub record Pairs (i : Instr) (j k n : ℕ) : Type 0 where
+pub record ReplacesTwo (i : Instr) (j k n : ℕ) : Type 0 where
   pub is : (s : Shape) → moveOf i (numberKind k ∷ (numberKind j ∷ s)) ≡ leaving n s
 
 -- the kind of a bank by number
@@ -106,14 +106,14 @@ abbrev pub none : Held
 none = record { height = 0; low = 0; high = 0 }
 
 -- no more than 128, and no other bit is set, so that equal kinds are equal words
-pub record Neat (w : Held) : Type 0 where
+pub record Canonical (w : Held) : Type 0 where
   pub low : w .height ≤ 128
   pub few : word w < 2 ^ w .height
 
 -- the array has its 128 numbers, and the first of them are the kinds of the bits
-pub record Keeps (a : List ℕ) (w : Held) : Type 0 where
+pub record ArrayHolds (a : List ℕ) (w : Held) : Type 0 where
   pub whole : length a ≡ 128
-  pub neat : Neat w
+  pub canonical : Canonical w
   pub is : heldKinds a (w .height) ≡ kindsOf w
 
 pub record Pushed (n : ℕ) (w r : Held) : Type 0 where
@@ -144,28 +144,28 @@ stateOf f = stateAt (f .reach) (kindsOf (f .held))
 
 -- the array a, as it is left, and f are the move m, which is no jump
 pub data Leaves (a : List ℕ) (f : Flow) : Move → Type 0 where
-  stops : f .reach ≡ 0 → Keeps a (f .held) → Leaves a f refused
-  goes : f .reach ≡ 2 → Keeps a (f .held) → Leaves a f (next (kindsOf (f .held)))
+  stops : f .reach ≡ 0 → ArrayHolds a (f .held) → Leaves a f illTyped
+  goes : f .reach ≡ 2 → ArrayHolds a (f .held) → Leaves a f (next (kindsOf (f .held)))
 
 -- ---- three arrays, of the places that jumps go to
 
 -- one more than the height, or 0, and the kinds
-abbrev pub entryOf : ℕ → Held → State
-entryOf zero w = unreached
-entryOf (suc h) w = holds (kindsOf w)
+abbrev pub stateEntry : ℕ → Held → State
+stateEntry zero w = unreached
+stateEntry (suc h) w = holds (kindsOf w)
 
 abbrev pub heldAt : List ℕ → List ℕ → List ℕ → ℕ → Held
 heldAt tops lows highs q = record { height = getD tops q 0 - 1; low = getD lows q 0; high = getD highs q 0 }
 
 abbrev pub tableOf : List ℕ → List ℕ → List ℕ → ℕ → State
-tableOf tops lows highs q = entryOf (getD tops q 0) (heldAt tops lows highs q)
+tableOf tops lows highs q = stateEntry (getD tops q 0) (heldAt tops lows highs q)
 
 -- m places
 pub record Table (m : ℕ) (tops lows highs : List ℕ) : Type 0 where
   pub tops-size : length tops ≡ m
   pub lows-size : length lows ≡ m
   pub highs-size : length highs ≡ m
-  pub neat : (q : ℕ) → Neat (heldAt tops lows highs q)
+  pub canonical : (q : ℕ) → Canonical (heldAt tops lows highs q)
 
 -- nothing was brought, and there is a place for each of n instructions and for the end
 pub record Blank (n : ℕ) (tops lows highs : List ℕ) : Type 0 where

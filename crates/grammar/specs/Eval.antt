@@ -16,17 +16,17 @@ then (Stopped f) k = Stopped f
 then WrongKind k = WrongKind
 
 -- the left side's truth is l, and d decides: then it is the result, and otherwise the right side's truth
-abbrev pub decided : Bool → Bool → Outcome → Outcome
-decided d l r = cond (Bool·beq l d) (Done (fromBool d)) (then r (λ v. Done (fromBool (truthRule v))))
+abbrev pub shortCircuit : Bool → Bool → Outcome → Outcome
+shortCircuit d l r = cond (Bool·beq l d) (Done (fromBool d)) (then r (λ v. Done (fromBool (truthRule v))))
 
-unfoldable pub worth : Environment → Tree → Outcome
+unfoldable pub eval : Environment → Tree → Outcome
 unfolding treeKind
-worth E (literal p v) = Done v
-worth E (cell b i) = E .cell b i
-worth E (indexed b t) = then (worth E t) (λ v. E .indexed b v)
-worth E (unary p o t) = then (worth E t) (λ v. unaryRule o v)
-worth E (binary p o t u) = then (worth E t) (λ v. then (worth E u) (λ w. binaryRule o v w))
-worth E (logic p d t u) = then (worth E t) (λ v. decided d (truthRule v) (worth E u))
-worth E (choice p c t u) =
-    then (worth E c)
-    (λ v. cond (truthRule v) (then (worth E t) (λ w. Done (branchRule w (treeKind u)))) (then (worth E u) (λ w. Done (branchRule w (treeKind t)))))
+eval E (literal p v) = Done v
+eval E (cell b i) = E .cell b i
+eval E (indexed b t) = then (eval E t) (λ v. E .indexed b v)
+eval E (unary p o t) = then (eval E t) (λ v. unaryRule o v)
+eval E (binary p o t u) = then (eval E t) (λ v. then (eval E u) (λ w. binaryRule o v w))
+eval E (logic p d t u) = then (eval E t) (λ v. shortCircuit d (truthRule v) (eval E u))
+eval E (choice p c t u) =
+    then (eval E c)
+    (λ v. cond (truthRule v) (then (eval E t) (λ w. Done (branchRule w (treeKind u)))) (then (eval E u) (λ w. Done (branchRule w (treeKind t)))))

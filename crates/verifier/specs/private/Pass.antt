@@ -6,9 +6,9 @@ use Prim.Native.Nat.{ℕ, suc, _+_, _-_, _≤_, _<_}
 use lib.ListN.{getD}
 use Rattle.code.specs.declared.Instr.{Instr}
 use Rattle.code.specs.Instructions.{decodeAt}
-use Rattle.verifier.specs.Typing.{Shape, refused, next, leap, fork, moveOf, stands}
+use Rattle.verifier.specs.Typing.{Shape, illTyped, next, jump, fork, moveOf, wellFormed}
 pub use Rattle.verifier.specs.Verdicts.{verdictOf}
-use Rattle.verifier.specs.Shapes.{State, rejected, unreached, holds}
+use Rattle.verifier.specs.private.Shapes.{State, rejected, unreached, holds}
 
 pub record Agrees (b : Bool) (s r : Shape) : Type 0 where
   pub yes : b ≡ true → s ≡ r
@@ -29,12 +29,12 @@ pub data Merges (s : Shape) (t : ℕ) (before : ℕ → State) : Bool → (ℕ �
 
 -- from the kinds s held at a place to what flows from it into the next, p, where k instructions follow
 pub data Steps (i : Instr) (k p : ℕ) (s : Shape) (before : ℕ → State) : State → (ℕ → State) → Type 0 where
-  stuck : moveOf i s ≡ refused → Steps i k p s before rejected before
-  strays : stands k i ≡ false → Steps i k p s before rejected before
+  stuck : moveOf i s ≡ illTyped → Steps i k p s before rejected before
+  strays : wellFormed k i ≡ false → Steps i k p s before rejected before
   goes : {r : Shape} → moveOf i s ≡ next r → Steps i k p s before (holds r) before
-  leaps : {r : Shape} {d : ℕ} {after : ℕ → State} → stands k i ≡ true → moveOf i s ≡ leap d r → Merges r (p + d) before true after → Steps i k p s before unreached after
-  forks : {r : Shape} {d : ℕ} {after : ℕ → State} → stands k i ≡ true → moveOf i s ≡ fork d r → Merges r (p + d) before true after → Steps i k p s before (holds r) after
-  leap-clash : {r : Shape} {d : ℕ} {after : ℕ → State} → moveOf i s ≡ leap d r → Merges r (p + d) before false after → Steps i k p s before rejected after
+  leaps : {r : Shape} {d : ℕ} {after : ℕ → State} → wellFormed k i ≡ true → moveOf i s ≡ jump d r → Merges r (p + d) before true after → Steps i k p s before unreached after
+  forks : {r : Shape} {d : ℕ} {after : ℕ → State} → wellFormed k i ≡ true → moveOf i s ≡ fork d r → Merges r (p + d) before true after → Steps i k p s before (holds r) after
+  leap-clash : {r : Shape} {d : ℕ} {after : ℕ → State} → moveOf i s ≡ jump d r → Merges r (p + d) before false after → Steps i k p s before rejected after
   fork-clash : {r : Shape} {d : ℕ} {after : ℕ → State} → moveOf i s ≡ fork d r → Merges r (p + d) before false after → Steps i k p s before rejected after
 
 -- from a place p that nothing flows into to r: jumps come to none between them, and each instruction is known
@@ -42,9 +42,9 @@ pub record Skipping (code : List ℕ) (n : ℕ) (tops : List ℕ) (p r : ℕ) : 
   pub onward : p ≤ r
   pub within : r ≤ n
   pub none : (q : ℕ) → p ≤ q → q < r → getD tops q 0 ≡ 0
-  pub each : (q : ℕ) → p ≤ q → q < r → stands (n - suc q) (decodeAt code q) ≡ true
+  pub each : (q : ℕ) → p ≤ q → q < r → wellFormed (n - suc q) (decodeAt code q) ≡ true
 
 -- and r has a jump, or is the end, or its instruction is not known
 pub record Skips (code : List ℕ) (n : ℕ) (tops : List ℕ) (p r : ℕ) : Type 0 where
   pub way : Skipping code n tops p r
-  pub last : getD tops r 0 ≡ 0 → r < n → stands (n - suc r) (decodeAt code r) ≡ false
+  pub last : getD tops r 0 ≡ 0 → r < n → wellFormed (n - suc r) (decodeAt code r) ≡ false

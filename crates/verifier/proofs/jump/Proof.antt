@@ -1,12 +1,12 @@
--- `verifier::leap` meets its contract: it strays, or its target takes what it brings, or not.
+-- `verifier::jump` meets its contract: it strays, or its target takes what it brings, or not.
 use mathlib.Core.Path.{sym, _∙_}
 use Prim.Native.Nat.{_-_}
 use native.Mathlib.Omega.{arith}
 use borrow.Author.Needs.{needs}
 use borrow.Author.Tests.{not-true, not-false}
 use Rattle.verifier.proofs.Stepping.{stays, leap-strays, leap-lands, leap-fails}
-use Rattle.verifier.proofs.leap.Statement.{statement}
-use Rattle.verifier.proofs.leap.Tie as tie
+use Rattle.verifier.proofs.jump.Statement.{statement}
+use Rattle.verifier.proofs.jump.Tie as tie
 
 sub-stays : tie.Need-sub-stays
 sub-stays c = search needs
@@ -52,8 +52,8 @@ same-length-6 c = search needs
 returns-3 : tie.Need-returns-3
 returns-3 c = (λ a k. k, (c .before .before .before .before .before .before .before .merge .ensures .0, leap-fails _ _ (sym (c .before .before .before .before .before .before .before .before .before .before .before .before .before .stays .ensures) ∙ not-false _ (c .before .before .before .before .before .before .before .before .before .before .before .before .if1 .left)) (c .before .before .before .before .before .before .before .before .before .before .before .word .ensures) (c .if2 .left) (c .before .before .before .before .before .before .before .merge .ensures .1)))
 
-pub leap-spec : {M : Type 1} → statement M
-leap-spec =
+pub jump-spec : {M : Type 1} → statement M
+jump-spec =
     tie.close
     (tie.spec
     sub-stays

@@ -16,6 +16,7 @@ use Rattle.tokens.specs.declared.Scanned.the-variants as Scanned
 use Rattle.lines.specs.declared.forms.Form.{Form}
 use Rattle.lines.specs.declared.forms.Form.the-variants.{Pattern, Other}
 use Rattle.lines.specs.Printing.{decimalText}
+use Rattle.words.specs.Ascii.{byte}
 
 -- the pattern of a numeral that is an integer
 abbrev pub valueForm : Value → Form
@@ -42,4 +43,4 @@ pub record Puts (old : List ℕ) (at : ℕ) (new : List ℕ) (next : ℕ) (text 
 
 -- the integer of a pattern, of which there are 2 * half
 abbrev pub halfText : ℕ → ℕ → List ℕ
-halfText half n = cond (ltb n half) (decimalText n) (45 ∷ decimalText (2 * half - n))
+halfText half n = cond (ltb n half) (decimalText n) (byte "-" ∷ decimalText (2 * half - n))

@@ -1,9 +1,9 @@
--- `verifier::brought` meets its contract: the top is not 0.
+-- `verifier::joined_at` meets its contract: the top is not 0.
 use native.Mathlib.Omega.{arith}
 use borrow.Author.Needs.{needs}
 use Rattle.verifier.proofs.Merging.{brought-some}
-use Rattle.verifier.proofs.brought.Statement.{statement}
-use Rattle.verifier.proofs.brought.Tie as tie
+use Rattle.verifier.proofs.joined_at.Statement.{statement}
+use Rattle.verifier.proofs.joined_at.Tie as tie
 
 shared-slice-read-t6 : tie.Need-shared-slice-read-t6
 shared-slice-read-t6 c = search needs
@@ -12,7 +12,7 @@ sub-t7 : tie.Need-sub-t7
 sub-t7 c = search needs
 
 cast-t8 : tie.Need-cast-t8
-cast-t8 c = omega (arith, c .before .pre .1 .neat (c .before .args .place) .low)
+cast-t8 c = omega (arith, c .before .pre .1 .canonical (c .before .args .place) .low)
 
 mul-t9 : tie.Need-mul-t9
 mul-t9 c = search needs
@@ -29,8 +29,8 @@ shared-slice-read-t14 c = search needs
 returns : tie.Need-returns
 returns c = brought-some (c .before .before .before .pre .1) _ (c .before .before .before .pre .0 .1)
 
-pub brought-spec : {M : Type 1} → statement M
-brought-spec =
+pub joined-at-spec : {M : Type 1} → statement M
+joined-at-spec =
     tie.close
     (tie.spec
     shared-slice-read-t6

@@ -57,59 +57,59 @@ functionNumbered n = cond (ltb n 9) (FunctionOf.Is (getD functions n Abs)) Funct
 
 -- ---- a word
 -- 8 bits of a class, 8 of an operand, 16 of a place, 32 of a number
-abbrev pub fields : ℕ → ℕ → ℕ → ℕ → ℕ
-fields class operand number place = class + 256 * operand + 65536 * place + 2 ^ 32 * number
+abbrev pub packFields : ℕ → ℕ → ℕ → ℕ → ℕ
+packFields class operand number place = class + 256 * operand + 65536 * place + 2 ^ 32 * number
 
-abbrev pub classOf : ℕ → ℕ
-classOf w = w % 256
+abbrev pub wordClass : ℕ → ℕ
+wordClass w = w % 256
 
-abbrev pub operandOf : ℕ → ℕ
-operandOf w = w / 256 % 256
+abbrev pub wordOperand : ℕ → ℕ
+wordOperand w = w / 256 % 256
 
 abbrev pub wordPlace : ℕ → ℕ
 wordPlace w = w / 65536 % 65536
 
-abbrev pub numberOf : ℕ → ℕ
-numberOf w = w / 2 ^ 32
+abbrev pub wordNumber : ℕ → ℕ
+wordNumber w = w / 2 ^ 32
 
-abbrev pub packed : Token → ℕ → ℕ
-packed (Number (Value.Int z)) p = fields 1 0 (lowBits 32 z) p
-packed (Number (Value.Real x)) p = fields 2 0 (Ieee.toBits binary32 x) p
-packed (Cell b i) p = fields 3 (bankNumber b) i p
-packed (Letter b) p = fields 4 (bankNumber b) 0 p
-packed (Name f) p = fields 5 (functionNumber f) 0 p
-packed (Symbol n) p = fields 6 n 0 p
+abbrev pub packToken : Token → ℕ → ℕ
+packToken (Number (Value.Int z)) p = packFields 1 0 (lowBits 32 z) p
+packToken (Number (Value.Real x)) p = packFields 2 0 (Ieee.toBits binary32 x) p
+packToken (Cell b i) p = packFields 3 (bankNumber b) i p
+packToken (Letter b) p = packFields 4 (bankNumber b) 0 p
+packToken (Name f) p = packFields 5 (functionNumber f) 0 p
+packToken (Symbol n) p = packFields 6 n 0 p
 
 -- a real as a cell holds it: the patterns of infinities and NaNs are none
-abbrev pub realAt : Outcome → ℕ → Entry
-realAt (Done v) p = Is (Number v) p
-realAt (Stopped f) p = End
-realAt WrongKind p = End
+abbrev pub realEntry : Outcome → ℕ → Entry
+realEntry (Done v) p = Is (Number v) p
+realEntry (Stopped f) p = End
+realEntry WrongKind p = End
 
-abbrev pub cellOf : BankOf → ℕ → ℕ → Entry
-cellOf (BankOf.Is b) i p = Is (Cell b i) p
-cellOf BankOf.Nothing i p = End
+abbrev pub cellEntry : BankOf → ℕ → ℕ → Entry
+cellEntry (BankOf.Is b) i p = Is (Cell b i) p
+cellEntry BankOf.Nothing i p = End
 
-abbrev pub letterOf : BankOf → ℕ → Entry
-letterOf (BankOf.Is b) p = Is (Letter b) p
-letterOf BankOf.Nothing p = End
+abbrev pub letterEntry : BankOf → ℕ → Entry
+letterEntry (BankOf.Is b) p = Is (Letter b) p
+letterEntry BankOf.Nothing p = End
 
-abbrev pub nameAt : FunctionOf → ℕ → Entry
-nameAt (FunctionOf.Is f) p = Is (Name f) p
-nameAt FunctionOf.Nothing p = End
+abbrev pub nameEntry : FunctionOf → ℕ → Entry
+nameEntry (FunctionOf.Is f) p = Is (Name f) p
+nameEntry FunctionOf.Nothing p = End
 
 unfoldable pub tokenOf : ℕ → ℕ → ℕ → ℕ → Entry
 tokenOf class operand number p =
     cond (eqb class 1) (Is (Number (Value.Int (signedOf 32 number))) p)
-    (cond (eqb class 2) (realAt (realCell number) p)
-    (cond (eqb class 3) (cellOf (bankNumbered operand) number p)
-    (cond (eqb class 4) (letterOf (bankNumbered operand) p)
-    (cond (eqb class 5) (nameAt (functionNumbered operand) p)
+    (cond (eqb class 2) (realEntry (realCell number) p)
+    (cond (eqb class 3) (cellEntry (bankNumbered operand) number p)
+    (cond (eqb class 4) (letterEntry (bankNumbered operand) p)
+    (cond (eqb class 5) (nameEntry (functionNumbered operand) p)
     (cond (eqb class 6) (Is (Symbol operand) p)
     End)))))
 
 abbrev pub entryOf : ℕ → Entry
-entryOf w = tokenOf (classOf w) (operandOf w) (numberOf w) (wordPlace w)
+entryOf w = tokenOf (wordClass w) (wordOperand w) (wordNumber w) (wordPlace w)
 
 -- ---- a list of words
 abbrev pub wordAt : List ℕ → ℕ → ℕ
@@ -124,8 +124,8 @@ listed [] = []
 listed (w ∷ ws) = elim (entryOf w) [ Is t p ↦ record { token = t; place = p } ∷ listed ws | End ↦ [] ]
 
 -- the tokens from a position of the table on
-abbrev pub from : List ℕ → ℕ → List Tok
-from s i = listed (drop i s)
+abbrev pub tokensFrom : List ℕ → ℕ → List Tok
+tokensFrom s i = listed (drop i s)
 
 -- the table holds the tokens of a scan
 pub data Fills : Scan → List ℕ → Filled → Type 0 where
@@ -141,9 +141,9 @@ pub data Sound : Token → Type 0 where
   name : (f : Function) → Sound (Name f)
   symbol : (n : ℕ) → n < symbolCount → Sound (Symbol n)
 
-pub data Word : ℕ → Type 0 where
-  blank : Word 0
-  token : (t : Token) (p : ℕ) → Sound t → p < 65536 → Word (packed t p)
+pub data TokenWord : ℕ → Type 0 where
+  blank : TokenWord 0
+  token : (t : Token) (p : ℕ) → Sound t → p < 65536 → TokenWord (packToken t p)
 
-abbrev pub Tokens : List ℕ → Type 0
-Tokens s = (i : ℕ) → Word (wordAt s i)
+abbrev pub TokenWords : List ℕ → Type 0
+TokenWords s = (i : ℕ) → TokenWord (wordAt s i)

@@ -1,7 +1,7 @@
--- `formula_c::tell` meets its contract: five words, one for each part of the report.
+-- `formula_c::fill_report` meets its contract: five words, one for each part of the report.
 use borrow.Author.Needs.{needs}
-use Rattle.formula_c.proofs.tell.Statement.{statement}
-use Rattle.formula_c.proofs.tell.Tie as tie
+use Rattle.formula_c.proofs.fill_report.Statement.{statement}
+use Rattle.formula_c.proofs.fill_report.Tie as tie
 
 reported-requires : tie.Need-reported-requires
 reported-requires c κs = search needs
@@ -21,8 +21,8 @@ bits-of-requires c κs = search needs
 returns : tie.Need-returns
 returns c = rw (c .before .bits-of .ensures, c .before .before .kind-number .ensures, c .before .before .before .low2 .ensures, c .before .before .before .before .low .ensures, c .before .before .before .before .before .reported .ensures)
 
-pub tell-spec : {M : Type 1} → statement M
-tell-spec =
+pub fill-report-spec : {M : Type 1} → statement M
+fill-report-spec =
     tie.close
     (tie.spec
     reported-requires

@@ -7,26 +7,26 @@ use lib.ListN.{length}
 use Rattle.values.specs.declared.Kind.{Kind}
 use Rattle.tokens.specs.declared.Function.{Function}
 use Rattle.tokens.specs.Scan.{Tok}
-use Rattle.token_table.specs.Table.{from, Tokens}
+use Rattle.token_table.specs.private.Table.{tokensFrom, TokenWords}
 use Rattle.grammar.specs.Tree.{Tree, Place, treeKind, wrongKind, choice}
 use Rattle.grammar.specs.Symbols.{openParen, moreArguments, argument, callTree}
 use Rattle.grammar.specs.Parse.{Result, ok, bad, deep, andThen, expect, enter, primary, arguments}
 use Rattle.tree_code.specs.Code.{codeOf}
-use Rattle.compiler.specs.Results.{Read, Done, Bad, Deep, readNext, readEnd, readKind, readWrong}
-use Rattle.compiler.specs.Draft.{put}
+use Rattle.compiler.specs.private.Results.{Read, Done, Bad, Deep, readNext, readEnd, readKind, readWrong}
+use Rattle.compiler.specs.private.Draft.{putCode}
 
 -- the tree's kind and first wrong kind are these, and its code was put into the draft from pc up to e
-pub record Means (pc : ℕ) (o o′ : List ℕ) (e : ℕ) (k : Kind) (w : Place) (t : Tree) : Type 0 where
+pub record DraftHolds (pc : ℕ) (o o′ : List ℕ) (e : ℕ) (k : Kind) (w : Place) (t : Tree) : Type 0 where
   pub kind : treeKind t ≡ k
   pub wrong : wrongKind t ≡ w
   pub ends : e ≡ pc + length (codeOf t)
-  pub code : o′ ≡ put o pc (codeOf t)
+  pub code : o′ ≡ putCode o pc (codeOf t)
 
 -- the reader's result stands for the parser's
-pub data Same (pc : ℕ) (o o′ s : List ℕ) : Read → Result Tree → Type 0 where
-  same-done : {j e : ℕ} {k : Kind} {w : Place} {t : Tree} {r : List Tok} → Means pc o o′ e k w t → r ≡ from s j → Same pc o o′ s (Done j e k w) (ok t r)
-  same-bad : {j : ℕ} {r : List Tok} → r ≡ from s j → Same pc o o′ s (Bad j) (bad r)
-  same-deep : {j : ℕ} {r : List Tok} → r ≡ from s j → Same pc o o′ s (Deep j) (deep r)
+pub data SameResult (pc : ℕ) (o o′ s : List ℕ) : Read → Result Tree → Type 0 where
+  same-done : {j e : ℕ} {k : Kind} {w : Place} {t : Tree} {r : List Tok} → DraftHolds pc o o′ e k w t → r ≡ tokensFrom s j → SameResult pc o o′ s (Done j e k w) (ok t r)
+  same-bad : {j : ℕ} {r : List Tok} → r ≡ tokensFrom s j → SameResult pc o o′ s (Bad j) (bad r)
+  same-deep : {j : ℕ} {r : List Tok} → r ≡ tokensFrom s j → SameResult pc o o′ s (Deep j) (deep r)
 
 -- reading got on from `at` and writing from pc, by at most eight instructions a token
 pub data Span (s : List ℕ) (at pc : ℕ) : Read → Type 0 where
@@ -35,13 +35,13 @@ pub data Span (s : List ℕ) (at pc : ℕ) : Read → Type 0 where
   span-deep : {j : ℕ} → j ≤ length s → Span s at pc (Deep j)
 
 -- the code read from `at` what the parser p reads there, at any fuel from the cost on, and wrote its code from pc on
-pub record Reads (p : ℕ → List Tok → Result Tree) (cost : ℕ) (s : List ℕ) (at pc : ℕ) (o o′ : List ℕ) (r : Read) : Type 0 where
+pub record ReaderAgrees (p : ℕ → List Tok → Result Tree) (cost : ℕ) (s : List ℕ) (at pc : ℕ) (o o′ : List ℕ) (r : Read) : Type 0 where
   pub span : Span s at pc r
-  pub same : (f : ℕ) → (length s - at) * 8 + cost ≤ f → Same pc o o′ s r (p f (from s at))
+  pub same : (f : ℕ) → (length s - at) * 8 + cost ≤ f → SameResult pc o o′ s r (p f (tokensFrom s at))
 
 -- a table of a text's tokens, a position in it, and a place in the draft with room in numbers for what follows
 pub record Fits (s : List ℕ) (at pc : ℕ) : Type 0 where
-  pub tokens : Tokens s
+  pub tokens : TokenWords s
   pub small : length s ≤ 1025
   pub within : at ≤ length s
   pub room : pc + 8 * length s ≤ 32768 + 8 * at
@@ -52,8 +52,8 @@ primaryOf f d [] = bad []
 primaryOf f d (x ∷ xs) = primary f d x xs
 
 -- a tree, and then the symbol n
-abbrev pub and : ℕ → Result Tree → Result Tree
-and n q = andThen q (λ t r. expect n r (λ z. ok t z))
+abbrev pub thenSymbol : ℕ → Result Tree → Result Tree
+thenSymbol n q = andThen q (λ t r. expect n r (λ z. ok t z))
 
 -- the call of g at p, from its parenthesis on
 abbrev pub callOf : Function → ℕ → ℕ → ℕ → List Tok → Result Tree
@@ -66,10 +66,10 @@ branchesOf c p d f ts = andThen (arguments f d 1 ts) (λ us q. ok (choice p c (a
 -- behind a condition that was read, the branches of IF
 pub record Branches (d : ℕ) (s : List ℕ) (c : ℕ) (o o′ : List ℕ) (r : Read) : Type 0 where
   pub span : (at pc : ℕ) → at ≤ readNext c → pc ≤ readEnd c → readEnd c + 8 * at + 8 ≤ pc + 8 * readNext c → Span s at pc r
-  pub same : (pc : ℕ) (o₀ : List ℕ) (t : Tree) → Means pc o₀ o (readEnd c) (readKind c) (readWrong c) t
-      → (p f : ℕ) → (length s - readNext c) * 8 + 4 ≤ f → Same pc o₀ o′ s r (branchesOf t p d f (from s (readNext c)))
+  pub same : (pc : ℕ) (o₀ : List ℕ) (t : Tree) → DraftHolds pc o₀ o (readEnd c) (readKind c) (readWrong c) t
+      → (p f : ℕ) → (length s - readNext c) * 8 + 4 ≤ f → SameResult pc o₀ o′ s r (branchesOf t p d f (tokensFrom s (readNext c)))
 
 -- the code of a tree has room in a draft of n words and a buffer of m bytes
-pub record Holds (n m : ℕ) (t : Tree) : Type 0 where
+pub record CodeFits (n m : ℕ) (t : Tree) : Type 0 where
   pub draft : length (codeOf t) ≤ n
   pub buffer : 8 * length (codeOf t) ≤ m

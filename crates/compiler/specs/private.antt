@@ -1,0 +1,4 @@
+pub mod Results
+pub mod Words
+pub mod Draft
+pub mod Reading

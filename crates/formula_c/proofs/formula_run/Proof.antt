@@ -1,0 +1,23 @@
+-- `formula_c::formula_run` meets its contract: the words of the operation's answer, and the memory as the operation left it.
+use mathlib.Core.Path.{_∙_, ap}
+use Rattle.formula_c.specs.Words.{reportWords}
+use borrow.Author.Needs.{needs}
+use Rattle.formula_c.proofs.formula_run.Statement.{statement}
+use Rattle.formula_c.proofs.formula_run.Tie as tie
+
+run-requires : tie.Need-run-requires
+run-requires c κs = search needs
+
+fill-report-requires : tie.Need-fill-report-requires
+fill-report-requires c κs = search needs
+
+same-length : tie.Need-same-length
+same-length c = search needs
+
+returns : tie.Need-returns
+returns c =
+    let ran = c .before .before .before .before .run .ensures in
+    (c .fill-report .ensures ∙ ap reportWords (ran .0), ran .1)
+
+pub formula-run-spec : {M : Type 1} → statement M
+formula-run-spec = tie.close (tie.spec run-requires fill-report-requires same-length returns)
