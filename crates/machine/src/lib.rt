@@ -48,7 +48,7 @@ pub struct Step {
     pub fault: Fault,
 }
 
-fn sticks() -> Step
+fn stuck_step() -> Step
     ensures { λ r. ⌜ r ≡ stuckStep ⌝ }
 {
     Step {
@@ -61,11 +61,11 @@ fn sticks() -> Step
 }
 
 // No more than 128 values are held.
-fn pushes(height: usize, value: Value) -> Step
+fn push_step(height: usize, value: Value) -> Step
     ensures { λ r. ⌜ r ≡ pushOrStuck height value ⌝ }
 {
     if 128 <= height {
-        return sticks();
+        return stuck_step();
     }
     Step {
         how: How::Push,
@@ -76,7 +76,7 @@ fn pushes(height: usize, value: Value) -> Step
     }
 }
 
-fn skips(height: usize, skip: usize) -> Step
+fn skip_step(height: usize, skip: usize) -> Step
     ensures { λ r. ⌜ r ≡ skipStep height skip ⌝ }
 {
     Step {
@@ -88,7 +88,7 @@ fn skips(height: usize, skip: usize) -> Step
     }
 }
 
-fn stops(fault: Fault) -> Step
+fn stop_step(fault: Fault) -> Step
     ensures { λ r. ⌜ r ≡ stopStep fault ⌝ }
 {
     Step {
@@ -101,13 +101,13 @@ fn stops(fault: Fault) -> Step
 }
 
 // An outcome, where the first values are kept, as many as height says.
-fn given(height: usize, o: Outcome) -> Step
+fn outcome_step(height: usize, o: Outcome) -> Step
     ensures { λ r. ⌜ r ≡ outcomeStep height o ⌝ }
 {
     match o {
-        Outcome::Done(v) => pushes(height, v),
-        Outcome::Stopped(f) => stops(f),
-        Outcome::WrongKind => sticks(),
+        Outcome::Done(v) => push_step(height, v),
+        Outcome::Stopped(f) => stop_step(f),
+        Outcome::WrongKind => stuck_step(),
     }
 }
 
@@ -129,31 +129,31 @@ fn push_int(w: u64, h: usize) -> Step
     ensures { λ x. ⌜ IsStep (intBy w) h x ⌝ }
 {
     if operand_of(w) != 0 {
-        return sticks();
+        return stuck_step();
     }
-    pushes(h, Value::Int(values::patterns::from_pattern(word_of(w))))
+    push_step(h, Value::Int(values::patterns::from_pattern(word_of(w))))
 }
 
 fn push_real(w: u64, h: usize) -> Step
     ensures { λ x. ⌜ IsStep (realBy w) h x ⌝ }
 {
     if operand_of(w) != 0 {
-        return sticks();
+        return stuck_step();
     }
     let word = word_of(w);
     if word / 8388608 % 256 == 255 {
-        return sticks();
+        return stuck_step();
     }
-    pushes(h, Value::Real(f32::from_bits(word)))
+    push_step(h, Value::Real(f32::from_bits(word)))
 }
 
 fn load_from(bank: Bank, word: u32, image: &[u8], h: usize) -> Step
     ensures { λ x. ⌜ x ≡ bankStep (memoryOf (now (image .entry))) bank word h ⌝ }
 {
     if word < memory::layout_of(bank).elements {
-        given(h, memory::cells::read(image, bank, word))
+        outcome_step(h, memory::cells::read(image, bank, word))
     } else {
-        sticks()
+        stuck_step()
     }
 }
 
@@ -169,7 +169,7 @@ fn load(w: u64, image: &[u8], h: usize) -> Step
         3 => load_from(Bank::N, word, image, h),
         4 => load_from(Bank::D, word, image, h),
         5 => load_from(Bank::R, word, image, h),
-        _ => sticks(),
+        _ => stuck_step(),
     }
 }
 
@@ -179,17 +179,17 @@ fn load_indexed(w: u64, image: &[u8], h: usize, v: Value) -> Step
 {
     let operand = operand_of(w);
     if h < 1 {
-        return sticks();
+        return stuck_step();
     }
     if word_of(w) != 0 {
-        return sticks();
+        return stuck_step();
     }
     if 255 < operand {
-        return sticks();
+        return stuck_step();
     }
     match numbers::bank_numbered(operand as u8) {
-        BankOf::Is(b) => given(h - 1, memory::cells::read_indexed(image, b, v)),
-        BankOf::Nothing => sticks(),
+        BankOf::Is(b) => outcome_step(h - 1, memory::cells::read_indexed(image, b, v)),
+        BankOf::Nothing => stuck_step(),
     }
 }
 
@@ -198,17 +198,17 @@ fn unary(w: u64, h: usize, v: Value) -> Step
 {
     let operand = operand_of(w);
     if h < 1 {
-        return sticks();
+        return stuck_step();
     }
     if word_of(w) != 0 {
-        return sticks();
+        return stuck_step();
     }
     if 255 < operand {
-        return sticks();
+        return stuck_step();
     }
     match tables::unary_of(operand as u8) {
-        UnaryOf::Is(o) => given(h - 1, operators::unary(o, v)),
-        UnaryOf::Nothing => sticks(),
+        UnaryOf::Is(o) => outcome_step(h - 1, operators::unary(o, v)),
+        UnaryOf::Nothing => stuck_step(),
     }
 }
 
@@ -217,17 +217,17 @@ fn binary(w: u64, h: usize, left: Value, v: Value) -> Step
 {
     let operand = operand_of(w);
     if h < 2 {
-        return sticks();
+        return stuck_step();
     }
     if word_of(w) != 0 {
-        return sticks();
+        return stuck_step();
     }
     if 255 < operand {
-        return sticks();
+        return stuck_step();
     }
     match tables::binary_of(operand as u8) {
-        BinaryOf::Is(o) => given(h - 2, operators::binary(o, left, v)),
-        BinaryOf::Nothing => sticks(),
+        BinaryOf::Is(o) => outcome_step(h - 2, operators::binary(o, left, v)),
+        BinaryOf::Nothing => stuck_step(),
     }
 }
 
@@ -235,9 +235,9 @@ fn jump(w: u64, h: usize) -> Step
     ensures { λ x. ⌜ IsStep (jumpBy w) h x ⌝ }
 {
     if operand_of(w) != 0 {
-        return sticks();
+        return stuck_step();
     }
-    skips(h, word_of(w) as usize)
+    skip_step(h, word_of(w) as usize)
 }
 
 // A jump if the truth of v is t.
@@ -245,15 +245,15 @@ fn jump_if(w: u64, h: usize, v: Value, t: bool) -> Step
     ensures { λ x. ⌜ IsStepOn (jumpIfBy t w) h v x ⌝ }
 {
     if operand_of(w) != 0 {
-        return sticks();
+        return stuck_step();
     }
     if h < 1 {
-        return sticks();
+        return stuck_step();
     }
     if operators::truth(v) == t {
-        skips(h - 1, word_of(w) as usize)
+        skip_step(h - 1, word_of(w) as usize)
     } else {
-        skips(h - 1, 0)
+        skip_step(h - 1, 0)
     }
 }
 
@@ -335,7 +335,7 @@ pub fn run(code: &[u8], n: usize, image: &[u8]) -> Ran
             7 => jump(w, h),
             8 => jump_if(w, h, stack[from_top(h, 1)], false),
             9 => jump_if(w, h, stack[from_top(h, 1)], true),
-            _ => sticks(),
+            _ => stuck_step(),
         };
         h = step.height;
         place += 1 + step.skip;

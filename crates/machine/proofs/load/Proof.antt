@@ -35,8 +35,8 @@ load-from-requires-5 c κs = search needs
 load-from-requires-6 : tie.Need-load-from-requires-6
 load-from-requires-6 c κs = search needs
 
-sticks-requires : tie.Need-sticks-requires
-sticks-requires c κs = search needs
+stuck-step-requires : tie.Need-stuck-step-requires
+stuck-step-requires c κs = search needs
 
 returns : tie.Need-returns
 returns c = λ l r. from-bank (memoryOf (now (c .before .before .before .before .before .args .image))) (c .before .before .before .before .before .args .h) l r (operandOf (c .before .before .before .before .before .args .w)) (wordOf (c .before .before .before .before .before .args .w)) X (ap bankNumbered (sym (c .before .before .operand-of .ensures) ∙ c .before .match .keys1)) (rw (c .before .before .before .word-of .ensures) at (c .load-from .ensures))
@@ -60,7 +60,7 @@ returns-7 : tie.Need-returns-7
 returns-7 c = λ l r.
     let rest = c .before .match .rest in
     let large = past 5 (past 4 (past 3 (past 2 (past 1 (first (rest .0 .0 .0 .0 .0 .1)) (rest .0 .0 .0 .0 .1)) (rest .0 .0 .0 .1)) (rest .0 .0 .1)) (rest .0 .1)) (rest .1) in
-    c .sticks .ensures ∙ no-load (memoryOf (now (c .before .before .before .before .before .args .image))) (c .before .before .before .before .before .args .h) l r (operandOf (c .before .before .before .before .before .args .w)) (wordOf (c .before .before .before .before .before .args .w)) (rw (c .before .before .operand-of .ensures) at large)
+    c .stuck-step .ensures ∙ no-load (memoryOf (now (c .before .before .before .before .before .args .image))) (c .before .before .before .before .before .args .h) l r (operandOf (c .before .before .before .before .before .args .w)) (wordOf (c .before .before .before .before .before .args .w)) (rw (c .before .before .operand-of .ensures) at large)
 
 pub load-spec : {M : Type 1} → statement M
 load-spec =
@@ -74,7 +74,7 @@ load-spec =
     load-from-requires-4
     load-from-requires-5
     load-from-requires-6
-    sticks-requires
+    stuck-step-requires
     returns
     returns-2
     returns-3

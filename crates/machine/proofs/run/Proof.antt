@@ -146,8 +146,8 @@ array-copy-out-jump-if-2 c = omega arith
 jump-if-requires-2 : tie.Need-jump-if-requires-2 Inv-loop μ-loop
 jump-if-requires-2 c κs = search needs
 
-sticks-requires : tie.Need-sticks-requires Inv-loop μ-loop
-sticks-requires c κs = search needs
+stuck-step-requires : tie.Need-stuck-step-requires Inv-loop μ-loop
+stuck-step-requires c κs = search needs
 
 add-place : tie.Need-add-place Inv-loop μ-loop
 add-place c = let q = nearer (made (c .before)) in omega arith
@@ -243,7 +243,7 @@ run-spec =
     mul-jump-if-2
     array-copy-out-jump-if-2
     jump-if-requires-2
-    sticks-requires
+    stuck-step-requires
     add-place
     add-place-2
     enum-told
