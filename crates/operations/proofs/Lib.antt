@@ -1,5 +1,6 @@
 -- Promises is what a reader wants; the others are the laws that it and the functions' proofs cite.
 pub mod Promises
+mod Order
 mod Keeping
 mod Texts
 mod Codes

@@ -2,6 +2,7 @@
 use Rattle.text.proofs.Theorems.{text-theorems}
 use Rattle.operations.specs.Promises.{Promises}
 use Rattle.operations.proofs.Keeping.{kept}
+use Rattle.operations.proofs.Order.{wrong-memory, small-buffer, wrong-target, wrong-code}
 use Rattle.operations.proofs.Verdicts.{accepted-by, passes}
 use Rattle.operations.proofs.Texts.{compiles, performs, answers, same-code, same-refusal}
 use Rattle.operations.proofs.Codes.{only-code, faithful, ends}
@@ -12,6 +13,10 @@ pub promises : Promises
 promises = record {
   keeps = kept;
   only-code = only-code;
+  wrong-memory = wrong-memory;
+  small-buffer = λ text code target m l. small-buffer text code target m 0 l;
+  wrong-target = wrong-target;
+  wrong-code = λ code n ready h. wrong-code code n ready h;
   compiles = compiles;
   performs = λ text code ready room. performs ready text code room;
   judged = text-theorems .outcome;

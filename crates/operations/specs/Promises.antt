@@ -4,15 +4,15 @@
 use mathlib.Core.Path.{_≡_}
 use mathlib.Core.Logic.{_↔_}
 use mathlib.Core.List.{List}
-use Prim.Native.Nat.{ℕ, _*_, _≤_}
+use Prim.Native.Nat.{ℕ, _*_, _≤_, _<_}
 use lib.ListN.{length, getD, set, take}
 use Rattle.words.specs.Laws.{Bytes}
 use Rattle.values.specs.declared.Kind.{Kind}
 use Rattle.values.specs.declared.Fault.{Fault}
 use Rattle.values.specs.Values.{faultNumber}
 use Rattle.memory.specs.declared.Bank.{Bank}
-use Rattle.memory.specs.declared.names.Named.the-variants.{Cell}
-use Rattle.memory.specs.Layout.{flagAt}
+use Rattle.memory.specs.declared.names.Named.the-variants.{Cell, Other}
+use Rattle.memory.specs.Layout.{imageSize, flagAt}
 use Rattle.memory.specs.Names.{targetRule}
 use Rattle.memory.specs.Laws.{InCell}
 use Rattle.memory.specs.Environment.{memoryOf}
@@ -86,6 +86,16 @@ pub record Promises : Type 0 where
   pub keeps : (o : Operation) (target m code : List ℕ) → FrameConditions target m code (resultOf o target m code)
   -- "Compiling writes only its code, into the buffer lent for it."
   pub only-code : (text code : List ℕ) (n k : ℕ) → compiled text code ≡ doneWith n → 8 * n ≤ k → getD (compiledCode text code) k 0 ≡ getD code k 0
+  -- "Order, an operation testing those that it has inputs for: 1, 10, 2, .. 15": the refusals that are no text's, each where none before it holds
+  pub wrong-memory : (text code target m : List ℕ) (n : ℕ) → (length m ≡ imageSize → ⊥)
+      → (resultOf (run n) target m code .answer ≡ Refused 1 0) × (resultOf (compile-and-run text) target m code .answer ≡ Refused 1 0)
+  pub small-buffer : (text code target m : List ℕ) → length code < 16384
+      → (compiled text code ≡ Refused 10 0) × (length m ≡ imageSize → resultOf (compile-and-run text) target m code .answer ≡ Refused 10 0)
+  pub wrong-target : (text code target m : List ℕ) (n : ℕ) → length m ≡ imageSize → targetRule target ≡ Other
+      → (resultOf (run n) target m code .answer ≡ Refused 2 0) × (Room code → resultOf (compile-and-run text) target m code .answer ≡ Refused 2 0)
+  pub wrong-code : (code : List ℕ) (n : ℕ) {target m : List ℕ} {b : Bank} {i : ℕ} → Ready target m b i
+      → ((k : Kind) → Code.Accepts (instructions code n) k → ⊥)
+      → (checkAnswer code n ≡ Refused 15 0) × (resultOf (run n) target m code .answer ≡ Refused 15 0)
   -- 2. "A formula is accepted exactly if it follows the written grammar, names, number ranges, length, nesting and kinds of number.", by compile and by
   -- compile-and-run; why any other text is not
   pub compiles : (text code : List ℕ) → Room code → answerNumber (compiled text code) ≡ 0 ↔ ((t : Tree) × AcceptedFormula text t)
