@@ -4,8 +4,7 @@
  * libformula_bare.a has formula_remainder in its place and wants no library. Beside that they call memset alone.
  *
  * Buffers. Each is lent for the call only. One passed as const is never written. No pointer may be null, also where its length
- * is 0, and no two buffers of a call may overlap. They need no alignment; the report has
- * that of its struct, and overlaps no buffer.
+ * is 0, and no two buffers of a call may overlap, the report included. They need no alignment but the report, which is a struct.
  *
  * Calls. Each ends and fills in the whole report. There is no static data: calls on buffers of their own may interrupt one another
  * or run side by side.
@@ -103,7 +102,8 @@ void formula_compile_and_run(const uint8_t *target, size_t target_len, const uin
                              uint8_t *memory, size_t memory_len, uint8_t *code, size_t code_len,
                              struct formula_report *report);
 
-/* C's fmodf for every x and y (any NaN where that is a NaN; errno is left alone), in any floating-point mode and with at most 32 divisions of whole numbers. */
+/* C's fmodf for every x and y, in any floating-point mode and with at most 32 divisions of whole numbers. Where the remainder is
+ * a NaN, which NaN is not fixed; errno is left alone. */
 float formula_remainder(float x, float y);
 
 /* 1 where floating point rounds to nearest, ties to even, and keeps subnormals as operands and as results. */
