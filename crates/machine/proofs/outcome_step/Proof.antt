@@ -1,4 +1,4 @@
--- `given` meets its contract: each arm is the clause of `outcomeStep` for its outcome.
+-- `machine::outcome_step` meets its contract: each arm is the clause of `outcomeStep` for its outcome.
 use borrow.Author.Needs.{needs}
 use Rattle.machine.proofs.outcome_step.Statement.{statement}
 use Rattle.machine.proofs.outcome_step.Tie as tie

@@ -1,4 +1,4 @@
--- `pushes` meets its contract: its test is that of `pushing`.
+-- `machine::push_step` meets its contract: its test is that of `pushOrStuck`.
 use borrow.Author.Needs.{needs}
 use borrow.Author.Tests.{lt-ltb, le-ltb}
 use Rattle.machine.proofs.push_step.Statement.{statement}
