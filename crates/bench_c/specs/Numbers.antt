@@ -8,7 +8,7 @@ use Rattle.compiler.specs.declared.Coded.{Coded}
 use Rattle.compiler.specs.declared.Coded.the-variants as Coded
 use Rattle.verifier.specs.declared.Verdict.{Verdict}
 use Rattle.verifier.specs.declared.Verdict.the-variants as Verdict
-use Rattle.verifier.specs.Accepts.{Right}
+use Rattle.verifier.specs.Accepts.{CorrectVerdict}
 
 -- a refusal's number is above any count of instructions
 abbrev pub codedNumber : Coded → ℕ
@@ -26,5 +26,5 @@ verdictNumber Verdict.Refused = 15
 -- r is the number of the right verdict on n instructions
 pub record Checked (code : List ℕ) (n : ℕ) (r : ℕ) : Type 0 where
   pub verdict : Verdict
-  pub right : Right code n verdict
+  pub right : CorrectVerdict code n verdict
   pub number : r ≡ verdictNumber verdict

@@ -19,7 +19,7 @@ use Rattle.values.proofs.patterns.Readings.{low-signed, signed-toZ}
 use Rattle.operators.specs.declared.UnaryOp.the-variants.{Neg}
 use Rattle.reals.specs.declared.ArithOp.the-variants.{Add}
 use Rattle.operators.specs.declared.BinaryOp.the-variants.{Arith}
-use Rattle.words.specs.Words.{little}
+use Rattle.words.specs.Words.{littleEndian}
 use Rattle.words.specs.Laws.{Bytes}
 use Rattle.words.proofs.Laws.{word-laws}
 use Rattle.memory.specs.declared.Bank.the-variants.{X}
@@ -120,16 +120,16 @@ instruction-decodes o a w h =
 
 -- ---- eight bytes
 eight-decodes : (o a y z : ℕ) (p q r s : ℕ) → Bytes (p ∷ q ∷ r ∷ s ∷ [])
-    → Decodes (o ∷ a ∷ y ∷ z ∷ p ∷ q ∷ r ∷ s ∷ []) (alone (little (y ∷ z ∷ [])) (instruction o a (little (p ∷ q ∷ r ∷ s ∷ []))))
+    → Decodes (o ∷ a ∷ y ∷ z ∷ p ∷ q ∷ r ∷ s ∷ []) (alone (littleEndian (y ∷ z ∷ [])) (instruction o a (littleEndian (p ∷ q ∷ r ∷ s ∷ []))))
 eight-decodes o a y z p q r s B =
     let ws = p ∷ q ∷ r ∷ s ∷ [] in
-    let i = instruction o a (little ws) in
-    when (Decodes (o ∷ a ∷ y ∷ z ∷ ws)) (eqb (little (y ∷ z ∷ [])) 0) i Unknown
+    let i = instruction o a (littleEndian ws) in
+    when (Decodes (o ∷ a ∷ y ∷ z ∷ ws)) (eqb (littleEndian (y ∷ z ∷ [])) 0) i Unknown
     (λ e.
-    let spare : little (y ∷ z ∷ []) ≡ 0 = eqb-true (little (y ∷ z ∷ [])) 0 e in
+    let spare : littleEndian (y ∷ z ∷ []) ≡ 0 = eqb-true (littleEndian (y ∷ z ∷ [])) 0 e in
     let first : y ≡ 0 = omega arith in
     let second : z ≡ 0 = omega arith in
-    subst (λ (l : List ℕ). Decodes l i) (ap (λ (l : List ℕ). o ∷ a ∷ 0 ∷ 0 ∷ l) (word-laws .encode-decode ws B) ∙ rw (first, second)) (instruction-decodes o a (little ws) (word-laws .below ws B)))
+    subst (λ (l : List ℕ). Decodes l i) (ap (λ (l : List ℕ). o ∷ a ∷ 0 ∷ 0 ∷ l) (word-laws .encode-decode ws B) ∙ rw (first, second)) (instruction-decodes o a (littleEndian ws) (word-laws .below ws B)))
     none
 
 pub decode-decodes : (s : List ℕ) (p : ℕ) → Bytes s → p < length s / 8 → Decodes (take 8 (drop (8 * p) s)) (decodeAt s p)

@@ -10,7 +10,7 @@ use lib.Bits.{bitOr, or-shifted-r}
 use lib.Dec.{ltb}
 use lib.ListN.{length, getD}
 use borrow.Author.Tests.{lt-ltb, le-ltb, ltb-true, ltb-false}
-use Rattle.words.specs.Words.{little}
+use Rattle.words.specs.Words.{littleEndian}
 use Rattle.words.specs.Laws.{Bytes}
 use Rattle.code.specs.declared.Instr.the-variants.{Unknown}
 use Rattle.code.specs.Instructions.{alone, instruction, decodeAt}
@@ -18,7 +18,7 @@ use Rattle.code.specs.private.Fetch.{fetched, instructionOf}
 use Rattle.code.proofs.Parts.{bytesAt, are-bytes, eight-bytes, decode-bytes, decode-beyond}
 
 module _ (s : List ℕ) (p : ℕ) where
-  fetch-within : p < length s / 8 → fetched s p ≡ little (getD s (8 * p) 0 ∷ bytesAt (8 * p) 1 7 s)
+  fetch-within : p < length s / 8 → fetched s p ≡ littleEndian (getD s (8 * p) 0 ∷ bytesAt (8 * p) 1 7 s)
   unfolding fetched
   fetch-within h = rw (lt-ltb p (length s / 8) h, eight-bytes s p h)
 
@@ -32,7 +32,7 @@ abbrev joins : ℕ → ℕ → List ℕ → ℕ
 joins k low [] = low
 joins k low (b ∷ bs) = joins (k + 8) (bitOr low (2 ^ k * b)) bs
 
-joined : (k low : ℕ) (bs : List ℕ) → low < 2 ^ k → Bytes bs → joins k low bs ≡ low + 2 ^ k * little bs
+joined : (k low : ℕ) (bs : List ℕ) → low < 2 ^ k → Bytes bs → joins k low bs ≡ low + 2 ^ k * littleEndian bs
 joined k low [] h B = omega arith
 joined k low (b ∷ bs) h B =
     let next : bitOr low (2 ^ k * b) ≡ low + 2 ^ k * b = rw (mul-comm (2 ^ k) b, or-shifted-r b k low h) (omega arith) in
@@ -48,16 +48,16 @@ fetch-joined s p B h =
 -- ---- the parts of the number of eight bytes
 module _ (o a y z p q r s : ℕ) (o< : o < 256) (a< : a < 256) (y< : y < 256) (z< : z < 256) where
   abbrev number : ℕ
-  number = little (o ∷ a ∷ y ∷ z ∷ p ∷ q ∷ r ∷ s ∷ [])
+  number = littleEndian (o ∷ a ∷ y ∷ z ∷ p ∷ q ∷ r ∷ s ∷ [])
 
-  parted : alone (little (y ∷ z ∷ [])) (instruction o a (little (p ∷ q ∷ r ∷ s ∷ []))) ≡ instructionOf number
+  parted : alone (littleEndian (y ∷ z ∷ [])) (instruction o a (littleEndian (p ∷ q ∷ r ∷ s ∷ []))) ≡ instructionOf number
   parted =
       let opcode : number % 256 ≡ o = omega arith in
-      let behind : number / 256 ≡ little (a ∷ y ∷ z ∷ p ∷ q ∷ r ∷ s ∷ []) = omega arith in
+      let behind : number / 256 ≡ littleEndian (a ∷ y ∷ z ∷ p ∷ q ∷ r ∷ s ∷ []) = omega arith in
       let operand : number / 256 % 256 ≡ a = rw behind (omega arith) in
-      let upper : number / 65536 ≡ little (y ∷ z ∷ p ∷ q ∷ r ∷ s ∷ []) = omega arith in
-      let spare : number / 65536 % 65536 ≡ little (y ∷ z ∷ []) = rw upper (omega arith) in
-      let word : number / 2 ^ 32 ≡ little (p ∷ q ∷ r ∷ s ∷ []) = omega arith in
+      let upper : number / 65536 ≡ littleEndian (y ∷ z ∷ p ∷ q ∷ r ∷ s ∷ []) = omega arith in
+      let spare : number / 65536 % 65536 ≡ littleEndian (y ∷ z ∷ []) = rw upper (omega arith) in
+      let word : number / 2 ^ 32 ≡ littleEndian (p ∷ q ∷ r ∷ s ∷ []) = omega arith in
       rw (opcode, operand, spare, word)
 
 pub zero-unknown : instructionOf 0 ≡ Unknown

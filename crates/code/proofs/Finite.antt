@@ -6,7 +6,7 @@ use lib.Ieee.{Float, nan, inf, fin, binary32, ofBits}
 use lib.Ieee.Scale.{finite}
 use Rattle.values.specs.declared.Fault.the-variants.{OutOfRange}
 use Rattle.values.specs.declared.Outcome.the-variants.{Stopped}
-use Rattle.memory.specs.Cells.{finiteOr13}
+use Rattle.memory.specs.Cells.{finiteOrFault}
 use Rattle.memory.proofs.cells.Exponents.{exponent, single-cell, infinite-cell}
 use Rattle.code.specs.declared.Instr.the-variants.{PushReal, Unknown}
 use Rattle.code.specs.Instructions.{finiteOnly, pushReal}
@@ -20,7 +20,7 @@ pub finite-pushed : (n : ℕ) → (exponent n ≡ 255 → ⊥) → pushReal n �
 finite-pushed n h = finite-kept (ofBits binary32 n) (single-cell n h .real)
 
 -- what a cell of memory does not hold is not pushed
-not-kept : (x : Float) → finiteOr13 x ≡ Stopped OutOfRange → finiteOnly x ≡ Unknown
+not-kept : (x : Float) → finiteOrFault x ≡ Stopped OutOfRange → finiteOnly x ≡ Unknown
 not-kept nan q = refl
 not-kept (inf s) q = refl
 not-kept (fin s m e) q = cc

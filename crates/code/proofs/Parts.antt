@@ -8,7 +8,7 @@ use lib.Dec.{lit<}
 use lib.ListN.{length, getD, take, drop}
 use lib.Seq.{drop-cons}
 use borrow.Author.Tests.{lt-ltb, le-ltb}
-use Rattle.words.specs.Words.{little}
+use Rattle.words.specs.Words.{littleEndian}
 use Rattle.words.specs.Laws.{Bytes}
 use Rattle.code.specs.declared.Instr.the-variants.{Unknown}
 use Rattle.code.specs.Instructions.{alone, instruction, decodeAt, decodeFrom}
@@ -35,7 +35,7 @@ eight-bytes s p h = rw add-zero at (one-by-one (8 * p) 0 8 s (omega arith))
 
 -- the instruction by its bytes
 pub decode-bytes : (s : List ℕ) (p : ℕ) → p < length s / 8
-    → decodeAt s p ≡ alone (little (bytesAt (8 * p) 2 2 s)) (instruction (getD s (8 * p) 0) (getD s (8 * p + 1) 0) (little (bytesAt (8 * p) 4 4 s)))
+    → decodeAt s p ≡ alone (littleEndian (bytesAt (8 * p) 2 2 s)) (instruction (getD s (8 * p) 0) (getD s (8 * p + 1) 0) (littleEndian (bytesAt (8 * p) 4 4 s)))
 unfolding decodeAt
 decode-bytes s p h =
     rw (lt-ltb p (length s / 8) h, one-by-one (8 * p) 2 2 s (omega arith), one-by-one (8 * p) 4 4 s (omega arith))

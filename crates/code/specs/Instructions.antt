@@ -9,7 +9,7 @@ use lib.Ieee as Ieee
 use lib.Ieee.{Float, nan, inf, fin, binary32}
 use Rattle.values.specs.Patterns.{signedOf}
 use Rattle.operators.specs.Tables.{unaryOf, binaryOf}
-use Rattle.words.specs.Words.{little}
+use Rattle.words.specs.Words.{littleEndian}
 use Rattle.memory.specs.Layout.{layoutOf}
 use Rattle.code.specs.declared.Instr.{Instr}
 use Rattle.code.specs.declared.Instr.the-variants.{PushInt, PushReal, Load, LoadIndexed, Unary, Binary, Jump, JumpIf, Unknown}
@@ -71,7 +71,7 @@ unfoldable pub decodeAt : List ℕ → ℕ → Instr
 unfolding instruction
 decodeAt s p =
     cond (ltb p (length s / 8))
-    (alone (little (bytesFrom 2 (8 * p + 2) s)) (instruction (getD s (8 * p) 0) (getD s (8 * p + 1) 0) (little (bytesFrom 4 (8 * p + 4) s))))
+    (alone (littleEndian (bytesFrom 2 (8 * p + 2) s)) (instruction (getD s (8 * p) 0) (getD s (8 * p + 1) 0) (littleEndian (bytesFrom 4 (8 * p + 4) s))))
     Unknown
 
 -- the first n instructions of the code, from the place p

@@ -30,7 +30,7 @@ use Rattle.code.specs.Encode.{instructionBytes, encode, Encodable}
 use Rattle.code.specs.Instructions.{decodeAt, decodeFrom}
 use Rattle.code.proofs.Laws.{encode-laws}
 use Rattle.code.proofs.Parts.{decode-part}
-use Rattle.compiler.specs.Compile.{encoded}
+use Rattle.compiler.specs.Compile.{encodeAll}
 use Rattle.compiler.specs.private.Draft.{codeWord, codeWords, wordBytes}
 use Rattle.compiler.proofs.Each.{Each, none, some}
 
@@ -66,8 +66,8 @@ binary-byte (B.Compare o) = elim o [ Lt ↦ lit< tt | Gt ↦ lit< tt | Le ↦ li
 binary-byte (B.Bits o) = elim o [ And ↦ lit< tt | Or ↦ lit< tt | Xor ↦ lit< tt ]
 binary-byte (B.Choice o) = elim o [ Max ↦ lit< tt | Min ↦ lit< tt ]
 
-pub encoded-length : (c : List Instr) → length (encoded c) ≡ 8 * length c
-unfolding encoded
+pub encoded-length : (c : List Instr) → length (encodeAll c) ≡ 8 * length c
+unfolding encodeAll
 encoded-length [] = refl
 encoded-length (i ∷ c) = simp length-append (omega (arith, eight-long i, encoded-length c))
 
@@ -100,26 +100,26 @@ word-bytes (JumpIf false d) = instruction 8 0 d (lit< tt) (lit< tt)
 word-bytes (JumpIf true d) = instruction 9 0 d (lit< tt) (lit< tt)
 word-bytes Unknown = instruction 0 0 0 (lit< tt) (lit< tt)
 
-pub words-encoded : (c : List Instr) → wordBytes (codeWords c) ≡ encoded c
-unfolding wordBytes encoded
+pub words-encoded : (c : List Instr) → wordBytes (codeWords c) ≡ encodeAll c
+unfolding wordBytes encodeAll
 words-encoded [] = refl
 words-encoded (i ∷ c) = ap₂ _++_ (word-bytes i) (words-encoded c)
 
 -- ---- reading
-read-run : (s : List ℕ) (p : ℕ) {c : List Instr} (z : List ℕ) → Each Encodable c → drop (8 * p) s ≡ encoded c ++ z → decodeFrom s p (length c) ≡ c
-unfolding decodeFrom encoded
+read-run : (s : List ℕ) (p : ℕ) {c : List Instr} (z : List ℕ) → Each Encodable c → drop (8 * p) s ≡ encodeAll c ++ z → decodeFrom s p (length c) ≡ c
+unfolding decodeFrom encodeAll
 read-run s p z none e = refl
 read-run s p z (some {a = i} {l = c} h each) e =
-    let whole : drop (8 * p) s ≡ encode i ++ (encoded c ++ z) = e ∙ append-assoc (encode i) (encoded c) z in
+    let whole : drop (8 * p) s ≡ encode i ++ (encodeAll c ++ z) = e ∙ append-assoc (encode i) (encodeAll c) z in
     let here : p < length s / 8 = omega (arith, eight-long i, length-drop (8 * p) s, simp length-append at (ap length whole)) in
-    let front : take 8 (drop (8 * p) s) ≡ encode i = ap (take 8) whole ∙ take-at (encode i) (encoded c ++ z) 8 (eight-long i) in
-    let back : drop 8 (drop (8 * p) s) ≡ encoded c ++ z = ap (drop 8) whole ∙ drop-at (encode i) (encoded c ++ z) 8 (eight-long i) in
+    let front : take 8 (drop (8 * p) s) ≡ encode i = ap (take 8) whole ∙ take-at (encode i) (encodeAll c ++ z) 8 (eight-long i) in
+    let back : drop 8 (drop (8 * p) s) ≡ encodeAll c ++ z = ap (drop 8) whole ∙ drop-at (encode i) (encodeAll c ++ z) 8 (eight-long i) in
     let first : decodeAt s p ≡ i = decode-part s p here ∙ ap (λ (l : List ℕ). decodeAt l 0) front ∙ encode-laws .decoded i h in
     let later : 8 * suc p ≡ 8 * p + 8 = omega arith in
-    let rest : drop (8 * suc p) s ≡ encoded c ++ z = ap (λ (k : ℕ). drop k s) later ∙ sym (drop-drop 8 (8 * p) s) ∙ back in
+    let rest : drop (8 * suc p) s ≡ encodeAll c ++ z = ap (λ (k : ℕ). drop k s) later ∙ sym (drop-drop 8 (8 * p) s) ∙ back in
     rw (first, read-run s (suc p) z each rest)
 
-pub read-back : (s : List ℕ) {c : List Instr} → Each Encodable c → 8 * length c ≤ length s → decodeFrom (sets s 0 (encoded c)) 0 (length c) ≡ c
+pub read-back : (s : List ℕ) {c : List Instr} → Each Encodable c → 8 * length c ≤ length s → decodeFrom (sets s 0 (encodeAll c)) 0 (length c) ≡ c
 read-back s {c} each h =
-    let fits : 0 + length (encoded c) ≤ length s = omega (arith, encoded-length c) in
-    read-run (sets s 0 (encoded c)) 0 (drop (0 + length (encoded c)) s) each (sets-eq (encoded c) s 0 fits)
+    let fits : 0 + length (encodeAll c) ≤ length s = omega (arith, encoded-length c) in
+    read-run (sets s 0 (encodeAll c)) 0 (drop (0 + length (encodeAll c)) s) each (sets-eq (encodeAll c) s 0 fits)

@@ -18,9 +18,9 @@ use Rattle.tree_code.specs.Code.{codeOf}
 use Rattle.tree_code.specs.Demand.{Compiled}
 
 -- the bytes of some instructions
-unfoldable pub encoded : List Instr → List ℕ
-encoded [] = []
-encoded (i ∷ c) = encode i ++ encoded c
+unfoldable pub encodeAll : List Instr → List ℕ
+encodeAll [] = []
+encodeAll (i ∷ c) = encode i ++ encodeAll c
 
 -- the judgement of a text for a buffer of so many bytes
 abbrev pub compiling : ℕ → List ℕ → Judgement
@@ -32,7 +32,7 @@ codedAnswer (refused a p) = Refused a p
 
 -- the buffer afterwards, every byte
 abbrev pub codedBytes : List ℕ → Judgement → List ℕ
-codedBytes code (accepted t) = sets code 0 (encoded (codeOf t))
+codedBytes code (accepted t) = sets code 0 (encodeAll (codeOf t))
 codedBytes code (refused a p) = code
 
 pub record CompileTheorems : Type 0 where

@@ -5,7 +5,7 @@ ghost use Prim.Native.Nat.{_%_, _^_};
 ghost use lib.Ieee.{binary32, rem};
 ghost use lib.ListN.{length};
 ghost use Rattle.compiler.specs.Compile.{compiling, codedBytes};
-ghost use Rattle.operations.specs.Operations.{compileAnswer, checkAnswer, runAnswer, runMemory, request, performed, performedMemory, performedCode};
+ghost use Rattle.operations.specs.Operations.{compileAnswer, checkAnswer, runAnswer, runMemory, request, requestAnswer, requestMemory, requestCode};
 ghost use Rattle.formula_c.specs.Words.{kindWord, bitsOf, reportWords};
 use operations::Answer;
 use values::Kind;
@@ -85,9 +85,9 @@ pub extern "C" fn formula_compile_and_run(
     code: &mut [u8],
     report: &mut [u32; 5],
 )
-    ensures { λ _. ⌜ now (report .exit) ≡ reportWords (performed (now (memory .entry)) (request (now (target .entry)) (now (expr .entry)) (now (memory .entry)) (now (code .entry)))) ⌝ }
-    ensures { λ _. ⌜ now (memory .exit) ≡ performedMemory (now (memory .entry)) (request (now (target .entry)) (now (expr .entry)) (now (memory .entry)) (now (code .entry))) ⌝ }
-    ensures { λ _. ⌜ now (code .exit) ≡ performedCode (now (code .entry)) (request (now (target .entry)) (now (expr .entry)) (now (memory .entry)) (now (code .entry))) ⌝ }
+    ensures { λ _. ⌜ now (report .exit) ≡ reportWords (requestAnswer (now (memory .entry)) (request (now (target .entry)) (now (expr .entry)) (now (memory .entry)) (now (code .entry)))) ⌝ }
+    ensures { λ _. ⌜ now (memory .exit) ≡ requestMemory (now (memory .entry)) (request (now (target .entry)) (now (expr .entry)) (now (memory .entry)) (now (code .entry))) ⌝ }
+    ensures { λ _. ⌜ now (code .exit) ≡ requestCode (now (code .entry)) (request (now (target .entry)) (now (expr .entry)) (now (memory .entry)) (now (code .entry))) ⌝ }
 {
     let answer = operations::compile_and_run(target, expr, memory, code);
     fill_report(answer, report);

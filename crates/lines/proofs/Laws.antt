@@ -13,7 +13,7 @@ use Rattle.memory.specs.Names.{isDigit, allDigits, noLeadingZero, decimalValue,
 use Rattle.memory.specs.Cells.{bitOf}
 use Rattle.memory.proofs.names.Decimals.{digit-range}
 use Rattle.lines.specs.declared.forms.Form.the-variants.{Pattern}
-use Rattle.lines.specs.Forms.{naturalForm, negativeForm, signedForm, patternOf}
+use Rattle.lines.specs.Forms.{naturalForm, negativeForm, signedForm, cellPattern}
 use Rattle.lines.specs.Printing.{decimalText, signedText, cellText}
 use Rattle.lines.specs.private.Steps.{halfText}
 use Rattle.lines.specs.Laws.{patterns, FormLaws}
@@ -118,7 +118,7 @@ module _ (k : ℕ) (p : 0 < k) where
   wide-only d cs n e =
       let r = signed-only (2 ^ (k - 1)) cs n e in r .same-text ∙ half-text k n p (rw d at (r .below))
 
-back : (b : Bank) (n : ℕ) → n < patterns b → patternOf b (cellText b n) ≡ Pattern n
+back : (b : Bank) (n : ℕ) → n < patterns b → cellPattern b (cellText b n) ≡ Pattern n
 back X n h = bit-back n h
 back C n h = bit-back n h
 back «V» n h = natural-back 65536 n h
@@ -126,7 +126,7 @@ back N n h = wide-back 16 (lit< tt) n h h
 back D n h = wide-back 32 (lit< tt) n h h
 back R n h = pattern-back n h
 
-only : (b : Bank) (cs : List ℕ) (n : ℕ) → (b ≡ R → ⊥) → patternOf b cs ≡ Pattern n → cs ≡ cellText b n
+only : (b : Bank) (cs : List ℕ) (n : ℕ) → (b ≡ R → ⊥) → cellPattern b cs ≡ Pattern n → cs ≡ cellText b n
 only X cs n r e = bit-only cs n e
 only C cs n r e = bit-only cs n e
 only «V» cs n r e = natural-only 65536 cs n e .same-text

@@ -14,11 +14,11 @@ use Rattle.memory.specs.declared.names.Letter.the-variants as L
 use Rattle.memory.specs.declared.names.Named.{Named}
 use Rattle.memory.specs.declared.names.Named.the-variants.{Cell, Other}
 use Rattle.memory.specs.Layout.{layoutOf}
-use Rattle.memory.specs.Names.{bankOf, noLeadingZero, allDigits, decimalValue, numberBelow, cellAfterLetter, namedRule, storable, targetRule}
+use Rattle.memory.specs.Names.{letterBank, noLeadingZero, allDigits, decimalValue, numberBelow, cellAfterLetter, namedRule, storable, targetRule}
 use Rattle.tokens.specs.Bytes.{all}
 use Rattle.tokens.specs.Numerals.{isHex, hexFrom, isHexRun}
 use Rattle.lines.specs.declared.forms.Form.the-variants as Form
-use Rattle.lines.specs.Forms.{naturalForm, negativeForm, signedForm, hexForm, patternOf}
+use Rattle.lines.specs.Forms.{naturalForm, negativeForm, signedForm, hexForm, cellPattern}
 use Rattle.lines.specs.Printing.{widthOf}
 use Rattle.lines.proofs.Decimals.{text-of}
 use Rattle.lines.proofs.Tests.{both}
@@ -56,7 +56,7 @@ no-element cs L.Other h = refl
 pub no-name : (w : List ℕ) → 4 < length w → namedRule w ≡ Other
 unfolding namedRule
 no-name [] h = absurd (omega arith)
-no-name (c ∷ cs) h = no-element cs (bankOf c) (omega arith)
+no-name (c ∷ cs) h = no-element cs (letterBank c) (omega arith)
 
 pub short-name : (w : List ℕ) {b : Bank} {i : ℕ} → namedRule w ≡ Cell b i → length w ≤ 4
 short-name w {b} {i} e = by (ltb 4 (length w)) refl
@@ -87,7 +87,7 @@ hexadecimal cs l = rw (ne-eqb (length cs) 10 (λ e. omega arith)) (by (isHexRun 
     by true = refl
     by false = refl
 
-pub no-value : (b : Bank) (cs : List ℕ) → 11 < length cs → patternOf b cs ≡ Form.Other
+pub no-value : (b : Bank) (cs : List ℕ) → 11 < length cs → cellPattern b cs ≡ Form.Other
 no-value X cs l = natural 2 cs (omega arith) (omega arith)
 no-value C cs l = natural 2 cs (omega arith) (omega arith)
 no-value «V» cs l = natural 65536 cs (omega arith) (omega arith)

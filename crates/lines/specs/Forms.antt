@@ -32,10 +32,10 @@ abbrev pub hexForm : List ℕ → Form
 hexForm cs = cond (isHexRun cs && eqb (length cs) 10 && all isHex (drop 2 cs)) (Pattern (hexFrom 0 (drop 2 cs))) Other
 
 -- the pattern that a text gives a cell of a bank: bits are 0 or 1; V "unsigned 16", N "signed 16", D "signed 32", R "singles"
-abbrev pub patternOf : Bank → List ℕ → Form
-patternOf X cs = naturalForm 2 cs
-patternOf C cs = naturalForm 2 cs
-patternOf «V» cs = naturalForm 65536 cs
-patternOf N cs = signedForm 32768 cs
-patternOf D cs = signedForm 2147483648 cs
-patternOf R cs = hexForm cs
+abbrev pub cellPattern : Bank → List ℕ → Form
+cellPattern X cs = naturalForm 2 cs
+cellPattern C cs = naturalForm 2 cs
+cellPattern «V» cs = naturalForm 65536 cs
+cellPattern N cs = signedForm 32768 cs
+cellPattern D cs = signedForm 2147483648 cs
+cellPattern R cs = hexForm cs

@@ -5,7 +5,7 @@ use Prim.Native.Nat.{ℕ, _<_}
 use Rattle.memory.specs.declared.Bank.{Bank}
 use Rattle.memory.specs.declared.Bank.the-variants.{X, C, «V», N, D, R}
 use Rattle.lines.specs.declared.forms.Form.the-variants.{Pattern}
-use Rattle.lines.specs.Forms.{patternOf}
+use Rattle.lines.specs.Forms.{cellPattern}
 use Rattle.lines.specs.Printing.{cellText}
 
 -- how many patterns a cell of a bank can be given
@@ -19,6 +19,6 @@ patterns R = 4294967296
 
 pub record FormLaws : Type 0 where
   -- what is printed of a cell is read back as the same pattern
-  pub back : (b : Bank) (n : ℕ) → n < patterns b → patternOf b (cellText b n) ≡ Pattern n
+  pub back : (b : Bank) (n : ℕ) → n < patterns b → cellPattern b (cellText b n) ≡ Pattern n
   -- an integer is read in no other form than the printed one
-  pub only : (b : Bank) (cs : List ℕ) (n : ℕ) → (b ≡ R → ⊥) → patternOf b cs ≡ Pattern n → cs ≡ cellText b n
+  pub only : (b : Bank) (cs : List ℕ) (n : ℕ) → (b ≡ R → ⊥) → cellPattern b cs ≡ Pattern n → cs ≡ cellText b n

@@ -1,7 +1,7 @@
 // The value of a cell in text: the pattern to write, for a value of the bank's form and range.
 ghost use mathlib.Core.Path.{_≡_};
 ghost use Prim.Native.Nat.{_≤_, _<_};
-ghost use Rattle.lines.specs.Forms.{naturalForm, negativeForm, signedForm, hexForm, patternOf};
+ghost use Rattle.lines.specs.Forms.{naturalForm, negativeForm, signedForm, hexForm, cellPattern};
 ghost use Rattle.lines.specs.private.Steps.{valueForm, tokenForm, scannedForm};
 use memory::Bank;
 use tokens::Scanned;
@@ -116,7 +116,7 @@ fn hexadecimal(text: &[u8]) -> Form
 }
 
 pub fn pattern_of(bank: Bank, text: &[u8]) -> Form
-    ensures { λ r. ⌜ r ≡ patternOf bank (now (text .entry)) ⌝ }
+    ensures { λ r. ⌜ r ≡ cellPattern bank (now (text .entry)) ⌝ }
 {
     match bank {
         Bank::X => natural(text, 2),

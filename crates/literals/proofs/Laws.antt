@@ -9,7 +9,7 @@ use lib.Ieee as Ieee
 use lib.Ieee.{binary32}
 use borrow.Author.Tests.{leb-true}
 use Rattle.reals.specs.Singles.{Single, Has}
-use Rattle.reals.specs.Rounding.{Rounds, end}
+use Rattle.reals.specs.Rounding.{Rounds, overflowUnits}
 use Rattle.reals.proofs.Bridge.{within}
 use Rattle.reals.proofs.Laws.{real-laws}
 use Rattle.literals.specs.Literals.{scaledDecimal, nearestDecimal, isScale}
@@ -22,16 +22,16 @@ rounds n (pos e) = real-laws .fraction false (n * 10 ^ e) 1 (le-refl 1)
 rounds n (negsuc k) = real-laws .fraction false n (10 ^ suc k) (ten-pos (suc k))
 
 -- ---- the decimal lies below the end of the range
-below : (n e : ℕ) → n < 2 ^ 32 → e ≤ 20 → n * 10 ^ e * 2 ^ 149 < end * 1
+below : (n e : ℕ) → n < 2 ^ 32 → e ≤ 20 → n * 10 ^ e * 2 ^ 149 < overflowUnits * 1
 below n e N E =
     lt-of-le-of-lt (mul-le-mul-right (2 ^ 149) (mul-le-mul (le-of-lt N) (pow-le-pow-right {n = 10} (lit≤ tt) E)))
-    (lit< {m = 2 ^ 32 * 10 ^ 20 * 2 ^ 149} {n = end * 1} tt)
+    (lit< {m = 2 ^ 32 * 10 ^ 20 * 2 ^ 149} {n = overflowUnits * 1} tt)
 
 single : (n : ℕ) (z : ℤ) → n < 2 ^ 32 → isScale z ≡ true → Single (nearestDecimal n z)
 single n (pos e) N t = within (below n e N (leb-true e 20 t)) (rounds n (pos e)) .single
 single n (negsuc k) N t =
-    let small : n * 2 ^ 149 < end * 1 = rw (mul-one n) at (below n 0 N zero-le) in
-    within (lt-of-lt-of-le small (mul-le-mul-left end (ten-pos (suc k)))) (rounds n (negsuc k)) .single
+    let small : n * 2 ^ 149 < overflowUnits * 1 = rw (mul-one n) at (below n 0 N zero-le) in
+    within (lt-of-lt-of-le small (mul-le-mul-left overflowUnits (ten-pos (suc k)))) (rounds n (negsuc k)) .single
 
 zero : Has false 0 (Ieee.round binary32 false 0 1)
 unfolding Ieee.round Ieee.fits

@@ -9,7 +9,7 @@ use native.Mathlib.Omega.{arith}
 use lib.Dec.{T, eqb}
 use lib.ListN.{length, getD, set, length-set}
 use lib.Seq.{length-sets, getD-set-other}
-use Rattle.words.specs.Words.{little, bytesOf}
+use Rattle.words.specs.Words.{littleEndian, bytesOf}
 use Rattle.words.proofs.Laws.{word-laws}
 use Rattle.values.specs.declared.Value.{Value}
 use Rattle.values.specs.declared.Fault.{Fault}
@@ -81,9 +81,9 @@ pub read-kept : (s t : List ℕ) (c : Bank) (j : ℕ) → length t ≡ length s
 read-kept s t c j l h = rw l (by (hasCell s c j) h)
   where
     by : (x : Bool) → (T x → (k : ℕ) → InCell c j k → getD t k 0 ≡ getD s k 0)
-        → cond x (cellValue c (little (bytesAt t c j))) (O.Stopped IndexError) ≡ cond x (cellValue c (little (bytesAt s c j))) (O.Stopped IndexError)
+        → cond x (cellValue c (littleEndian (bytesAt t c j))) (O.Stopped IndexError) ≡ cond x (cellValue c (littleEndian (bytesAt s c j))) (O.Stopped IndexError)
     by true u =
-        ap (λ (r : List ℕ). cellValue c (little r)) (run-kept s t (cellAt c j) (layoutOf c .width) l (λ k a z. u tt k (record { from = a; to = z })))
+        ap (λ (r : List ℕ). cellValue c (littleEndian r)) (run-kept s t (cellAt c j) (layoutOf c .width) l (λ k a z. u tt k (record { from = a; to = z })))
     by false u = refl
 
 cell-no-flag : (s : List ℕ) (c : Bank) (j k : ℕ) → T (hasCell s c j) → InCell c j k → NoFlag k

@@ -9,7 +9,7 @@ use lib.IntN.{ℤ, pos}
 use lib.Ieee.{Float, nan, inf, fin, ofBits, binary32}
 use lib.ListN.{length}
 use borrow.Author.Tests.{eqb-true, eqb-false}
-use Rattle.words.specs.Words.{little}
+use Rattle.words.specs.Words.{littleEndian}
 use Rattle.words.specs.Laws.{Bytes}
 use Rattle.words.proofs.Laws.{word-laws}
 use Rattle.values.specs.declared.Kind.the-variants as K
@@ -27,7 +27,7 @@ use Rattle.operators.specs.Laws.{Proper, OfKind, AllProper}
 use Rattle.memory.specs.declared.Bank.{Bank}
 use Rattle.memory.specs.declared.Bank.the-variants.{X, C, «V», N, D, R}
 use Rattle.memory.specs.Layout.{layoutOf, cellAt, hasCell}
-use Rattle.memory.specs.Cells.{bankKind, bytesAt, bitOf, finiteOr13, cellValue, realCell, readRule, positionRule, readAt, indexedRule}
+use Rattle.memory.specs.Cells.{bankKind, bytesAt, bitOf, finiteOrFault, cellValue, realCell, readRule, positionRule, readAt, indexedRule}
 use Rattle.memory.proofs.Places.{cell-within}
 use Rattle.memory.proofs.Runs.{run-length, run-bytes}
 use Rattle.memory.proofs.cells.Signs.{signed-range}
@@ -35,15 +35,15 @@ use Rattle.memory.proofs.cells.Exponents.{exponent, infinite-cell, sing
 
 -- a property of outcomes that a fault has, and the value of the cell
 read-has : (P : Outcome → Type 0) → P (Stopped IndexError) → (s : List ℕ) (b : Bank) (i : ℕ)
-    → (T (hasCell s b i) → P (cellValue b (little (bytesAt s b i)))) → P (readRule s b i)
+    → (T (hasCell s b i) → P (cellValue b (littleEndian (bytesAt s b i)))) → P (readRule s b i)
 read-has P f s b i h = by (hasCell s b i) h
   where
-    by : (t : Bool) → (T t → P (cellValue b (little (bytesAt s b i)))) → P (cond t (cellValue b (little (bytesAt s b i))) (Stopped IndexError))
+    by : (t : Bool) → (T t → P (cellValue b (littleEndian (bytesAt s b i)))) → P (cond t (cellValue b (littleEndian (bytesAt s b i))) (Stopped IndexError))
     by true u = u tt
     by false u = f
 
 -- ---- the kind
-real-kind : (x : Float) → OfKind K.Real (finiteOr13 x)
+real-kind : (x : Float) → OfKind K.Real (finiteOrFault x)
 real-kind nan = OfKind.stopped OutOfRange
 real-kind (inf s) = OfKind.stopped OutOfRange
 real-kind (fin s m e) = OfKind.done (Real (fin s m e)) refl
@@ -57,7 +57,7 @@ cell-kind D n = OfKind.done (Int (signedOf 32 n)) refl
 cell-kind R n = real-kind (ofBits binary32 n)
 
 pub read-kind : (s : List ℕ) (b : Bank) (i : ℕ) → OfKind (bankKind b) (readRule s b i)
-read-kind s b i = read-has (OfKind (bankKind b)) (OfKind.stopped IndexError) s b i (λ h. cell-kind b (little (bytesAt s b i)))
+read-kind s b i = read-has (OfKind (bankKind b)) (OfKind.stopped IndexError) s b i (λ h. cell-kind b (littleEndian (bytesAt s b i)))
 
 position-kind : (s : List ℕ) (b : Bank) (p : Position) → OfKind (bankKind b) (readAt s b p)
 position-kind s b (P.At i) = read-kind s b i
@@ -92,14 +92,14 @@ cell-proper D n h = integer (signedOf 32 n) (signed-range 32 n (lit< tt) (lit≤
 cell-proper R n h = real-proper n
 
 -- a cell's number is below what its bytes can hold
-cell-below : (s : List ℕ) (b : Bank) (i : ℕ) → Bytes s → T (hasCell s b i) → little (bytesAt s b i) < 256 ^ layoutOf b .width
+cell-below : (s : List ℕ) (b : Bank) (i : ℕ) → Bytes s → T (hasCell s b i) → littleEndian (bytesAt s b i) < 256 ^ layoutOf b .width
 cell-below s b i h g =
     let w = layoutOf b .width in
     let long : length (bytesAt s b i) ≡ w = run-length s (cellAt b i) w (cell-within s b i g) in
     rw long at (word-laws .below (bytesAt s b i) (run-bytes s (cellAt b i) w h))
 
 pub read-proper : (s : List ℕ) (b : Bank) (i : ℕ) → Bytes s → AllProper (readRule s b i)
-read-proper s b i h = read-has AllProper (AllProper.stopped IndexError) s b i (λ g. cell-proper b (little (bytesAt s b i)) (cell-below s b i h g))
+read-proper s b i h = read-has AllProper (AllProper.stopped IndexError) s b i (λ g. cell-proper b (littleEndian (bytesAt s b i)) (cell-below s b i h g))
 
 position-proper : (s : List ℕ) (b : Bank) (p : Position) → Bytes s → AllProper (readAt s b p)
 position-proper s b (P.At i) h = read-proper s b i h

@@ -21,7 +21,7 @@ use Rattle.values.proofs.Ranges.{sfits-range}
 use Rattle.operators.specs.Laws.{Proper}
 use Rattle.memory.specs.declared.Bank.{Bank}
 use Rattle.memory.specs.declared.store.Encoded.the-variants.{Pattern}
-use Rattle.memory.specs.Cells.{finiteOr13, cellValue}
+use Rattle.memory.specs.Cells.{finiteOrFault, cellValue}
 use Rattle.memory.specs.Store.{encodeCell}
 use Rattle.memory.specs.Laws.{Representable, off, on, unsigned, signed, integer, real}
 use Rattle.memory.proofs.cells.Exponents.{single-reads}
@@ -56,5 +56,5 @@ represents (real x S) =
       proper = Proper.real x S;
       pattern = toBits binary32 x;
       written = rw (is-true (finite x) (S .real));
-      read = ap finiteOr13 (real-laws .decode-encode x S) ∙ single-reads x (S .real);
+      read = ap finiteOrFault (real-laws .decode-encode x S) ∙ single-reads x (S .real);
     }

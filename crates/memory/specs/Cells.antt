@@ -8,7 +8,7 @@ use lib.IntN.{ℤ, pos}
 use lib.ListN.{take, drop}
 use lib.Ieee as Ieee
 use lib.Ieee.{Float, nan, inf, fin, binary32}
-use Rattle.words.specs.Words.{little}
+use Rattle.words.specs.Words.{littleEndian}
 use Rattle.values.specs.declared.Kind.{Kind}
 use Rattle.values.specs.declared.Kind.the-variants as K
 use Rattle.values.specs.declared.Value.{Value}
@@ -41,13 +41,13 @@ abbrev pub bitOf : ℕ → ℤ
 bitOf n = cond (eqb n 0) (pos 0) (pos 1)
 
 -- a finite single, or 13
-abbrev pub finiteOr13 : Float → Outcome
-finiteOr13 nan = Stopped OutOfRange
-finiteOr13 (inf s) = Stopped OutOfRange
-finiteOr13 (fin s m e) = Done (Real (fin s m e))
+abbrev pub finiteOrFault : Float → Outcome
+finiteOrFault nan = Stopped OutOfRange
+finiteOrFault (inf s) = Stopped OutOfRange
+finiteOrFault (fin s m e) = Done (Real (fin s m e))
 
 abbrev pub realCell : ℕ → Outcome
-realCell n = finiteOr13 (Ieee.ofBits binary32 n)
+realCell n = finiteOrFault (Ieee.ofBits binary32 n)
 
 -- what a bank reads in the number of a cell's bytes
 abbrev pub cellValue : Bank → ℕ → Outcome
@@ -59,7 +59,7 @@ cellValue D n = Done (Int (signedOf 32 n))
 cellValue R n = realCell n
 
 abbrev pub readRule : List ℕ → Bank → ℕ → Outcome
-readRule s b i = cond (hasCell s b i) (cellValue b (little (bytesAt s b i))) (Stopped IndexError)
+readRule s b i = cond (hasCell s b i) (cellValue b (littleEndian (bytesAt s b i))) (Stopped IndexError)
 
 -- the element of a bank that an index names
 abbrev pub positionRule : Bank → Value → Position

@@ -16,8 +16,8 @@ use Rattle.memory.specs.Layout.{layoutOf}
 use Rattle.words.specs.Ascii.{byte}
 
 -- the six letters
-unfoldable pub bankOf : ℕ → Letter
-bankOf c =
+unfoldable pub letterBank : ℕ → Letter
+letterBank c =
     cond (eqb c (byte "X")) (L.Of X)
     (cond (eqb c (byte "C")) (L.Of C)
     (cond (eqb c (byte "V")) (L.Of «V»)
@@ -60,9 +60,9 @@ cellAfterLetter cs (L.Of b) = cond (numberBelow (layoutOf b .elements) cs) (A.Ce
 cellAfterLetter cs L.Other = A.Other
 
 unfoldable pub namedRule : List ℕ → Named
-unfolding bankOf
+unfolding letterBank
 namedRule [] = A.Other
-namedRule (c ∷ cs) = cellAfterLetter cs (bankOf c)
+namedRule (c ∷ cs) = cellAfterLetter cs (letterBank c)
 
 -- X is read only
 abbrev pub storable : Named → Named

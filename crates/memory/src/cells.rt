@@ -2,7 +2,7 @@
 ghost use mathlib.Core.Path.{_≡_};
 ghost use Prim.Native.Nat.{_+_, _≤_, _<_};
 ghost use lib.ListN.{length, take, drop};
-ghost use Rattle.words.specs.Words.{little};
+ghost use Rattle.words.specs.Words.{littleEndian};
 ghost use Rattle.memory.specs.Layout.{hasCell};
 ghost use Rattle.memory.specs.Cells.{cellValue, readRule, positionRule, indexedRule};
 use crate::Bank;
@@ -60,7 +60,7 @@ fn real_cell(n: u32) -> Outcome
 // The number of two bytes of the image, and of four.
 fn get16(image: &[u8], at: usize) -> u32
     requires { ⌜ at + 2 ≤ length (now image) ⌝ }
-    ensures { λ r. ⌜ (r ≡ little (take 2 (drop at (now (image .entry))))) × (r < 65536) ⌝ }
+    ensures { λ r. ⌜ (r ≡ littleEndian (take 2 (drop at (now (image .entry))))) × (r < 65536) ⌝ }
 {
     let low = image[at];
     let high = image[at + 1];
@@ -69,7 +69,7 @@ fn get16(image: &[u8], at: usize) -> u32
 
 fn get32(image: &[u8], at: usize) -> u32
     requires { ⌜ at + 4 ≤ length (now image) ⌝ }
-    ensures { λ r. ⌜ r ≡ little (take 4 (drop at (now (image .entry)))) ⌝ }
+    ensures { λ r. ⌜ r ≡ littleEndian (take 4 (drop at (now (image .entry)))) ⌝ }
 {
     words::word32(image[at], image[at + 1], image[at + 2], image[at + 3])
 }

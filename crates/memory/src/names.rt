@@ -1,6 +1,6 @@
 // Names of cells: a bank letter and an element's number (paper 01, "Tokens" and answer 2).
 ghost use mathlib.Core.Path.{_≡_};
-ghost use Rattle.memory.specs.Names.{bankOf, isDigit, elementRule, namedRule, targetRule};
+ghost use Rattle.memory.specs.Names.{letterBank, isDigit, elementRule, namedRule, targetRule};
 use crate::Bank;
 
 pub enum Letter {
@@ -19,7 +19,7 @@ pub enum Named {
 }
 
 pub fn bank_of(letter: u8) -> Letter
-    ensures { λ r. ⌜ r ≡ bankOf letter ⌝ }
+    ensures { λ r. ⌜ r ≡ letterBank letter ⌝ }
 {
     match letter {
         b'X' => Letter::Of(Bank::X),

@@ -17,11 +17,11 @@ use Rattle.machine.specs.Machine.{runs}
 use Rattle.verifier.specs.Accepts as Verifier
 use Rattle.verifier.proofs.Safe.{safe, memory-kinded}
 use Rattle.tree_code.specs.Code.{codeOf}
-use Rattle.compiler.specs.Compile.{compiling, codedBytes, encoded}
+use Rattle.compiler.specs.Compile.{compiling, codedBytes, encodeAll}
 use Rattle.compiler.proofs.Bytes.{encoded-length}
 use Rattle.compiler.proofs.Theorems.{compile-theorems}
 use Rattle.operations.specs.Operations.{compileAnswer, checkAnswer}
-use Rattle.operations.specs.Terms.{compiled, compiledCode, doneWith, Ends}
+use Rattle.operations.specs.Terms.{compileAnswerOf, compiledCode, doneWith, Ends}
 use Rattle.operations.specs.Promises.{Faithful}
 use Rattle.operations.proofs.Verdicts.{accepted-by, passes}
 use Rattle.operations.proofs.Requests.{run-code, run-tree, written}
@@ -32,10 +32,10 @@ use Rattle.operations.proofs.Texts.{is-formula}
 beyond : (code : List ℕ) (n k : ℕ) (j : Judgement) → compileAnswer j ≡ doneWith n → 8 * n ≤ k → getD (codedBytes code j) k 0 ≡ getD code k 0
 beyond code n k (accepted t) e h =
     let l : length (codeOf t) ≡ n = cc in
-    other-kept code 0 (encoded (codeOf t)) k (inr (omega (arith, encoded-length (codeOf t))))
+    other-kept code 0 (encodeAll (codeOf t)) k (inr (omega (arith, encoded-length (codeOf t))))
 beyond code n k (refused a p) e h = refl
 
-pub only-code : (text code : List ℕ) (n k : ℕ) → compiled text code ≡ doneWith n → 8 * n ≤ k → getD (compiledCode text code) k 0 ≡ getD code k 0
+pub only-code : (text code : List ℕ) (n k : ℕ) → compileAnswerOf text code ≡ doneWith n → 8 * n ≤ k → getD (compiledCode text code) k 0 ≡ getD code k 0
 only-code text code n k = beyond code n k (compiling (length code) text)
 
 -- ---- accepted code
@@ -69,7 +69,7 @@ module _ {text : List ℕ} {t : Tree} (code : List ℕ) (a : AcceptedFormula tex
         short = demand .short;
       }
 
-  pub faithful : {n : ℕ} → compiled text code ≡ doneWith n → Faithful text t (compiledCode text code) n
+  pub faithful : {n : ℕ} → compileAnswerOf text code ≡ doneWith n → Faithful text t (compiledCode text code) n
   faithful {n} e =
       let w = written text code (is-formula a) e in
       subst (λ n. Faithful text t (compiledCode text code) n) (w .count) (rw (w .bytes) (in-buffer (w .room)))

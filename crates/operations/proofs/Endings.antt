@@ -20,7 +20,7 @@ use Rattle.memory.specs.declared.names.Named.the-variants.{Cell, Other}
 use Rattle.memory.specs.declared.store.Encoded.{Encoded}
 use Rattle.memory.specs.declared.store.Encoded.the-variants as Encoded
 use Rattle.memory.specs.Layout.{imageSize, layoutOf, hasCell, flagAt}
-use Rattle.memory.specs.Names.{noLeadingZero, allDigits, decimalValue, bankOf, numberBelow, cellAfterLetter, namedRule, storable, targetRule}
+use Rattle.memory.specs.Names.{noLeadingZero, allDigits, decimalValue, letterBank, numberBelow, cellAfterLetter, namedRule, storable, targetRule}
 use Rattle.memory.specs.Store.{encodeCell, withFlag, writeCell, answerOf}
 use Rattle.machine.specs.declared.Ended.{Ended}
 use Rattle.machine.specs.declared.Ended.the-variants as Ended
@@ -48,7 +48,7 @@ stands cs L.Other = other
 words : (text : List ℕ) → Stands (namedRule text)
 unfolding namedRule
 words [] = other
-words (c ∷ cs) = stands cs (bankOf c)
+words (c ∷ cs) = stands cs (letterBank c)
 
 stored : {x : Named} → Stands x → Stands (storable x)
 stored (cell X i h) = other

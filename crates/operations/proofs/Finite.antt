@@ -19,7 +19,7 @@ use Rattle.machine.specs.declared.Ended.{Ended}
 use Rattle.machine.specs.Machine.{runs, endOf}
 use Rattle.machine.proofs.Properness.{ProperEnd, value, fault, stuck, runs-proper}
 use Rattle.tree_code.specs.Code.{codeOf}
-use Rattle.compiler.specs.Compile.{encoded, codedBytes}
+use Rattle.compiler.specs.Compile.{encodeAll, codedBytes}
 use Rattle.compiler.specs.private.Draft.{codeWords, wordBytes}
 use Rattle.compiler.proofs.Bytes.{words-encoded}
 use Rattle.operations.specs.Terms.{Finite}
@@ -74,5 +74,5 @@ finite {text} {t} m a h =
     let code : List ℕ = replicate 16384 0 in
     let long : 16384 ≤ length code = enough 16384 in
     let same = run-tree text t (is-formula a) m code long in
-    let bytes = all-set code 0 (encoded (codeOf t)) (zeros 16384) (subst Bytes (words-encoded (codeOf t)) (of-words (codeWords (codeOf t)))) in
+    let bytes = all-set code 0 (encodeAll (codeOf t)) (zeros 16384) (subst Bytes (words-encoded (codeOf t)) (of-words (codeWords (codeOf t)))) in
     subst Finite same (finite-code (codedBytes code (accepted t)) (length (codeOf t)) m bytes h)

@@ -28,14 +28,14 @@ use Rattle.verifier.specs.declared.Verdict.{Verdict}
 use Rattle.verifier.specs.declared.Verdict.the-variants as Verdict
 use Rattle.verifier.specs.Verdicts.{verdict}
 use Rattle.verifier.proofs.Safe.{safe, memory-kinded}
-use Rattle.compiler.specs.Compile.{codedBytes, encoded}
+use Rattle.compiler.specs.Compile.{codedBytes, encodeAll}
 use Rattle.compiler.proofs.Theorems.{compile-theorems}
 use Rattle.tree_code.specs.Code.{codeOf}
 use Rattle.operations.specs.declared.Answer.{Answer}
 use Rattle.operations.specs.declared.Answer.the-variants.{Done, Fault, Refused}
 use Rattle.operations.specs.Operations.{compileAnswer, verdictAnswer, checkAnswer, Goal, to, none, goal, ranAnswer, ranMemory, runAnswer, runMemory}
-use Rattle.operations.specs.Operations.{Request, ofTarget, ofText, request, performed, performedMemory, performedCode}
-use Rattle.operations.specs.Terms.{compiled, compiledCode, Refusal, StoredOrFault, stored, unstored, stopped}
+use Rattle.operations.specs.Operations.{Request, ofTarget, ofText, request, requestAnswer, requestMemory, requestCode}
+use Rattle.operations.specs.Terms.{compileAnswerOf, compiledCode, Refusal, StoredOrFault, stored, unstored, stopped}
 use Rattle.operations.specs.Promises.{Operation, compile, check, run, compile-and-run, resultOf, FrameConditions}
 use Rattle.operations.proofs.Numbers.{either, Numbered, formula, three-to-nine, numbered, fault-range, no-fault, own-number}
 use Rattle.operations.proofs.Verdicts.{Aims, at-cell, at-none, aims}
@@ -94,14 +94,14 @@ module _ (target m code : List ℕ) where
   sorted-end t w stopped = fault w
 
   coded-length : (j : Judgement) → length (codedBytes code j) ≡ length code
-  coded-length (accepted t) = length-sets code 0 (encoded (codeOf t))
+  coded-length (accepted t) = length-sets code 0 (encodeAll (codeOf t))
   coded-length (refused a p) = refl
 
   sorted-judged : {j : Judgement} → Numbered j → Sorted target m code (compileAnswer j) m (codedBytes code j)
   sorted-judged {j} formula = done (λ k h. refl) refl (coded-length j)
   sorted-judged (three-to-nine a p l h) = low a p (omega arith) (omega arith)
 
-  sorted-compile : (text : List ℕ) → Sorted target m code (compiled text code) m (compiledCode text code)
+  sorted-compile : (text : List ℕ) → Sorted target m code (compileAnswerOf text code) m (compiledCode text code)
   sorted-compile text =
       either (λ j. Sorted target m code (compileAnswer j) m (codedBytes code j)) (ltb (length code) 16384)
       (low 10 0 (omega arith) (omega arith))
@@ -125,7 +125,7 @@ module _ (target m code : List ℕ) where
   -- ---- compile and run
 
   abbrev Performs : Request → Type 0
-  Performs q = Sorted target m code (performed m q) (performedMemory m q) (performedCode code q)
+  Performs q = Sorted target m code (requestAnswer m q) (requestMemory m q) (requestCode code q)
 
   sorted-text : (text : List ℕ) {b : Bank} {i : ℕ} → length m ≡ imageSize → targetRule target ≡ Cell b i → (j : Judgement) → judge text ≡ j → Performs (ofText code b i j)
   sorted-text text {b} {i} l e (accepted t) q =

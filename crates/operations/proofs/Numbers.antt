@@ -14,14 +14,14 @@ use Rattle.memory.specs.declared.names.Letter.{Letter}
 use Rattle.memory.specs.declared.names.Letter.the-variants as L
 use Rattle.memory.specs.declared.names.Named.{Named}
 use Rattle.memory.specs.declared.names.Named.the-variants as A
-use Rattle.memory.specs.Names.{isDigit, decimalValue, bankOf, namedRule}
+use Rattle.memory.specs.Names.{isDigit, decimalValue, letterBank, namedRule}
 use Rattle.tokens.specs.declared.Function.{Function}
 use Rattle.tokens.specs.declared.Token.{Token}
 use Rattle.tokens.specs.declared.Scanned.{Scanned}
 use Rattle.tokens.specs.declared.Scanned.the-variants.{Good, Bad}
 use Rattle.tokens.specs.Bytes.{all, isLetter, isWord, isRun, runLen}
 use Rattle.tokens.specs.Symbols.{equalBytes, symbolCount, longest}
-use Rattle.tokens.specs.Numerals.{nonEmpty, digits, isHex, isHexRun, hexOf, notDot, realOf, numeralOf}
+use Rattle.tokens.specs.Numerals.{nonEmpty, allDigits, isHex, isHexRun, hexOf, notDot, realOf, numeralOf}
 use Rattle.tokens.specs.Words.{nameOf, functionNamed, functions, letterWord, cellWord, otherWord, wordToken}
 use Rattle.tokens.specs.Scan.{Lexeme, Found, Wrong, End, lexeme, lexemeOf, blanks, lexemeAt, Tok, Scan, tokens, wrong, consToken, scanFrom, scan}
 use Rattle.grammar.specs.Tree.{Tree}
@@ -56,11 +56,11 @@ hex : (cs : List ℕ) → Marked (hexOf cs)
 hex cs = either Marked (nonEmpty cs && all isHex cs) (either Marked (leb (length cs) 8) good five) four
 
 real : (whole part : List ℕ) → Marked (realOf whole part)
-real whole part = either Marked (digits whole && digits part) (either Marked (leb (length whole + length part) 7) good five) four
+real whole part = either Marked (allDigits whole && allDigits part) (either Marked (leb (length whole + length part) 7) good five) four
 
 numeral : (cs : List ℕ) → Marked (numeralOf cs)
 numeral cs =
-    either Marked (digits cs) (either Marked (leb (decimalValue cs) 2147483647) good five)
+    either Marked (allDigits cs) (either Marked (leb (decimalValue cs) 2147483647) good five)
     (either Marked (isHexRun cs) (hex (drop 2 cs)) (real (take (runLen notDot cs) cs) (drop (suc (runLen notDot cs)) cs)))
 
 letter : (l : Letter) → Marked (letterWord l)
@@ -74,7 +74,7 @@ cell A.Other = six
 another : (cs : List ℕ) → Marked (otherWord cs)
 unfolding otherWord
 another [] = six
-another (c ∷ []) = letter (bankOf c)
+another (c ∷ []) = letter (letterBank c)
 another (c ∷ d ∷ cs) = cell (namedRule (c ∷ d ∷ cs))
 
 name : (fs : List Function) (cs : List ℕ) {o : Scanned} → Marked o → Marked (functionNamed fs cs o)

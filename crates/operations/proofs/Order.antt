@@ -17,24 +17,24 @@ use Rattle.verifier.specs.Accepts.{Accepts}
 use Rattle.verifier.specs.Verdicts.{verdict}
 use Rattle.verifier.proofs.Verdicts.{verdict-laws}
 use Rattle.operations.specs.declared.Answer.the-variants.{Refused}
-use Rattle.operations.specs.Operations.{verdictAnswer, checkAnswer, ranAnswer, runAnswer, request, performed}
-use Rattle.operations.specs.Terms.{compiled, Ready, Room}
+use Rattle.operations.specs.Operations.{verdictAnswer, checkAnswer, ranAnswer, runAnswer, request, requestAnswer}
+use Rattle.operations.specs.Terms.{compileAnswerOf, Ready, Room}
 use Rattle.operations.proofs.Verdicts as run
 use Rattle.operations.proofs.Requests as request
 
 module _ (text code target m : List ℕ) (n : ℕ) where
-  pub wrong-memory : (length m ≡ imageSize → ⊥) → (runAnswer code n target m ≡ Refused 1 0) × (performed m (request target text m code) ≡ Refused 1 0)
-  wrong-memory h = (ap (ranAnswer m (runs code n m)) (run.no-memory code n target m h), ap (performed m) (request.no-memory target text m code h))
+  pub wrong-memory : (length m ≡ imageSize → ⊥) → (runAnswer code n target m ≡ Refused 1 0) × (requestAnswer m (request target text m code) ≡ Refused 1 0)
+  wrong-memory h = (ap (ranAnswer m (runs code n m)) (run.no-memory code n target m h), ap (requestAnswer m) (request.no-memory target text m code h))
 
   pub small-buffer : length code < 16384
-      → (compiled text code ≡ Refused 10 0) × (length m ≡ imageSize → performed m (request target text m code) ≡ Refused 10 0)
-  small-buffer l = (rw (lt-ltb (length code) 16384 l), λ h. ap (performed m) (request.no-room target text m code h l))
+      → (compileAnswerOf text code ≡ Refused 10 0) × (length m ≡ imageSize → requestAnswer m (request target text m code) ≡ Refused 10 0)
+  small-buffer l = (rw (lt-ltb (length code) 16384 l), λ h. ap (requestAnswer m) (request.no-room target text m code h l))
 
   pub wrong-target : length m ≡ imageSize → targetRule target ≡ Other
-      → (runAnswer code n target m ≡ Refused 2 0) × (Room code → performed m (request target text m code) ≡ Refused 2 0)
+      → (runAnswer code n target m ≡ Refused 2 0) × (Room code → requestAnswer m (request target text m code) ≡ Refused 2 0)
   wrong-target h e = (
     ap (ranAnswer m (runs code n m)) (run.named code n target m h e refl),
-    λ room. ap (performed m) (request.named target text m code h room e),
+    λ room. ap (requestAnswer m) (request.named target text m code h room e),
   )
 
 -- the check's verdict on code that is not accepted

@@ -28,8 +28,8 @@ use Rattle.compiler.proofs.Theorems.{compile-theorems}
 use Rattle.operations.specs.declared.Answer.{Answer}
 use Rattle.operations.specs.declared.Answer.the-variants.{Done, Refused}
 use Rattle.operations.specs.Operations.{compileAnswer, finished, memoryAfter}
-use Rattle.operations.specs.Operations.{Request, stops, ofText, ofTarget, request, performed, performedMemory, performedCode}
-use Rattle.operations.specs.Terms.{compiled, compiledCode, doneWith}
+use Rattle.operations.specs.Operations.{Request, stops, ofText, ofTarget, request, requestAnswer, requestMemory, requestCode}
+use Rattle.operations.specs.Terms.{compileAnswerOf, compiledCode, doneWith}
 use Rattle.operations.proofs.Verdicts.{Finishes}
 
 -- ---- compile alone
@@ -60,7 +60,7 @@ module _ (target text m code : List ℕ) where
 
 -- the answer, the memory and the code are those of the request
 abbrev pub Performs : Request → List ℕ → List ℕ → Answer → List ℕ → List ℕ → Type 0
-Performs q m code r m′ code′ = (r ≡ performed m q) × ((m′ ≡ performedMemory m q) × (code′ ≡ performedCode code q))
+Performs q m code r m′ code′ = (r ≡ requestAnswer m q) × ((m′ ≡ requestMemory m q) × (code′ ≡ requestCode code q))
 
 pub refuses : {q : Request} {a p : ℕ} (m code : List ℕ) → q ≡ stops a p → Performs q m code (Refused a p) m code
 refuses m code e = rw e (refl, (refl, refl))
@@ -98,7 +98,7 @@ refuses-text code m b i (refused a p) o e w = rw o (cc, (refl, w))
 pub with-room : (code s : List ℕ) → 16384 ≤ length code → compiling (length code) s ≡ judge s
 with-room code s h = rw (le-ltb (length code) 16384 h)
 
-pub has-room : {n : ℕ} (code s : List ℕ) → compiled s code ≡ doneWith n → 16384 ≤ length code
+pub has-room : {n : ℕ} (code s : List ℕ) → compileAnswerOf s code ≡ doneWith n → 16384 ≤ length code
 has-room {n} code s e = by (ltb (length code) 16384) refl e
   where
     by : (b : Bool) → ltb (length code) 16384 ≡ b → compileAnswer (cond b (refused 10 0) (judge s)) ≡ doneWith n → 16384 ≤ length code
@@ -111,7 +111,7 @@ pub record Written (s code : List ℕ) (t : Tree) (n : ℕ) : Type 0 where
   pub count : length (codeOf t) ≡ n
   pub bytes : compiledCode s code ≡ codedBytes code (accepted t)
 
-pub written : (s code : List ℕ) {t : Tree} {n : ℕ} → judge s ≡ accepted t → compiled s code ≡ doneWith n → Written s code t n
+pub written : (s code : List ℕ) {t : Tree} {n : ℕ} → judge s ≡ accepted t → compileAnswerOf s code ≡ doneWith n → Written s code t n
 written s code {t} {n} q e =
     let h = has-room code s e in
     let w : compiling (length code) s ≡ accepted t = with-room code s h ∙ q in

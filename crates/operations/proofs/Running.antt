@@ -15,12 +15,12 @@ use Rattle.machine.specs.Machine.{runs}
 use Rattle.verifier.proofs.Safe.{safe, memory-kinded}
 use Rattle.verifier.proofs.Verdicts.{verdict-laws}
 use Rattle.tree_code.specs.Code.{codeOf}
-use Rattle.compiler.specs.Compile.{codedBytes, encoded}
+use Rattle.compiler.specs.Compile.{codedBytes, encodeAll}
 use Rattle.compiler.proofs.Bytes.{encoded-length}
 use Rattle.compiler.proofs.Theorems as Compile
 use Rattle.operations.specs.Operations.{checkAnswer, to, goal, finished, memoryAfter, ranAnswer, ranMemory}
-use Rattle.operations.specs.Operations.{runAnswer, runMemory, performed, performedMemory}
-use Rattle.operations.specs.Terms.{compiled, compiledCode, doneWith, Ready, Room, StoredOrFault}
+use Rattle.operations.specs.Operations.{runAnswer, runMemory, requestAnswer, requestMemory}
+use Rattle.operations.specs.Terms.{compileAnswerOf, compiledCode, doneWith, Ready, Room, StoredOrFault}
 use Rattle.operations.specs.Promises.{run, compile-and-run, resultOf, Agree}
 use Rattle.operations.proofs.Verdicts.{accepted-by, named, Finishes}
 use Rattle.operations.proofs.Requests.{run-code, written}
@@ -29,10 +29,10 @@ use Rattle.operations.proofs.Texts.{is-formula, formula, the-tree}
 use Rattle.operations.proofs.Codes.{faithful}
 
 -- the formula's instructions stand at the front of the buffer, whatever it held
-front : (text code : List ℕ) (t : Tree) → judge text ≡ accepted t → Room code → take (8 * length (codeOf t)) (codedBytes code (accepted t)) ≡ encoded (codeOf t)
+front : (text code : List ℕ) (t : Tree) → judge text ≡ accepted t → Room code → take (8 * length (codeOf t)) (codedBytes code (accepted t)) ≡ encodeAll (codeOf t)
 front text code t q room =
     let size = encoded-length (codeOf t) in
-    rw (← size) (run-written code 0 (encoded (codeOf t)) (omega (arith, size, Compile.short text t q)))
+    rw (← size) (run-written code 0 (encodeAll (codeOf t)) (omega (arith, size, Compile.short text t q)))
 
 module _ {target m : List ℕ} {b : Bank} {i : ℕ} (ready : Ready target m b i) where
   -- accepted code is run, and its value goes to the target
@@ -53,7 +53,7 @@ module _ {target m : List ℕ} {b : Bank} {i : ℕ} (ready : Ready target m b i)
         subst⁻¹ (λ g. StoredOrFault m b i (x .count) (x .end) (ranAnswer m x g) (ranMemory m x g)) (the-goal code n e)
         (gives m b i (x .count) (ready .memory) (target-element target (ready .cell)) w)
 
-  agree : {text : List ℕ} {t : Tree} (desk box : List ℕ) {n : ℕ} → AcceptedFormula text t → Room box → compiled text desk ≡ doneWith n
+  agree : {text : List ℕ} {t : Tree} (desk box : List ℕ) {n : ℕ} → AcceptedFormula text t → Room box → compileAnswerOf text desk ≡ doneWith n
       → Agree n (resultOf (run n) target m (compiledCode text desk)) (resultOf (compile-and-run text) target m box)
   agree {text} {t} desk box {n} a room e =
       let q = is-formula a in
@@ -64,11 +64,11 @@ module _ {target m : List ℕ} {b : Bank} {i : ℕ} (ready : Ready target m b i)
       let same : runs (compiledCode text desk) n m ≡ runs (codedBytes box (accepted t)) (length (codeOf t)) m =
       rw (w .bytes, ← w .count) (run-code text t q m desk (w .room) ∙ sym (run-code text t q m box room)) in
       record {
-        answer = f .0 ∙ ap₂ (finished m b i) (kept .same m) (ap (λ x. x .count) same) ∙ ap (performed m) (sym there);
-        memory = f .1 ∙ ap (memoryAfter m b i) (kept .same m) ∙ ap (performedMemory m) (sym there);
+        answer = f .0 ∙ ap₂ (finished m b i) (kept .same m) (ap (λ x. x .count) same) ∙ ap (requestAnswer m) (sym there);
+        memory = f .1 ∙ ap (memoryAfter m b i) (kept .same m) ∙ ap (requestMemory m) (sym there);
         code = rw (there, w .bytes, ← w .count) (front text desk t q (w .room) ∙ sym (front text box t q room));
       }
 
-  pub desk-and-box : (text desk box : List ℕ) {n : ℕ} → Room box → compiled text desk ≡ doneWith n
+  pub desk-and-box : (text desk box : List ℕ) {n : ℕ} → Room box → compileAnswerOf text desk ≡ doneWith n
       → Agree n (resultOf (run n) target m (compiledCode text desk)) (resultOf (compile-and-run text) target m box)
   desk-and-box text desk box room e = agree desk box (formula text desk e .1) room e

@@ -1,7 +1,7 @@
 -- The sheet of sums, by computing each: the text is judged, its tree's worth is returned and stored, and the cell is read back.
 use mathlib.Core.Path.{refl}
 use lib.Ieee as Ieee
-use Rattle.memory.specs.Names.{bankOf, namedRule}
+use Rattle.memory.specs.Names.{letterBank, namedRule}
 use Rattle.tokens.specs.Words.{otherWord, wordToken}
 use Rattle.tokens.specs.Scan.{lexemeOf, scanFrom}
 use Rattle.grammar.specs.Symbols.{groupNumber}
@@ -14,5 +14,5 @@ use Rattle.tree_code.specs.Code.{codeOf}
 use Rattle.operations.specs.Sheet.{Sums, sheet}
 
 pub sums : Sums sheet
-unfolding Ieee.ofBits Ieee.toBits Ieee.ofInt Ieee.add Ieee.div Ieee.eq bankOf namedRule otherWord wordToken lexemeOf scanFrom groupNumber treeKind wrongKind expression parse eval judgeParse judgeScan judge exec act codeOf
+unfolding Ieee.ofBits Ieee.toBits Ieee.ofInt Ieee.add Ieee.div Ieee.eq letterBank namedRule otherWord wordToken lexemeOf scanFrom groupNumber treeKind wrongKind expression parse eval judgeParse judgeScan judge exec act codeOf
 sums = (refl, (refl, (refl, (refl, (refl, (refl, (refl, (refl, (refl, (refl, (refl, (refl, tt))))))))))))

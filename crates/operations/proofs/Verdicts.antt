@@ -18,7 +18,7 @@ use Rattle.machine.specs.declared.Ran.{Ran}
 use Rattle.machine.specs.Machine.{runs}
 use Rattle.verifier.specs.declared.Verdict.{Verdict}
 use Rattle.verifier.specs.declared.Verdict.the-variants as Verdict
-use Rattle.verifier.specs.Accepts.{Accepts, Right}
+use Rattle.verifier.specs.Accepts.{Accepts, CorrectVerdict}
 use Rattle.verifier.specs.Verdicts.{verdict}
 use Rattle.verifier.proofs.Verdicts.{verdict-laws}
 use Rattle.operations.specs.declared.Answer.{Answer}
@@ -28,7 +28,7 @@ use Rattle.operations.specs.Terms.{doneWith, Refusal}
 
 -- ---- the verdict
 
-module _ {code : List ℕ} {n : ℕ} {v w : Verdict} (right : Right code n v) (e : v ≡ w) where
+module _ {code : List ℕ} {n : ℕ} {v w : Verdict} (right : CorrectVerdict code n v) (e : v ≡ w) where
   pub the-verdict : verdict (instructions code n) ≡ w
   the-verdict = sym (verdict-laws .determined code n v right) ∙ e
 

@@ -125,15 +125,15 @@ abbrev pub request : List ℕ → List ℕ → List ℕ → List ℕ → Request
 request target text m code = cond (eqb (length m) imageSize) (cond (ltb (length code) 16384) (stops 10 0) (ofTarget text code (targetRule target))) (stops 1 0)
 
 -- "Its answer, or its fault, is the one that the written rules give" for the tree; the count is that of a run of the code
-abbrev pub performed : List ℕ → Request → Answer
-performed m (stores b i t code n) = finished m b i (endOf (eval (memoryOf m) t)) (runs code n m .count)
-performed m (stops a p) = Refused a p
+abbrev pub requestAnswer : List ℕ → Request → Answer
+requestAnswer m (stores b i t code n) = finished m b i (endOf (eval (memoryOf m) t)) (runs code n m .count)
+requestAnswer m (stops a p) = Refused a p
 
-abbrev pub performedMemory : List ℕ → Request → List ℕ
-performedMemory m (stores b i t code n) = memoryAfter m b i (endOf (eval (memoryOf m) t))
-performedMemory m (stops a p) = m
+abbrev pub requestMemory : List ℕ → Request → List ℕ
+requestMemory m (stores b i t code n) = memoryAfter m b i (endOf (eval (memoryOf m) t))
+requestMemory m (stops a p) = m
 
 -- "Compile-and-run writes the code on 0 and on 11 to 14"
-abbrev pub performedCode : List ℕ → Request → List ℕ
-performedCode code (stores b i t written n) = written
-performedCode code (stops a p) = code
+abbrev pub requestCode : List ℕ → Request → List ℕ
+requestCode code (stores b i t written n) = written
+requestCode code (stops a p) = code

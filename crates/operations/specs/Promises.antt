@@ -25,8 +25,8 @@ use Rattle.machine.specs.Machine.{runs, endOf}
 use Rattle.verifier.specs.Accepts as Code
 use Rattle.operations.specs.declared.Answer.{Answer}
 use Rattle.operations.specs.declared.Answer.the-variants.{Refused}
-use Rattle.operations.specs.Operations.{checkAnswer, runAnswer, runMemory, request, performed, performedMemory, performedCode}
-use Rattle.operations.specs.Terms.{compiled, compiledCode, doneWith, answerNumber, Refusal, Ready, Room, StoredOrFault, Finite, Ends}
+use Rattle.operations.specs.Operations.{checkAnswer, runAnswer, runMemory, request, requestAnswer, requestMemory, requestCode}
+use Rattle.operations.specs.Terms.{compileAnswerOf, compiledCode, doneWith, answerNumber, Refusal, Ready, Room, StoredOrFault, Finite, Ends}
 
 -- "compile alone (expression, code buffer), check (code buffer, number of instructions), run (those, memory, target), and compile-and-run (all but the number)"
 pub data Operation : Type 0 where
@@ -44,12 +44,12 @@ pub record OperationResult : Type 0 where
 -- "For every input .. each public operation's contract determines the result and every byte of memory and code buffer, by an equation": with the target, the
 -- memory m and the code; one that is lent no memory leaves any as it was
 abbrev pub resultOf : Operation → List ℕ → List ℕ → List ℕ → OperationResult
-resultOf (compile text) target m code = record { answer = compiled text code; memory = m; code = compiledCode text code }
+resultOf (compile text) target m code = record { answer = compileAnswerOf text code; memory = m; code = compiledCode text code }
 resultOf (check n) target m code = record { answer = checkAnswer code n; memory = m; code = code }
 resultOf (run n) target m code = record { answer = runAnswer code n target m; memory = runMemory code n target m; code = code }
 resultOf (compile-and-run text) target m code =
     let q = request target text m code in
-    record { answer = performed m q; memory = performedMemory m q; code = performedCode code q }
+    record { answer = requestAnswer m q; memory = requestMemory m q; code = requestCode code q }
 
 -- demand 1, of an operation's result
 pub record FrameConditions (target m code : List ℕ) (x : OperationResult) : Type 0 where
@@ -85,12 +85,12 @@ pub record Promises : Type 0 where
   -- 1. "Any text, any memory, any code bytes"
   pub keeps : (o : Operation) (target m code : List ℕ) → FrameConditions target m code (resultOf o target m code)
   -- "Compiling writes only its code, into the buffer lent for it."
-  pub only-code : (text code : List ℕ) (n k : ℕ) → compiled text code ≡ doneWith n → 8 * n ≤ k → getD (compiledCode text code) k 0 ≡ getD code k 0
+  pub only-code : (text code : List ℕ) (n k : ℕ) → compileAnswerOf text code ≡ doneWith n → 8 * n ≤ k → getD (compiledCode text code) k 0 ≡ getD code k 0
   -- "Order, an operation testing those that it has inputs for: 1, 10, 2, .. 15": the refusals that are no text's, each where none before it holds
   pub wrong-memory : (text code target m : List ℕ) (n : ℕ) → (length m ≡ imageSize → ⊥)
       → (resultOf (run n) target m code .answer ≡ Refused 1 0) × (resultOf (compile-and-run text) target m code .answer ≡ Refused 1 0)
   pub small-buffer : (text code target m : List ℕ) → length code < 16384
-      → (compiled text code ≡ Refused 10 0) × (length m ≡ imageSize → resultOf (compile-and-run text) target m code .answer ≡ Refused 10 0)
+      → (compileAnswerOf text code ≡ Refused 10 0) × (length m ≡ imageSize → resultOf (compile-and-run text) target m code .answer ≡ Refused 10 0)
   pub wrong-target : (text code target m : List ℕ) (n : ℕ) → length m ≡ imageSize → targetRule target ≡ Other
       → (resultOf (run n) target m code .answer ≡ Refused 2 0) × (Room code → resultOf (compile-and-run text) target m code .answer ≡ Refused 2 0)
   pub wrong-code : (code : List ℕ) (n : ℕ) {target m : List ℕ} {b : Bank} {i : ℕ} → Ready target m b i
@@ -98,7 +98,7 @@ pub record Promises : Type 0 where
       → (checkAnswer code n ≡ Refused 15 0) × (resultOf (run n) target m code .answer ≡ Refused 15 0)
   -- 2. "A formula is accepted exactly if it follows the written grammar, names, number ranges, length, nesting and kinds of number.", by compile and by
   -- compile-and-run; why any other text is not
-  pub compiles : (text code : List ℕ) → Room code → answerNumber (compiled text code) ≡ 0 ↔ ((t : Tree) × AcceptedFormula text t)
+  pub compiles : (text code : List ℕ) → Room code → answerNumber (compileAnswerOf text code) ≡ 0 ↔ ((t : Tree) × AcceptedFormula text t)
   pub performs : (text code : List ℕ) {target m : List ℕ} {b : Bank} {i : ℕ} → Ready target m b i → Room code
       → (Refusal (answerNumber (resultOf (compile-and-run text) target m code .answer)) → ⊥) ↔ ((t : Tree) × AcceptedFormula text t)
   pub judged : (text : List ℕ) → HasJudgement text (judge text)
@@ -107,21 +107,21 @@ pub record Promises : Type 0 where
   pub places : (text : List ℕ) (a p : ℕ) → judge text ≡ refused a p → (p ≤ length text) × (p ≤ 1024)
   -- "Its answer, or its fault, is the one that the written rules give"; the count is that of its code
   pub answers : {text target m : List ℕ} (code : List ℕ) {b : Bank} {i n : ℕ} {t : Tree}
-      → Ready target m b i → AcceptedFormula text t → compiled text code ≡ doneWith n
+      → Ready target m b i → AcceptedFormula text t → compileAnswerOf text code ≡ doneWith n
       → let x = resultOf (compile-and-run text) target m code in
       StoredOrFault m b i (runs (compiledCode text code) n m .count) (endOf (eval (memoryOf m) t)) (x .answer) (x .memory)
   -- "an infinite result is 12", "Reading an R cell that holds an infinity or NaN is 13": so a formula gives none, and nor does any code
   pub finite : {text : List ℕ} {t : Tree} (m : List ℕ) → AcceptedFormula text t → Bytes m → Finite (endOf (eval (memoryOf m) t))
   pub finite-code : (code : List ℕ) (n : ℕ) (m : List ℕ) → Bytes code → Bytes m → Finite (runs code n m .end)
   -- 3. "For every accepted formula, and whatever a memory of the right size holds"
-  pub faithful : {text : List ℕ} {t : Tree} {n : ℕ} (code : List ℕ) → AcceptedFormula text t → compiled text code ≡ doneWith n
+  pub faithful : {text : List ℕ} {t : Tree} {n : ℕ} (code : List ℕ) → AcceptedFormula text t → compileAnswerOf text code ≡ doneWith n
       → Faithful text t (compiledCode text code) n
   -- "compile-and-run, where none of 1, 2 and 10 holds, writes and runs the same": no more "one way on the desk and another in the box". The desk
   -- compiles into a buffer of its own, and the box runs that code or compiles the text itself.
-  pub desk-and-box : (text desk box : List ℕ) {target m : List ℕ} {b : Bank} {i n : ℕ} → Ready target m b i → Room box → compiled text desk ≡ doneWith n
+  pub desk-and-box : (text desk box : List ℕ) {target m : List ℕ} {b : Bank} {i n : ℕ} → Ready target m b i → Room box → compileAnswerOf text desk ≡ doneWith n
       → Agree n (resultOf (run n) target m (compiledCode text desk)) (resultOf (compile-and-run text) target m box)
   pub same-refusal : (text desk box : List ℕ) {target m : List ℕ} {b : Bank} {i a p : ℕ} → Ready target m b i → Room desk → Room box
-      → compiled text desk ≡ Refused a p → resultOf (compile-and-run text) target m box .answer ≡ Refused a p
+      → compileAnswerOf text desk ≡ Refused a p → resultOf (compile-and-run text) target m box .answer ≡ Refused a p
   pub same-code : (text code : List ℕ) {target m : List ℕ} {b : Bank} {i : ℕ} → Ready target m b i → Room code
       → resultOf (compile-and-run text) target m code .code ≡ compiledCode text code
   -- "The check accepts exactly code of ..", and "Every other code is 15."

@@ -16,7 +16,7 @@ use Rattle.values.specs.declared.Outcome.the-variants.{Done}
 use Rattle.memory.specs.declared.Bank.{Bank}
 use Rattle.memory.specs.declared.Bank.the-variants.{«V», N, D, R}
 use Rattle.memory.specs.Environment.{memoryOf}
-use Rattle.operations.specs.Operations.{reportOf, Request, request, performed, performedMemory}
+use Rattle.operations.specs.Operations.{reportOf, Request, request, requestAnswer, requestMemory}
 
 -- every byte is 1, so that no cell holds beforehand what is stored to it
 abbrev pub ones : List ℕ
@@ -38,12 +38,12 @@ pub record Effect : Type 0 where
 
 abbrev pub effect : Bank → Request → Effect
 effect b q =
-    let r = reportOf (performed ones q) in
-    record { answer = r .answer; value = r .value; cell = memoryOf (performedMemory ones q) .cell b 0 }
+    let r = reportOf (requestAnswer ones q) in
+    record { answer = r .answer; value = r .value; cell = memoryOf (requestMemory ones q) .cell b 0 }
 
 abbrev pub SumHolds : Sum → Type 0
 SumHolds (is target text b v w) = effect b (asked target text) ≡ record { answer = 0; value = v; cell = Done w }
-SumHolds (gets target text a) = reportOf (performed ones (asked target text)) .answer ≡ a
+SumHolds (gets target text a) = reportOf (requestAnswer ones (asked target text)) .answer ≡ a
 
 abbrev pub Sums : List Sum → Type 0
 Sums [] = Unit {0}

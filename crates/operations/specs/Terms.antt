@@ -31,8 +31,8 @@ use Rattle.operations.specs.declared.Answer.the-variants.{Done, Fault}
 use Rattle.operations.specs.Operations.{reportOf, compileAnswer}
 
 -- compile's answer, and what it leaves in the buffer
-abbrev pub compiled : List ℕ → List ℕ → Answer
-compiled text code = compileAnswer (compiling (length code) text)
+abbrev pub compileAnswerOf : List ℕ → List ℕ → Answer
+compileAnswerOf text code = compileAnswer (compiling (length code) text)
 
 abbrev pub compiledCode : List ℕ → List ℕ → List ℕ
 compiledCode text code = codedBytes code (compiling (length code) text)

@@ -4,7 +4,7 @@ ghost use lib.ListN.{length};
 ghost use Rattle.memory.specs.Store.{storeImage};
 ghost use Rattle.compiler.specs.Compile.{compiling, codedBytes};
 ghost use Rattle.operations.specs.Operations.{reportOf, compileAnswer, checkAnswer, storedAnswer, finished, memoryAfter, runAnswer, runMemory};
-ghost use Rattle.operations.specs.Operations.{request, performed, performedMemory, performedCode};
+ghost use Rattle.operations.specs.Operations.{request, requestAnswer, requestMemory, requestCode};
 use compiler::Coded;
 use machine::Ended;
 use machine::Ran;
@@ -123,9 +123,9 @@ pub fn run(code: &[u8], n: usize, memory: &mut [u8], target: &[u8]) -> Answer
 
 // Compiled code is accepted by the check, as is proved, so it is run without one.
 pub fn compile_and_run(target: &[u8], text: &[u8], memory: &mut [u8], code: &mut [u8]) -> Answer
-    ensures { λ r. ⌜ r ≡ performed (now (memory .entry)) (request (now (target .entry)) (now (text .entry)) (now (memory .entry)) (now (code .entry))) ⌝ }
-    ensures { λ r. ⌜ now (memory .exit) ≡ performedMemory (now (memory .entry)) (request (now (target .entry)) (now (text .entry)) (now (memory .entry)) (now (code .entry))) ⌝ }
-    ensures { λ r. ⌜ now (code .exit) ≡ performedCode (now (code .entry)) (request (now (target .entry)) (now (text .entry)) (now (memory .entry)) (now (code .entry))) ⌝ }
+    ensures { λ r. ⌜ r ≡ requestAnswer (now (memory .entry)) (request (now (target .entry)) (now (text .entry)) (now (memory .entry)) (now (code .entry))) ⌝ }
+    ensures { λ r. ⌜ now (memory .exit) ≡ requestMemory (now (memory .entry)) (request (now (target .entry)) (now (text .entry)) (now (memory .entry)) (now (code .entry))) ⌝ }
+    ensures { λ r. ⌜ now (code .exit) ≡ requestCode (now (code .entry)) (request (now (target .entry)) (now (text .entry)) (now (memory .entry)) (now (code .entry))) ⌝ }
 {
     if memory.len() != memory::IMAGE_SIZE {
         return Answer::Refused(1, 0);

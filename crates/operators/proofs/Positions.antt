@@ -13,7 +13,7 @@ use borrow.Author.Tests.{lt-ltb, le-ltb, ltb-true}
 use mir.Syntax.{w32}
 use mir.Val.{SFits}
 use mir.ValLaws.{toZ-ofZ}
-use Rattle.reals.specs.Singles.{Single, negative, unitCount, signed, count}
+use Rattle.reals.specs.Singles.{Single, negative, unitCount, signed, signedUnits}
 use Rattle.reals.proofs.Laws.{real-laws}
 use Rattle.values.specs.declared.Value.{Value}
 use Rattle.values.specs.declared.Value.the-variants.{Int, Real}
@@ -94,7 +94,7 @@ zero-single : Single zeroReal
 unfolding fits
 zero-single = record { fit = tt; real = tt }
 
-less-zero : (x : Float) → Single x → lt x zeroReal ≡ ltZ (count x) (pos 0)
+less-zero : (x : Float) → Single x → lt x zeroReal ≡ ltZ (signedUnits x) (pos 0)
 less-zero x S = real-laws .less x zeroReal S zero-single
 
 no-size : (s : Bool) (m : ℕ) → signed s m ≡ pos 0 → m ≡ 0
@@ -107,11 +107,11 @@ signed-zero true = refl
 signed-zero false = refl
 
 module _ (n : ℕ) (x : Float) (S : Single x) where
-  pub index-below-zero : T (ltZ (count x) (pos 0)) → indexRule n (Real x) ≡ P.Stopped IndexError
-  index-below-zero t = rw (less-zero x S, is-true (ltZ (count x) (pos 0)) t)
+  pub index-below-zero : T (ltZ (signedUnits x) (pos 0)) → indexRule n (Real x) ≡ P.Stopped IndexError
+  index-below-zero t = rw (less-zero x S, is-true (ltZ (signedUnits x) (pos 0)) t)
 
-  truncated-zero : count x ≡ pos 0 → truncated x ≡ Whole (pos 0)
+  truncated-zero : signedUnits x ≡ pos 0 → truncated x ≡ Whole (pos 0)
   truncated-zero e = rw (is-true (finite x) (S .real), no-size (negative x) (unitCount x) e, signed-zero (negative x))
 
-  pub index-zero : count x ≡ pos 0 → 0 < n → indexRule n (Real x) ≡ P.At 0
+  pub index-zero : signedUnits x ≡ pos 0 → 0 < n → indexRule n (Real x) ≡ P.At 0
   index-zero e h = rw (less-zero x S, e, truncated-zero e, lt-ltb 0 n h)

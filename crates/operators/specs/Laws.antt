@@ -6,7 +6,7 @@ use lib.Dec.{T}
 use lib.IntN.{ℤ, pos}
 use lib.Signed.{ltZ}
 use lib.Ieee.{Float}
-use Rattle.reals.specs.Singles.{Single, count}
+use Rattle.reals.specs.Singles.{Single, signedUnits}
 use Rattle.values.specs.declared.Kind.{Kind}
 use Rattle.values.specs.declared.Value.{Value}
 use Rattle.values.specs.declared.Value.the-variants.{Int, Real}
@@ -50,6 +50,6 @@ pub record RuleLaws : Type 0 where
   pub binary-proper : (o : BinaryOp) (a b : Value) → Proper a → Proper b → AllProper (binaryRule o a b)
   pub branch-proper : (v : Value) (k : Kind) → Proper v → Proper (branchRule v k)
   -- of n elements, a single below zero names none, both zeros name the first, and an element that is named is one of them
-  pub index-below-zero : (n : ℕ) (x : Float) → Single x → T (ltZ (count x) (pos 0)) → indexRule n (Real x) ≡ P.Stopped IndexError
-  pub index-zero : (n : ℕ) (x : Float) → Single x → count x ≡ pos 0 → 0 < n → indexRule n (Real x) ≡ P.At 0
+  pub index-below-zero : (n : ℕ) (x : Float) → Single x → T (ltZ (signedUnits x) (pos 0)) → indexRule n (Real x) ≡ P.Stopped IndexError
+  pub index-zero : (n : ℕ) (x : Float) → Single x → signedUnits x ≡ pos 0 → 0 < n → indexRule n (Real x) ≡ P.At 0
   pub index-element : (n : ℕ) (v : Value) (i : ℕ) → indexRule n v ≡ P.At i → i < n

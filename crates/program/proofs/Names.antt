@@ -15,7 +15,7 @@ use Rattle.memory.specs.declared.names.Letter.the-variants as L
 use Rattle.memory.specs.declared.names.Named.{Named}
 use Rattle.memory.specs.declared.names.Named.the-variants.{Cell, Other}
 use Rattle.memory.specs.Layout.{layoutOf, hasCell}
-use Rattle.memory.specs.Names.{bankOf, noLeadingZero, allDigits, decimalValue, numberBelow, cellAfterLetter, namedRule, storable, targetRule}
+use Rattle.memory.specs.Names.{letterBank, noLeadingZero, allDigits, decimalValue, numberBelow, cellAfterLetter, namedRule, storable, targetRule}
 
 no-cell : (b : Bank) (i : ℕ) → Other ≡ Cell b i → ⊥
 no-cell b i e = let z : _≡_ {A = ℕ} 0 1 = cc in omega arith
@@ -36,7 +36,7 @@ of-letter cs L.Other {b} {i} e = absurd (no-cell b i e)
 pub element-below : (w : List ℕ) {b : Bank} {i : ℕ} → namedRule w ≡ Cell b i → i < layoutOf b .elements
 unfolding namedRule
 element-below [] {b} {i} e = absurd (no-cell b i e)
-element-below (c ∷ cs) e = of-letter cs (bankOf c) e
+element-below (c ∷ cs) e = of-letter cs (letterBank c) e
 
 pub has-named : (m w : List ℕ) {b : Bank} {i : ℕ} → length m ≡ 3204 → namedRule w ≡ Cell b i → T (hasCell m b i)
 has-named m w {b} {i} l e = rw (eq-eqb (length m) 3204 l, lt-ltb i (layoutOf b .elements) (element-below w e)) tt

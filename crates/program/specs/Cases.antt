@@ -16,7 +16,7 @@ use Rattle.tokens.specs.Symbols.{equalBytes}
 use Rattle.lines.specs.declared.forms.Form.{Form}
 use Rattle.lines.specs.declared.forms.Form.the-variants.{Pattern, Other}
 use Rattle.lines.specs.Lines.{lines, keyLength, keyOf, valueOf}
-use Rattle.lines.specs.Forms.{patternOf}
+use Rattle.lines.specs.Forms.{cellPattern}
 use Rattle.words.specs.Ascii.{ascii}
 
 -- what the lines say
@@ -32,7 +32,7 @@ putForm m b i Other = m
 
 -- a key that names a cell, of X too, and a value of the bank's form; "Lines of any other form are skipped"
 abbrev pub setCell : List ℕ → List ℕ → Named → List ℕ
-setCell m v (Named.Cell b i) = putForm m b i (patternOf b v)
+setCell m v (Named.Cell b i) = putForm m b i (cellPattern b v)
 setCell m v Named.Other = m
 
 -- `target`

@@ -7,7 +7,7 @@ use Prim.Native.Nat.{ℕ, _≤_}
 use lib.Dec.{ltb}
 use lib.ListN.{length, take}
 use lib.Seq.{sets}
-use Rattle.words.specs.Words.{little}
+use Rattle.words.specs.Words.{littleEndian}
 use Rattle.memory.specs.declared.Bank.{Bank}
 use Rattle.memory.specs.declared.names.Named.{Named}
 use Rattle.memory.specs.declared.names.Named.the-variants as Named
@@ -16,7 +16,7 @@ use Rattle.memory.specs.Cells.{bytesAt}
 use Rattle.operations.specs.declared.Answer.{Answer}
 use Rattle.operations.specs.declared.Answer.the-variants.{Done, Fault, Refused}
 use Rattle.operations.specs.declared.Report.{Report}
-use Rattle.operations.specs.Operations.{reportOf, Request, request, performed, performedMemory}
+use Rattle.operations.specs.Operations.{reportOf, Request, request, requestAnswer, requestMemory}
 use Rattle.program.specs.Cases.{Case, zeros, caseOf}
 use Rattle.lines.specs.Printing.{decimalText, cellText, cellName}
 use Rattle.words.specs.Ascii.{ascii}
@@ -35,7 +35,7 @@ reportText r = answerKey ++ decimalText (r .answer) ++ placeKey ++ decimalText (
 
 -- a cell's name and what it holds
 abbrev pub cellLine : List ℕ → Bank → ℕ → List ℕ
-cellLine m b i = cellName b i ++ ascii "=" ++ cellText b (little (bytesAt m b i)) ++ ascii "\n"
+cellLine m b i = cellName b i ++ ascii "=" ++ cellText b (littleEndian (bytesAt m b i)) ++ ascii "\n"
 
 -- the line of the cell that the target names
 abbrev pub targetLine : List ℕ → Named → List ℕ
@@ -54,7 +54,7 @@ answerText target m a = reportText (reportOf a) ++ storedText m (targetRule targ
 
 -- what compile-and-run answers, and the memory that it leaves
 abbrev pub outcomeText : Case → Request → List ℕ
-outcomeText s q = answerText (s .target) (performedMemory (s .memory) q) (performed (s .memory) q)
+outcomeText s q = answerText (s .target) (requestMemory (s .memory) q) (requestAnswer (s .memory) q)
 
 -- the code buffer has 16,384 zero bytes
 abbrev pub replyTo : Case → List ℕ

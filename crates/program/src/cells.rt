@@ -3,7 +3,7 @@ ghost use mathlib.Core.Path.{_≡_};
 ghost use Prim.Native.Nat.{_≤_, _<_};
 ghost use lib.Dec.{T};
 ghost use lib.ListN.{length};
-ghost use Rattle.words.specs.Words.{little};
+ghost use Rattle.words.specs.Words.{littleEndian};
 ghost use Rattle.memory.specs.Layout.{layoutOf, cellAt, hasCell};
 ghost use Rattle.memory.specs.Cells.{bytesAt};
 ghost use Rattle.memory.specs.Store.{writeCell};
@@ -37,7 +37,7 @@ pub fn put_pattern(memory: &mut [u8], bank: Bank, element: u32, pattern: u32)
 // The number of at most four bytes, the least first.
 fn number_of(bytes: &[u8]) -> u32
     requires { ⌜ length (now bytes) ≤ 4 ⌝ }
-    ensures { λ r. ⌜ r ≡ little (now (bytes .entry)) ⌝ }
+    ensures { λ r. ⌜ r ≡ littleEndian (now (bytes .entry)) ⌝ }
 {
     let mut n: u32 = 0;
     let mut k = bytes.len();
@@ -50,7 +50,7 @@ fn number_of(bytes: &[u8]) -> u32
 
 pub fn pattern_at(memory: &[u8], bank: Bank, element: u32) -> u32
     requires { ⌜ T (hasCell (now memory) bank element) ⌝ }
-    ensures { λ r. ⌜ r ≡ little (bytesAt (now (memory .entry)) bank element) ⌝ }
+    ensures { λ r. ⌜ r ≡ littleEndian (bytesAt (now (memory .entry)) bank element) ⌝ }
 {
     let at = place_of(bank, element);
     let end = at + memory::layout_of(bank).width;

@@ -8,7 +8,7 @@ use lib.Dec.{T}
 use lib.Ieee.{Float, nan, inf, fin, binary32, fits}
 use lib.Ieee.Scale.{finite}
 use Rattle.reals.specs.Singles.{Single, negative, unitCount, Has, Size}
-use Rattle.reals.specs.Rounding.{Fraction, distance, Closest, Rounds, near, over, end}
+use Rattle.reals.specs.Rounding.{Fraction, distance, Closest, Rounds, near, over, overflowUnits}
 use Rattle.reals.proofs.Near as Near
 use Rattle.reals.proofs.Near.{Held, Nearest, unitsOf, Is, Rounded, to}
 use Rattle.reals.proofs.Rising.{nearest-rising}
@@ -93,7 +93,7 @@ one q x y B (near h S e M) (near k R g N) =
     let d : unitCount y ≡ unitCount x = le-antisymm (rises y x B (le-refl (q .num)) R S N M) (rises x y B (le-refl (q .num)) S R M N) in
     only (q .sign) (unitCount x) x y (record { single = S; sign = e; size = refl }) (record { single = R; sign = g; size = d })
 
-pub infinite : (q : Fraction) (x : Float) → Rounds q x → (x ≡ inf (q .sign)) ↔ (end * q .den ≤ q .num)
+pub infinite : (q : Fraction) (x : Float) → Rounds q x → (x ≡ inf (q .sign)) ↔ (overflowUnits * q .den ≤ q .num)
 infinite q x (near l S e C) = (λ g. absurd (subst (λ (y : Float). T (finite y)) g (S .real)), λ g. absurd (not-le-of-lt l g))
 infinite q x (over l e) = (λ g. l, λ g. e)
 
@@ -103,7 +103,7 @@ pub record Close (q : Fraction) (x : Float) : Type 0 where
   pub sign : negative x ≡ q .sign
   pub closest : Closest (q .num) (q .den) x
 
-pub within : {q : Fraction} {x : Float} → q .num < end * q .den → Rounds q x → Close q x
+pub within : {q : Fraction} {x : Float} → q .num < overflowUnits * q .den → Rounds q x → Close q x
 within h (near l S e C) = record { single = S; sign = e; closest = C }
 within h (over l e) = absurd (not-le-of-lt h l)
 

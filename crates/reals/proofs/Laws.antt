@@ -12,9 +12,9 @@ use lib.Ieee.Fits.{round-fits, add-fits, sub-fits, mul-fits, div-fits, rem-fits,
 use lib.Ieee.Bits.{ofBits-fits, ofBits-toBits, toBits-lt}
 use Rattle.reals.specs.declared.ArithOp.{ArithOp}
 use Rattle.reals.specs.declared.ArithOp.the-variants.{Add, Sub, Mul, Div, Rem}
-use Rattle.reals.specs.Singles.{Single, negative, unitCount, signed, count, Has}
-use Rattle.reals.specs.Rounding.{Rounds, end}
-use Rattle.reals.specs.Operations.{ieee, signOf, exact, divides}
+use Rattle.reals.specs.Singles.{Single, negative, unitCount, signed, signedUnits, Has}
+use Rattle.reals.specs.Rounding.{Rounds, overflowUnits}
+use Rattle.reals.specs.Operations.{ieee, signOf, exactResult, divides}
 use Rattle.reals.specs.Laws.{RealLaws, patternUnits, decimalFraction, integerFraction}
 use Rattle.reals.proofs.Round.{rounded}
 use Rattle.reals.proofs.Pattern.{bits-is, encode-decode, decode-special}
@@ -39,7 +39,7 @@ remainder : (x y : Float) → Single x → Single y → 0 < unitCount y → Has 
 remainder x y S R p =
     has (negative x) (unitCount x % unitCount y) (ieee Rem x y) (ieee-fits Rem x y (S .fit)) (of-singles (rem-is binary32) x y S R (held x S) (held y R) p)
 
-rounds : (o : ArithOp) (x y : Float) → Single x → Single y → (T (divides o) → 0 < unitCount y) → Rounds (exact o x y) (ieee o x y)
+rounds : (o : ArithOp) (x y : Float) → Single x → Single y → (T (divides o) → 0 < unitCount y) → Rounds (exactResult o x y) (ieee o x y)
 rounds Add x y S R p = Bridge.rounds (ieee-fits Add x y (S .fit)) (of-singles (add-rounded binary32) x y S R)
 rounds Sub x y S R p = Bridge.rounds (ieee-fits Sub x y (S .fit)) (of-singles (sub-rounded binary32) x y S R)
 rounds Mul x y S R p = Bridge.rounds (ieee-fits Mul x y (S .fit)) (of-singles (mul-rounded binary32) x y S R)
@@ -51,8 +51,8 @@ abbrev real : ℤ → Float
 real z = Ieee.ofInt binary32 z
 
 -- 2 ^ 31 is far below the end of the range
-small : (n b : ℕ) → 0 < b → n ≤ 2 ^ 31 → n * 2 ^ 149 < end * b
-small n b B h = lt-of-le-of-lt (mul-le-mul-right (2 ^ 149) h) (lt-of-lt-of-le (lit< {m = 2 ^ 31 * 2 ^ 149} {n = end * 1} tt) (mul-le-mul-left end B))
+small : (n b : ℕ) → 0 < b → n ≤ 2 ^ 31 → n * 2 ^ 149 < overflowUnits * b
+small n b B h = lt-of-le-of-lt (mul-le-mul-right (2 ^ 149) h) (lt-of-lt-of-le (lit< {m = 2 ^ 31 * 2 ^ 149} {n = overflowUnits * 1} tt) (mul-le-mul-left overflowUnits B))
 
 promote : (z : ℤ) → Rounds (integerFraction z) (real z)
 promote z = Bridge.rounds (ofInt-fits binary32 z) (ofInt-rounded binary32 z)
@@ -63,7 +63,7 @@ promoted z h = within (small (natAbs z) 1 (le-refl 1) h) (promote z)
 pub exactly : (z : ℤ) → natAbs z ≤ 2 ^ 24 → Has (signOf false z) (natAbs z * 2 ^ 149) (Ieee.ofInt binary32 z)
 exactly z h = has (signOf false z) (natAbs z * 2 ^ 149) (real z) (ofInt-fits binary32 z) (whole-is binary32 z h)
 
-same : (z : ℤ) → natAbs z ≤ 2 ^ 24 → count (real z) ≡ z *ℤ pos (2 ^ 149)
+same : (z : ℤ) → natAbs z ≤ 2 ^ 24 → signedUnits (real z) ≡ z *ℤ pos (2 ^ 149)
 same z h = let v = exactly z h in ap₂ signed (v .sign) (v .size) ∙ signed-times z (2 ^ 149)
 
 climbs : (y z : ℤ) → natAbs y ≤ 2 ^ 31 → natAbs z ≤ 2 ^ 31 → natAbs y ≤ natAbs z → unitCount (real y) ≤ unitCount (real z)
@@ -72,7 +72,7 @@ climbs y z h k l =
     let w = promoted z k in
     Bridge.rising (natAbs y * 2 ^ 149) (natAbs z * 2 ^ 149) 1 (real y) (real z) (le-refl 1) (mul-le-mul-right (2 ^ 149) l) (v .single) (w .single) (v .closest) (w .closest)
 
-ordered : (y z : ℤ) → natAbs y ≤ 2 ^ 31 → natAbs z ≤ 2 ^ 31 → T (leZ y z) → T (leZ (count (real y)) (count (real z)))
+ordered : (y z : ℤ) → natAbs y ≤ 2 ^ 31 → natAbs z ≤ 2 ^ 31 → T (leZ y z) → T (leZ (signedUnits (real y)) (signedUnits (real z)))
 ordered y z h k = rw (promoted y h .sign, promoted z k .sign) (in-order y z (unitCount (real y)) (unitCount (real z)) (climbs y z h k) (climbs z y k h))
 
 unit : Has false (2 ^ 149) (fin false 1 (pos 0))

@@ -1,5 +1,5 @@
 -- What the toolchain's operations on singles give, in paper 01's words: proofs/Laws.antt proves this record. So a reader
--- believes Singles, Rounding and `exact`, and no algorithm.
+-- believes Singles, Rounding and `exactResult`, and no algorithm.
 use mathlib.Core.Path.{_≡_}
 use mathlib.Core.Logic.{_↔_}
 use mathlib.Core.Bool.{Bool, true, false, not, cond}
@@ -12,9 +12,9 @@ use lib.Ieee.{Float, inf, fin, binary32}
 use lib.Ieee.Scale.{finite}
 use Rattle.reals.specs.declared.ArithOp.{ArithOp}
 use Rattle.reals.specs.declared.ArithOp.the-variants.{Div, Rem}
-use Rattle.reals.specs.Singles.{Single, negative, unitCount, signed, count, Has, Size}
-use Rattle.reals.specs.Rounding.{Fraction, Closest, Rounds, end, ClosestWhole}
-use Rattle.reals.specs.Operations.{ieee, exact, signOf, divides}
+use Rattle.reals.specs.Singles.{Single, negative, unitCount, signed, signedUnits, Has, Size}
+use Rattle.reals.specs.Rounding.{Fraction, Closest, Rounds, overflowUnits, ClosestWhole}
+use Rattle.reals.specs.Operations.{ieee, exactResult, signOf, divides}
 
 -- the size that a pattern's lower 31 bits stand for: 23 digits, with a leading one unless the exponent's field is 0
 abbrev pub patternUnits : ℕ → ℕ
@@ -38,21 +38,21 @@ pub record RealLaws : Type 0 where
   -- rounding has one result, never falls where the fraction rises, and is an infinity exactly from the end of the range on
   pub one : (q : Fraction) (x y : Float) → 0 < q .den → Rounds q x → Rounds q y → x ≡ y
   pub rising : (a c b : ℕ) (x y : Float) → 0 < b → a ≤ c → Single x → Single y → Closest a b x → Closest c b y → unitCount x ≤ unitCount y
-  pub infinite : (q : Fraction) (x : Float) → Rounds q x → (x ≡ inf (q .sign)) ↔ (end * q .den ≤ q .num)
+  pub infinite : (q : Fraction) (x : Float) → Rounds q x → (x ≡ inf (q .sign)) ↔ (overflowUnits * q .den ≤ q .num)
   -- every operation of two finite singles gives its exact result, rounded once; a remainder is exact
-  pub rounds : (o : ArithOp) (x y : Float) → Single x → Single y → (T (divides o) → 0 < unitCount y) → Rounds (exact o x y) (ieee o x y)
+  pub rounds : (o : ArithOp) (x y : Float) → Single x → Single y → (T (divides o) → 0 < unitCount y) → Rounds (exactResult o x y) (ieee o x y)
   pub remainder : (x y : Float) → Single x → Single y → 0 < unitCount y → Has (negative x) (unitCount x % unitCount y) (ieee Rem x y)
   -- negation changes the sign alone
   pub neg : (x : Float) → Single x → Has (not (negative x)) (unitCount x) (Ieee.neg x)
   -- order and equality are those of the values; so -0.0 equals 0.0
-  pub less : (x y : Float) → Single x → Single y → Ieee.lt x y ≡ ltZ (count x) (count y)
-  pub less-equal : (x y : Float) → Single x → Single y → Ieee.le x y ≡ leZ (count x) (count y)
-  pub equal : (x y : Float) → Single x → Single y → T (Ieee.eq x y) ↔ (count x ≡ count y)
+  pub less : (x y : Float) → Single x → Single y → Ieee.lt x y ≡ ltZ (signedUnits x) (signedUnits y)
+  pub less-equal : (x y : Float) → Single x → Single y → Ieee.le x y ≡ leZ (signedUnits x) (signedUnits y)
+  pub equal : (x y : Float) → Single x → Single y → T (Ieee.eq x y) ↔ (signedUnits x ≡ signedUnits y)
   -- an integer's promotion is the nearest single: a finite one for 32 bits, the integer itself up to 2 ^ 24, and it keeps the order
   pub promote : (z : ℤ) → Rounds (integerFraction z) (Ieee.ofInt binary32 z)
   pub promote-single : (z : ℤ) → natAbs z ≤ 2 ^ 31 → Single (Ieee.ofInt binary32 z)
-  pub same : (z : ℤ) → natAbs z ≤ 2 ^ 24 → count (Ieee.ofInt binary32 z) ≡ z *ℤ pos (2 ^ 149)
-  pub ordered : (y z : ℤ) → natAbs y ≤ 2 ^ 31 → natAbs z ≤ 2 ^ 31 → T (leZ y z) → T (leZ (count (Ieee.ofInt binary32 y)) (count (Ieee.ofInt binary32 z)))
+  pub same : (z : ℤ) → natAbs z ≤ 2 ^ 24 → signedUnits (Ieee.ofInt binary32 z) ≡ z *ℤ pos (2 ^ 149)
+  pub ordered : (y z : ℤ) → natAbs y ≤ 2 ^ 31 → natAbs z ≤ 2 ^ 31 → T (leZ y z) → T (leZ (signedUnits (Ieee.ofInt binary32 y)) (signedUnits (Ieee.ofInt binary32 z)))
   -- the library's rounding of any fraction num / den is the nearest single
   pub fraction : (s : Bool) (num den : ℕ) → 0 < den → Rounds (record { sign = s; num = num * 2 ^ 149; den = den }) (Ieee.round binary32 s num den)
   -- a decimal of at most seven digits: the division of two exact singles is the nearest single

@@ -7,7 +7,7 @@ use lib.Ieee as Ieee
 use lib.Ieee.{Float, binary32, unlike}
 use Rattle.reals.specs.declared.ArithOp.{ArithOp}
 use Rattle.reals.specs.declared.ArithOp.the-variants.{Add, Sub, Mul, Div, Rem}
-use Rattle.reals.specs.Singles.{negative, unitCount, count}
+use Rattle.reals.specs.Singles.{negative, unitCount, signedUnits}
 use Rattle.reals.specs.Rounding.{Fraction}
 
 abbrev pub ieee : ArithOp → Float → Float → Float
@@ -29,12 +29,12 @@ wholeFraction s z = record { sign = signOf s z; num = natAbs z; den = 1 }
 
 -- The exact result. A sum of zero is -0.0 only where both terms are negative zeros. A product of units is a number of units times
 -- 2 ^ -149; a quotient of units is a plain number, so 2 ^ 149 times as many units. The remainder has the dividend's sign.
-abbrev pub exact : ArithOp → Float → Float → Fraction
-exact Add x y = wholeFraction (negative x && negative y) (count x +ℤ count y)
-exact Sub x y = wholeFraction (negative x && not (negative y)) (count x -ℤ count y)
-exact Mul x y = record { sign = unlike (negative x) (negative y); num = unitCount x * unitCount y; den = 2 ^ 149 }
-exact Div x y = record { sign = unlike (negative x) (negative y); num = unitCount x * 2 ^ 149; den = unitCount y }
-exact Rem x y = record { sign = negative x; num = unitCount x % unitCount y; den = 1 }
+abbrev pub exactResult : ArithOp → Float → Float → Fraction
+exactResult Add x y = wholeFraction (negative x && negative y) (signedUnits x +ℤ signedUnits y)
+exactResult Sub x y = wholeFraction (negative x && not (negative y)) (signedUnits x -ℤ signedUnits y)
+exactResult Mul x y = record { sign = unlike (negative x) (negative y); num = unitCount x * unitCount y; den = 2 ^ 149 }
+exactResult Div x y = record { sign = unlike (negative x) (negative y); num = unitCount x * 2 ^ 149; den = unitCount y }
+exactResult Rem x y = record { sign = negative x; num = unitCount x % unitCount y; den = 1 }
 
 -- the operations that a zero divisor stops
 abbrev pub divides : ArithOp → Bool

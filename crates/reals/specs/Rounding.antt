@@ -25,13 +25,13 @@ pub record Closest (a b : ℕ) (x : Float) : Type 0 where
 
 -- The end of the range: halfway from the largest single, 2 ^ 277 - 2 ^ 253 units, to 2 ^ 277, which would come next. What lies
 -- there or beyond is an infinity.
-abbrev pub end : ℕ
-end = 2 ^ 277 - 2 ^ 252
+abbrev pub overflowUnits : ℕ
+overflowUnits = 2 ^ 277 - 2 ^ 252
 
 -- x is the fraction q, rounded
 pub data Rounds (q : Fraction) (x : Float) : Type 0 where
-  near : q .num < end * q .den → Single x → negative x ≡ q .sign → Closest (q .num) (q .den) x → Rounds q x
-  over : end * q .den ≤ q .num → x ≡ inf (q .sign) → Rounds q x
+  near : q .num < overflowUnits * q .den → Single x → negative x ≡ q .sign → Closest (q .num) (q .den) x → Rounds q x
+  over : overflowUnits * q .den ≤ q .num → x ≡ inf (q .sign) → Rounds q x
 
 -- q is the whole number nearest to a / b, and of two as near the larger one: so of a size, halves away from zero
 pub record ClosestWhole (a b q : ℕ) : Type 0 where

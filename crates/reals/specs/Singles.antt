@@ -31,8 +31,8 @@ signed true n = negℤ (pos n)
 signed false n = pos n
 
 -- its value, in units: the size with the sign
-abbrev pub count : Float → ℤ
-count x = signed (negative x) (unitCount x)
+abbrev pub signedUnits : Float → ℤ
+signedUnits x = signed (negative x) (unitCount x)
 
 -- x is the single with the sign s and the size n
 pub record Has (s : Bool) (n : ℕ) (x : Float) : Type 0 where

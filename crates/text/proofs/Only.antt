@@ -127,7 +127,7 @@ sorted (wrong-next p x ys h v n sh) = read (p ++ x ∷ ys) p (x ∷ ys) h (at-to
 sorted (too-deep p x ys h v sh o le) =
     read (p ++ x ∷ ys) p (x ∷ ys) h (at-token p x ys (viable-front p (x ∷ []) v) sh (λ u k. let r = room 0 p x [] k o in omega arith)) (deep v)
 sorted (wrong-kind w t h a sh e) = read w w [] h (whole w (formula-viable a) sh) (kind t a e)
-sorted (formula {t = t} h) = read (h .words) (h .words) [] (h .reads) (whole (h .words) (formula-viable (h .formula)) (h .shallow)) (none t (h .formula) (h .kinds))
+sorted (formula {t = t} h) = read (h .toks) (h .toks) [] (h .reads) (whole (h .toks) (formula-viable (h .formula)) (h .shallow)) (none t (h .formula) (h .kinds))
 
 pub one-outcome : {s : List ℕ} {j k : Judgement} → HasJudgement s j → HasJudgement s k → j ≡ k
 one-outcome {s} h i = go (sorted h) (sorted i)

@@ -11,7 +11,7 @@ use Rattle.tokens.specs.Scan.{Tok, Scan, tokens, wrong, scan}
 use Rattle.grammar.specs.Tree.{Tree, Place, nowhere, at, wrongKind}
 use Rattle.grammar.specs.Parse.{Result}
 use Rattle.grammar.specs.Theorems as G
-use Rattle.grammar.specs.Theorems.{Found}
+use Rattle.grammar.specs.Theorems.{HasParse}
 use Rattle.grammar.proofs.Theorems.{grammar-theorems}
 use Rattle.text.specs.Judge.{Judgement, accepted, refused, judgeKinds, judgeParse, judgeScan, judge}
 use Rattle.text.specs.Theorems.{Sized, ScansTo, AcceptedFormula, HasJudgement, wrong-size, wrong-token, wrong-end, wrong-next, too-deep, wrong-kind, formula, TextTheorems}
@@ -31,12 +31,12 @@ sized s e = go (leb 1 (length s)) (leb (length s) 1024) refl refl e
     go false b p q e = let z : _≡_ {A = ℕ} 0 1 = cc in absurd (omega arith)
 
 -- what each result of the parser says
-found-outcome : (s : List ℕ) (w : List Tok) {q : Result Tree} → ScansTo s w → Found w q → HasJudgement s (judgeParse s q)
+found-outcome : (s : List ℕ) (w : List Tok) {q : Result Tree} → ScansTo s w → HasParse w q → HasJudgement s (judgeParse s q)
 unfolding judgeParse
 found-outcome s w h (G.formula {t = t} a sh) = go (wrongKind t) refl
   where
     go : (p : Place) → wrongKind t ≡ p → HasJudgement s (judgeKinds t p)
-    go nowhere e = formula (record { words = w; reads = h; formula = a; shallow = sh; kinds = e })
+    go nowhere e = formula (record { toks = w; reads = h; formula = a; shallow = sh; kinds = e })
     go (at p) e = wrong-kind w t h a sh e
 found-outcome s w h (G.unfinished v n sh) = wrong-end w h v n sh
 found-outcome s w h (G.surplus {x = x} {ys = ys} p e v n sh) = wrong-next p x ys (subst (ScansTo s) e h) v n sh

@@ -24,10 +24,10 @@ pub record ScansTo (s : List ℕ) (w : List Tok) : Type 0 where
 
 -- "an accepted formula is an expression of which no refusal of its text, 3 to 9, holds"
 pub record AcceptedFormula (s : List ℕ) (t : Tree) : Type 0 where
-  pub words : List Tok
-  pub reads : ScansTo s words
-  pub formula : Formula words t
-  pub shallow : Shallow 0 words
+  pub toks : List Tok
+  pub reads : ScansTo s toks
+  pub formula : Formula toks t
+  pub shallow : Shallow 0 toks
   pub kinds : wrongKind t ≡ nowhere
 
 -- "Order .. 3 .. then 4, 5, 6 over the whole text, the smallest place first; then 7 and 8, smallest place first, 7 on a tie; then 9, smallest place"

@@ -11,7 +11,7 @@ use Rattle.operators.specs.Laws.{Proper}
 use Rattle.memory.specs.declared.Bank.{Bank}
 use Rattle.memory.specs.declared.Bank.the-variants.{X, C, «V», N, D, R}
 use Rattle.memory.specs.declared.numbers.BankOf.the-variants as BankOf
-use Rattle.memory.specs.Cells.{finiteOr13}
+use Rattle.memory.specs.Cells.{finiteOrFault}
 use Rattle.memory.specs.Numbers.{bankNumbered, bankNumber}
 use Rattle.memory.proofs.cells.Exponents.{finite-number}
 use Rattle.tokens.specs.declared.Function.{Function}
@@ -64,7 +64,7 @@ function Max = (lit< tt, refl)
 function Min = (lit< tt, refl)
 function If = (lit< tt, refl)
 
-pub finite-real : (x : Float) (p : ℕ) → T (finite x) → realEntry (finiteOr13 x) p ≡ Entry.Is (Number (Real x)) p
+pub finite-real : (x : Float) (p : ℕ) → T (finite x) → realEntry (finiteOrFault x) p ≡ Entry.Is (Number (Real x)) p
 finite-real nan p h = absurd h
 finite-real (inf s) p h = absurd h
 finite-real (fin s m e) p h = refl

@@ -12,7 +12,7 @@ use Rattle.values.specs.Integers.{inRange}
 use Rattle.values.specs.Patterns.{lowBits}
 use Rattle.values.proofs.Ranges.{range-sfits}
 use Rattle.values.proofs.patterns.Readings.{signed-low}
-use Rattle.memory.specs.Cells.{finiteOr13}
+use Rattle.memory.specs.Cells.{finiteOrFault}
 use Rattle.memory.specs.Numbers.{bankNumber}
 use Rattle.tokens.specs.declared.Token.{Token}
 use Rattle.tokens.specs.declared.Token.the-variants.{Number, Cell, Letter, Name, Symbol}
@@ -59,7 +59,7 @@ holds (Sound.symbol n k) p h = parts 6 n 0 p (lit< tt) (omega arith) h
 means : {t : Token} → Sound t → (p : ℕ) → tokenOf (tokenClass t) (tokenOperand t) (tokenNumber t) p ≡ Is t p
 unfolding tokenOf
 means (Sound.int z r) p = ap (λ y. Is (Number (Int y)) p) (signed-low 32 z (lit< tt) (range-sfits z (is-true (inRange z) r) .sfits))
-means (Sound.real x S) p = ap (λ y. realEntry (finiteOr13 y) p) (ofBits-toBits binary32 x (S .fit)) ∙ finite-real x p (S .real)
+means (Sound.real x S) p = ap (λ y. realEntry (finiteOrFault y) p) (ofBits-toBits binary32 x (S .fit)) ∙ finite-real x p (S .real)
 means (Sound.cell b i k) p = ap (λ o. cellEntry o i p) (bank b .1)
 means (Sound.letter b) p = ap (λ o. letterEntry o p) (bank b .1)
 means (Sound.name f) p = ap (λ o. nameEntry o p) (function f .1)

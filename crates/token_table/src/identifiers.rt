@@ -4,7 +4,7 @@ ghost use mathlib.Core.Bool.{true};
 ghost use Prim.Native.Nat.{_<_, _≤_};
 ghost use lib.ListN.{length, getD, drop};
 ghost use Rattle.memory.specs.declared.names.Letter.the-variants.{Of};
-ghost use Rattle.memory.specs.Names.{bankOf};
+ghost use Rattle.memory.specs.Names.{letterBank};
 ghost use Rattle.tokens.specs.Bytes.{isLetter, isWord};
 ghost use Rattle.tokens.specs.Words.{wordToken};
 ghost use Rattle.tokens.specs.Scan.{runLexeme};
@@ -30,7 +30,7 @@ fn judged(text: &[u8], at: usize) -> Lex
 
 // A cell, from its bank's letter on.
 fn cell_at(text: &[u8], at: usize, bank: Bank) -> Lex
-    requires { ⌜ (at < length (now text)) × ((isLetter (getD (now text) at 0) ≡ true) × (bankOf (getD (now text) at 0) ≡ Of bank)) ⌝ }
+    requires { ⌜ (at < length (now text)) × ((isLetter (getD (now text) at 0) ≡ true) × (letterBank (getD (now text) at 0) ≡ Of bank)) ⌝ }
     ensures { λ r. ⌜ Lexes (runLexeme isWord wordToken (drop at (now (text .entry))) at) (r .word) (r .end) ⌝ }
 {
     let first = bytes::byte_at(text, at + 1);

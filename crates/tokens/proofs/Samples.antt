@@ -6,7 +6,7 @@ use lib.Ieee as Ieee
 use lib.Ieee.{binary32}
 use Rattle.values.specs.declared.Value.the-variants.{Int, Real}
 use Rattle.memory.specs.declared.Bank.the-variants.{D}
-use Rattle.memory.specs.Names.{bankOf, namedRule}
+use Rattle.memory.specs.Names.{letterBank, namedRule}
 use Rattle.tokens.specs.declared.Function.the-variants.{Max}
 use Rattle.tokens.specs.declared.Token.the-variants.{Number, Cell, Letter, Name, Symbol}
 use Rattle.tokens.specs.declared.Scanned.the-variants.{Good, Bad}
@@ -68,31 +68,31 @@ unfolding wordToken
 function = refl
 
 lower-case : wordToken (109 ∷ 97 ∷ 120 ∷ []) ≡ Bad 6
-unfolding wordToken otherWord namedRule bankOf
+unfolding wordToken otherWord namedRule letterBank
 lower-case = refl
 
 longer : wordToken (65 ∷ 66 ∷ 83 ∷ 50 ∷ []) ≡ Bad 6
-unfolding wordToken otherWord namedRule bankOf
+unfolding wordToken otherWord namedRule letterBank
 longer = refl
 
 letter : wordToken (68 ∷ []) ≡ Good (Letter D)
-unfolding wordToken otherWord bankOf
+unfolding wordToken otherWord letterBank
 letter = refl
 
 cell : wordToken (68 ∷ 50 ∷ 53 ∷ 53 ∷ []) ≡ Good (Cell D 255)
-unfolding wordToken otherWord namedRule bankOf
+unfolding wordToken otherWord namedRule letterBank
 cell = refl
 
 beyond : wordToken (68 ∷ 50 ∷ 53 ∷ 54 ∷ []) ≡ Bad 6
-unfolding wordToken otherWord namedRule bankOf
+unfolding wordToken otherWord namedRule letterBank
 beyond = refl
 
 leading-zero : wordToken (68 ∷ 48 ∷ 49 ∷ []) ≡ Bad 6
-unfolding wordToken otherWord namedRule bankOf
+unfolding wordToken otherWord namedRule letterBank
 leading-zero = refl
 
 beyond-bits : wordToken (88 ∷ 54 ∷ 52 ∷ []) ≡ Bad 6
-unfolding wordToken otherWord namedRule bankOf
+unfolding wordToken otherWord namedRule letterBank
 beyond-bits = refl
 
 -- ---- lexemes
@@ -107,7 +107,7 @@ then-equals = refl
 
 -- `D0.5`: a cell, then a dot that starts no token
 dotted : lexemeAt (68 ∷ 48 ∷ 46 ∷ 53 ∷ []) 0 ≡ Found (Cell D 0) 0 2
-unfolding lexemeOf wordToken otherWord namedRule bankOf
+unfolding lexemeOf wordToken otherWord namedRule letterBank
 dotted = refl
 
 then-dot : lexemeAt (68 ∷ 48 ∷ 46 ∷ 53 ∷ []) 2 ≡ Wrong 4 2
@@ -131,5 +131,5 @@ minus-first = refl
 
 -- `1 +D0`
 sum : scan (49 ∷ 32 ∷ 43 ∷ 68 ∷ 48 ∷ []) ≡ tokens (record { token = Number (Int (pos 1)); place = 0 } ∷ record { token = Symbol 4; place = 2 } ∷ record { token = Cell D 0; place = 3 } ∷ [])
-unfolding scanFrom lexemeOf wordToken otherWord namedRule bankOf
+unfolding scanFrom lexemeOf wordToken otherWord namedRule letterBank
 sum = refl

@@ -7,11 +7,11 @@ use lib.Dec.{eqb, leb}
 use Rattle.memory.specs.Names.{isDigit}
 use Rattle.words.specs.Ascii.{byte}
 
-abbrev pub inside : ℕ → ℕ → ℕ → Bool
-inside lo hi c = leb lo c && leb c hi
+abbrev pub between : ℕ → ℕ → ℕ → Bool
+between lo hi c = leb lo c && leb c hi
 
 abbrev pub isLetter : ℕ → Bool
-isLetter c = inside (byte "A") (byte "Z") c || inside (byte "a") (byte "z") c
+isLetter c = between (byte "A") (byte "Z") c || between (byte "a") (byte "z") c
 
 abbrev pub isSpace : ℕ → Bool
 isSpace c = eqb c (byte " ") || eqb c (byte "\t")

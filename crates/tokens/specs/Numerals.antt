@@ -17,21 +17,21 @@ use Rattle.memory.specs.Names.{isDigit, decimalValue}
 use Rattle.tokens.specs.declared.Token.the-variants.{Number}
 use Rattle.tokens.specs.declared.Scanned.{Scanned}
 use Rattle.tokens.specs.declared.Scanned.the-variants.{Good, Bad}
-use Rattle.tokens.specs.Bytes.{inside, runLen, all}
+use Rattle.tokens.specs.Bytes.{between, runLen, all}
 use Rattle.words.specs.Ascii.{byte}
 
 abbrev pub nonEmpty : List ℕ → Bool
 nonEmpty [] = false
 nonEmpty (c ∷ cs) = true
 
-abbrev pub digits : List ℕ → Bool
-digits cs = nonEmpty cs && all isDigit cs
+abbrev pub allDigits : List ℕ → Bool
+allDigits cs = nonEmpty cs && all isDigit cs
 
 abbrev pub decimalOf : List ℕ → Scanned
 decimalOf cs = cond (leb (decimalValue cs) 2147483647) (Good (Number (Int (pos (decimalValue cs))))) (Bad 5)
 
 abbrev pub isHex : ℕ → Bool
-isHex c = isDigit c || inside (byte "A") (byte "F") c || inside (byte "a") (byte "f") c
+isHex c = isDigit c || between (byte "A") (byte "F") c || between (byte "a") (byte "f") c
 
 abbrev pub hexDigit : ℕ → ℕ
 hexDigit c = cond (leb c (byte "9")) (c - byte "0") (cond (leb c (byte "F")) (c - (byte "A" - 10)) (c - (byte "a" - 10)))
@@ -51,7 +51,7 @@ realLiteral n k = ieee Div (promoted (pos n)) (promoted (pos (10 ^ k)))
 -- the digits before the dot and after it
 abbrev pub realOf : List ℕ → List ℕ → Scanned
 realOf whole part =
-    cond (digits whole && digits part)
+    cond (allDigits whole && allDigits part)
     (cond (leb (length whole + length part) 7) (Good (Number (Real (realLiteral (decimalValue (whole ++ part)) (length part))))) (Bad 5))
     (Bad 4)
 
@@ -66,6 +66,6 @@ notDot c = not (eqb c (byte "."))
 -- a run that starts with a digit
 abbrev pub numeralOf : List ℕ → Scanned
 numeralOf cs =
-    cond (digits cs) (decimalOf cs)
+    cond (allDigits cs) (decimalOf cs)
     (cond (isHexRun cs) (hexOf (drop 2 cs))
     (realOf (take (runLen notDot cs) cs) (drop (suc (runLen notDot cs)) cs)))

@@ -6,7 +6,7 @@ use Rattle.memory.specs.declared.names.Letter.{Letter}
 use Rattle.memory.specs.declared.names.Letter.the-variants as L
 use Rattle.memory.specs.declared.names.Named.{Named}
 use Rattle.memory.specs.declared.names.Named.the-variants as A
-use Rattle.memory.specs.Names.{bankOf, namedRule}
+use Rattle.memory.specs.Names.{letterBank, namedRule}
 use Rattle.tokens.specs.declared.Function.{Function}
 use Rattle.tokens.specs.declared.Function.the-variants.{Abs, ToReal, ToInt, Trunc, Round, Frac, Max, Min, If}
 use Rattle.tokens.specs.declared.Token.the-variants.{Cell, Letter as LetterToken, Name}
@@ -37,9 +37,9 @@ letterWord L.Other = Bad 6
 
 -- no function's name
 unfoldable pub otherWord : List ℕ → Scanned
-unfolding bankOf namedRule
+unfolding letterBank namedRule
 otherWord [] = Bad 6
-otherWord (c ∷ []) = letterWord (bankOf c)
+otherWord (c ∷ []) = letterWord (letterBank c)
 otherWord (c ∷ d ∷ cs) = cellWord (namedRule (c ∷ d ∷ cs))
 
 -- the function that has the name, among these

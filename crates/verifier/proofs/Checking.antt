@@ -17,7 +17,7 @@ use Rattle.verifier.specs.declared.packing.Held.{Held}
 use Rattle.verifier.specs.declared.Verdict.{Verdict}
 use Rattle.verifier.specs.declared.Verdict.the-variants.{Accepted, Refused}
 use Rattle.verifier.specs.Typing.{Shape, wellFormed}
-use Rattle.verifier.specs.Accepts.{instrAt, Accepts, Right}
+use Rattle.verifier.specs.Accepts.{instrAt, Accepts, CorrectVerdict}
 use Rattle.verifier.specs.private.Shapes.{State, rejected, unreached, holds, instrBy, kindsOf, none, ArrayHolds, tableOf, Table, Blank}
 use Rattle.verifier.specs.private.Pass.{verdictOf, Joins, takes, Steps, Skips}
 use Rattle.verifier.proofs.Pass.{unheld, unfailed, unarrived, Comes, Knows, Or, passes, refusal, passage, begins, joined, verdict-sound, verdict-complete}
@@ -44,31 +44,31 @@ module _ (code : List ℕ) (n : ℕ) where
   at : {p : ℕ} → p < n → instrAt (instructions code n) p ≡ decodeAt code p
   at {p} l = decode-at code 0 n p l ∙ ap (decodeAt code) (zero-add p)
 
-  refused : ((k : Kind) → Accepts (instructions code n) k → ⊥) → Right code n Refused
+  refused : ((k : Kind) → Accepts (instructions code n) k → ⊥) → CorrectVerdict code n Refused
   refused f = record { sound = λ k e. absurd (no k e); complete = λ k a. absurd (f k a) }
     where
       no : (k : Kind) → Refused ≡ Accepted k → ⊥
       no k e = let z : _≡_ {A = ℕ} 0 1 = cc in omega arith
 
   -- an instruction that does not stand
-  pub unknown : {p : ℕ} → p < n → wellFormed (n - suc p) (decodeAt code p) ≡ false → Right code n Refused
+  pub unknown : {p : ℕ} → p < n → wellFormed (n - suc p) (decodeAt code p) ≡ false → CorrectVerdict code n Refused
   unknown {p} l e = refused (λ k a. true≢false (sym (a .each p (omega (arith, size))) ∙ rw (size, at l) e))
 
   -- ---- the number of instructions
 
-  pub too-few : n ≡ 0 → Right code n Refused
+  pub too-few : n ≡ 0 → CorrectVerdict code n Refused
   too-few e = refused (λ k a. none (a .some))
     where
       none : 0 < length (instructions code n) → ⊥
       none l = omega (arith, size)
 
-  pub too-many : 2048 < n → Right code n Refused
+  pub too-many : 2048 < n → CorrectVerdict code n Refused
   too-many e = refused (λ k a. none (a .few))
     where
       none : length (instructions code n) ≤ 2048 → ⊥
       none l = omega (arith, size)
 
-  pub too-short : length code / 8 < n → Right code n Refused
+  pub too-short : length code / 8 < n → CorrectVerdict code n Refused
   too-short l = unknown l (rw (decode-beyond code (length code / 8) (omega arith)))
 
   -- ---- what is known
@@ -100,7 +100,7 @@ module _ (code : List ℕ) (n : ℕ) where
       let t′ : Steps (instrAt (instructions code n) p) (length (instructions code n) - suc p) (suc p) s before o after = rw (add-one p, here, left) at t in
       rw (add-one p) (stepped (instructions code n) p before (omega (arith, size)) k t′)
 
-  pub fails : {p : ℕ} {brought : ℕ → State} {o : State} → Came p brought o → o ≡ rejected → Right code n Refused
+  pub fails : {p : ℕ} {brought : ℕ → State} {o : State} → Came p brought o → o ≡ rejected → CorrectVerdict code n Refused
   fails w e = refused (refusal w e)
 
   -- what flows into p agrees with what jumps brought there, or not
@@ -111,19 +111,19 @@ module _ (code : List ℕ) (n : ℕ) where
     pub agreed : b ≡ true → Knows (instructions code n) p brought (holds s)
     agreed y = passage (met (ap (λ b. cond b (holds s) rejected) y)) (λ f. unfailed f)
 
-    pub disagreed : b ≡ false → Right code n Refused
+    pub disagreed : b ≡ false → CorrectVerdict code n Refused
     disagreed y = refused (refusal (met (ap (λ b. cond b (holds s) rejected) y)) refl)
 
   -- ---- the end, with what is known there
 
   ends-by : {brought : ℕ → State} {o : State} {v : Verdict} → 0 < n → n ≤ 2048 → Or (instructions code n) (Knows (instructions code n) (length (instructions code n)) brought) o
-      → v ≡ verdictOf o → Right code n v
+      → v ≡ verdictOf o → CorrectVerdict code n v
   ends-by some few w is = record {
     sound = λ k f. verdict-sound (omega (arith, size)) (omega (arith, size)) w k (sym is ∙ f);
     complete = λ k a. is ∙ verdict-complete w k a;
   }
 
-  pub ends : {p : ℕ} {brought : ℕ → State} {s : Shape} {v : Verdict} → 0 < n → n ≤ 2048 → p ≡ n → Knows (instructions code n) p brought (holds s) → v ≡ verdictOf (holds s) → Right code n v
+  pub ends : {p : ℕ} {brought : ℕ → State} {s : Shape} {v : Verdict} → 0 < n → n ≤ 2048 → p ≡ n → Knows (instructions code n) p brought (holds s) → v ≡ verdictOf (holds s) → CorrectVerdict code n v
   ends {p} {brought} {s} some few e k is = ends-by some few (passes (λ f. unfailed f) (rw (e ∙ sym size) at k)) is
 
   -- ---- nothing flows into p, and r is the next place that jumps come to, or one that they do not
@@ -145,10 +145,10 @@ module _ (code : List ℕ) (n : ℕ) where
     pub landed : {s : Shape} → holds s ≡ brought r → Knows (instructions code n) r brought (holds s)
     landed f = passage (joined (sym f) (passes unarrived skipped) takes) (λ g. unfailed g)
 
-    pub lost : 0 < n → n ≤ 2048 → getD tops r 0 ≡ 0 → Right code n Refused
+    pub lost : 0 < n → n ≤ 2048 → getD tops r 0 ≡ 0 → CorrectVerdict code n Refused
     lost some few z = go (ltb r n) refl
       where
-        go : (b : Bool) → ltb r n ≡ b → Right code n Refused
+        go : (b : Bool) → ltb r n ≡ b → CorrectVerdict code n Refused
         go true l = unknown (ltb-true r n l) (k .last z (ltb-true r n l))
         go false l =
             let q : r ≡ length (instructions code n) = omega (arith, size, k .way .within, ltb-false r n l) in

@@ -15,7 +15,7 @@ use Rattle.code.specs.Instructions.{instructions}
 use Rattle.verifier.specs.declared.Verdict.{Verdict}
 use Rattle.verifier.specs.declared.Verdict.the-variants.{Accepted, Refused}
 use Rattle.verifier.specs.Typing.{Shape, Move, illTyped, next, jump, fork, moveOf, wellFormed}
-use Rattle.verifier.specs.Accepts.{MovesTo, next-place, jump-target, not-taken, taken, instrAt, Reached, start, onward, Accepts, Right}
+use Rattle.verifier.specs.Accepts.{MovesTo, next-place, jump-target, not-taken, taken, instrAt, Reached, start, onward, Accepts, CorrectVerdict}
 use Rattle.verifier.specs.Verdicts.{State, rejected, unreached, holds, States, sameShape, joinState, joinAt, propagate, transfer, dataflow, entryStates}
 use Rattle.verifier.specs.Verdicts.{verdictOf, verdict, VerdictLaws}
 use Rattle.verifier.specs.private.Pass.{Agrees}
@@ -359,7 +359,7 @@ sound (i ∷ left) k e = go (leb (length (i ∷ left)) 2048) refl e
 complete : (c : List Instr) (k : Kind) → Accepts c k → verdict c ≡ Accepted k
 complete c k a = rw (le-leb (length c) 2048 (a .few)) (verdict-complete (judged c) k a)
 
-determined : (code : List ℕ) (n : ℕ) (v : Verdict) → Right code n v → v ≡ verdict (instructions code n)
+determined : (code : List ℕ) (n : ℕ) (v : Verdict) → CorrectVerdict code n v → v ≡ verdict (instructions code n)
 determined code n (Accepted k) r = sym (complete (instructions code n) k (r .sound k refl))
 determined code n Refused r = go (verdict (instructions code n)) refl
   where

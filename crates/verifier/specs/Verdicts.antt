@@ -14,7 +14,7 @@ use Rattle.code.specs.Instructions.{instructions}
 use Rattle.verifier.specs.declared.Verdict.{Verdict}
 use Rattle.verifier.specs.declared.Verdict.the-variants.{Accepted, Refused}
 use Rattle.verifier.specs.Typing.{Shape, Move, illTyped, next, jump, fork, moveOf, wellFormed}
-use Rattle.verifier.specs.Accepts.{Accepts, Right}
+use Rattle.verifier.specs.Accepts.{Accepts, CorrectVerdict}
 
 -- what is known of a place: the code is not accepted; the place is not reached as yet; it is reached with these kinds
 pub data State : Type 0 where
@@ -80,4 +80,4 @@ pub record VerdictLaws : Type 0 where
   -- the kind at the end is the only one
   pub unique : (c : List Instr) (j k : Kind) → Accepts c j → Accepts c k → j ≡ k
   -- the check's contract is an equation
-  pub determined : (code : List ℕ) (n : ℕ) (v : Verdict) → Right code n v → v ≡ verdict (instructions code n)
+  pub determined : (code : List ℕ) (n : ℕ) (v : Verdict) → CorrectVerdict code n v → v ≡ verdict (instructions code n)

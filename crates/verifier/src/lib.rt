@@ -6,7 +6,7 @@ ghost use mathlib.Core.List.{List};
 ghost use lib.ListN.{length, getD};
 ghost use Rattle.code.specs.declared.Instr.the-variants.{JumpIf};
 ghost use Rattle.code.specs.Instructions.{alone};
-ghost use Rattle.verifier.specs.Accepts.{Right};
+ghost use Rattle.verifier.specs.Accepts.{CorrectVerdict};
 ghost use Rattle.verifier.specs.private.Shapes.{rejected, holds, kindsOf, operandOf, wordOf, instrOf, instrBy, Canonical, ArrayHolds, stateOf, tableOf, Table, Blank};
 ghost use Rattle.verifier.specs.private.Pass.{Joins, Merges, Steps, Skips, verdictOf};
 
@@ -201,7 +201,7 @@ fn ended(held: Held, kinds: &[u8; 128]) -> Verdict
 fn checked(code: &[u8], n: usize, tops: &mut [u8], lows: &mut [u64], highs: &mut [u64]) -> Verdict
     requires { ⌜ (0 < n) × (n ≤ 2048) ⌝ }
     requires { ⌜ Blank n (now tops) (now lows) (now highs) ⌝ }
-    ensures { λ r. ⌜ Right (now (code .entry)) n r ⌝ }
+    ensures { λ r. ⌜ CorrectVerdict (now (code .entry)) n r ⌝ }
 {
     if code.len() / 8 < n {
         return Verdict::Refused;
@@ -240,7 +240,7 @@ fn checked(code: &[u8], n: usize, tops: &mut [u8], lows: &mut [u64], highs: &mut
 
 // The first n instructions of the code. Short code gets short tables, since clearing long ones would take longer than the pass.
 pub fn check(code: &[u8], n: usize) -> Verdict
-    ensures { λ r. ⌜ Right (now (code .entry)) n r ⌝ }
+    ensures { λ r. ⌜ CorrectVerdict (now (code .entry)) n r ⌝ }
 {
     if n == 0 {
         return Verdict::Refused;

@@ -2,7 +2,7 @@
 ghost use mathlib.Core.Path.{_≡_};
 ghost use mathlib.Core.List.{[], _∷_};
 ghost use Prim.Native.Nat.{_/_, _%_};
-ghost use Rattle.words.specs.Words.{little};
+ghost use Rattle.words.specs.Words.{littleEndian};
 
 fn wide(b: u8) -> u32
     ensures { λ r. ⌜ r ≡ b ⌝ }
@@ -12,13 +12,13 @@ fn wide(b: u8) -> u32
 
 // The number of two bytes, and of four, the least first.
 pub fn word16(a: u8, b: u8) -> u32
-    ensures { λ r. ⌜ r ≡ little (a ∷ b ∷ []) ⌝ }
+    ensures { λ r. ⌜ r ≡ littleEndian (a ∷ b ∷ []) ⌝ }
 {
     wide(a) + 256 * wide(b)
 }
 
 pub fn word32(a: u8, b: u8, c: u8, d: u8) -> u32
-    ensures { λ r. ⌜ r ≡ little (a ∷ b ∷ c ∷ d ∷ []) ⌝ }
+    ensures { λ r. ⌜ r ≡ littleEndian (a ∷ b ∷ c ∷ d ∷ []) ⌝ }
 {
     word16(a, b) + 65536 * word16(c, d)
 }

@@ -5,13 +5,13 @@ use mathlib.Core.List.{List}
 use Prim.Native.Nat.{ℕ, _*_, _/_, _%_, _^_}
 use lib.Dec.{ltb}
 use lib.ListN.{length}
-use Rattle.words.specs.Words.{little}
+use Rattle.words.specs.Words.{littleEndian}
 use Rattle.code.specs.declared.Instr.{Instr}
 use Rattle.code.specs.Instructions.{alone, instruction, bytesFrom}
 
 -- 0 where the code has no such place
 unfoldable pub fetched : List ℕ → ℕ → ℕ
-fetched s p = cond (ltb p (length s / 8)) (little (bytesFrom 8 (8 * p) s)) 0
+fetched s p = cond (ltb p (length s / 8)) (littleEndian (bytesFrom 8 (8 * p) s)) 0
 
 -- opcode, operand, two bytes of 0 and word, from the lowest byte on
 abbrev pub instructionOf : ℕ → Instr

@@ -18,7 +18,7 @@ use Rattle.token_table.proofs.Laws.{tok}
 use Rattle.text.specs.Judge.{placeOf, judgeParse}
 use Rattle.compiler.specs.declared.Coded.the-variants as Coded
 use Rattle.tree_code.specs.Code.{codeOf}
-use Rattle.compiler.specs.Compile.{encoded}
+use Rattle.compiler.specs.Compile.{encodeAll}
 use Rattle.compiler.specs.private.Results.{Read, Done, Bad, Deep, isDone, refusal, placed, readNext, readEnd, readKind, readWrong, readOf}
 use Rattle.compiler.specs.private.Words.{placeAt}
 use Rattle.compiler.specs.private.Draft.{wordBytes}
@@ -61,7 +61,7 @@ module _ (s code : List ℕ) where
   unfolding judgeParse
   told-wrong u e d = rw (e, d) (refl, refl)
 
-  told-done : {n : ℕ} {code′ : List ℕ} (u : Tree) {z : List Tok} → z ≡ [] → wrongKind u ≡ nowhere → n ≡ length (codeOf u) → code′ ≡ sets code 0 (encoded (codeOf u)) → Told code (judgeParse s (ok u z)) (Coded.Done n) code′
+  told-done : {n : ℕ} {code′ : List ℕ} (u : Tree) {z : List Tok} → z ≡ [] → wrongKind u ≡ nowhere → n ≡ length (codeOf u) → code′ ≡ sets code 0 (encodeAll (codeOf u)) → Told code (judgeParse s (ok u z)) (Coded.Done n) code′
   unfolding judgeParse
   told-done u e d l c = rw (e, d) (ap Coded.Done l, c)
 

@@ -12,7 +12,7 @@ use Rattle.reals.proofs.Laws.{real-laws}
 use Rattle.values.specs.declared.Value.the-variants.{Real}
 use Rattle.values.specs.declared.Fault.the-variants.{OutOfRange}
 use Rattle.values.specs.declared.Outcome.the-variants.{Done, Stopped}
-use Rattle.memory.specs.Cells.{finiteOr13, realCell}
+use Rattle.memory.specs.Cells.{finiteOrFault, realCell}
 
 -- the exponent's field, as the code finds it
 abbrev pub exponent : ℕ → ℕ
@@ -22,7 +22,7 @@ field : (n : ℕ) → n % 2147483648 / 8388608 ≡ exponent n
 field n = omega arith
 
 -- ---- all ones
-no-single : (x : Float) → (T (finite x) → ⊥) → finiteOr13 x ≡ Stopped OutOfRange
+no-single : (x : Float) → (T (finite x) → ⊥) → finiteOrFault x ≡ Stopped OutOfRange
 no-single nan h = refl
 no-single (inf s) h = refl
 no-single (fin s m e) h = absurd (h tt)
@@ -34,7 +34,7 @@ infinite-cell n h = no-single (ofBits binary32 n) (real-laws .decode-special n (
 pub single-cell : (n : ℕ) → (exponent n ≡ 255 → ⊥) → Single (ofBits binary32 n)
 single-cell n h = let e : n % 2147483648 / 8388608 < 255 = omega arith in real-laws .pattern n e .single
 
-pub single-reads : (x : Float) → T (finite x) → finiteOr13 x ≡ Done (Real x)
+pub single-reads : (x : Float) → T (finite x) → finiteOrFault x ≡ Done (Real x)
 single-reads nan h = absurd h
 single-reads (inf s) h = absurd h
 single-reads (fin s m e) h = refl

@@ -14,7 +14,7 @@ use Rattle.memory.specs.declared.names.Letter.the-variants as L
 use Rattle.memory.specs.declared.names.Element.the-variants as E
 use Rattle.memory.specs.declared.names.Named.the-variants as A
 use Rattle.memory.specs.Layout.{layoutOf}
-use Rattle.memory.specs.Names.{bankOf, allDigits, noLeadingZero, decimalValue, numberBelow, elementRule, cellAfterLetter, namedRule}
+use Rattle.memory.specs.Names.{letterBank, allDigits, noLeadingZero, decimalValue, numberBelow, elementRule, cellAfterLetter, namedRule}
 
 few : (b : Bank) → layoutOf b .elements ≤ 256
 few X = lit≤ tt
@@ -30,7 +30,7 @@ unfolding namedRule
 empty [] h = refl
 empty (c ∷ cs) h = absurd (omega arith)
 
-pub named : (w : List ℕ) {l : Letter} → 0 < length w → l ≡ bankOf (getD w 0 0) → namedRule w ≡ cellAfterLetter (drop 1 w) l
+pub named : (w : List ℕ) {l : Letter} → 0 < length w → l ≡ letterBank (getD w 0 0) → namedRule w ≡ cellAfterLetter (drop 1 w) l
 unfolding namedRule
 named [] h e = absurd (omega arith)
 named (c ∷ cs) h e = ap (cellAfterLetter cs) (sym e)

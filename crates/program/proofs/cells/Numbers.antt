@@ -8,7 +8,7 @@ use native.Mathlib.Omega.{arith}
 use lib.Dec.{lit<, lit≤}
 use lib.ListN.{length, getD, take, drop, set, length-take, length-drop}
 use lib.Seq.{drop-cons, drop-length, getD-drop}
-use Rattle.words.specs.Words.{little, bytesOf}
+use Rattle.words.specs.Words.{littleEndian, bytesOf}
 use Rattle.words.specs.Laws.{Bytes}
 use Rattle.words.proofs.Laws.{word-laws}
 use Rattle.memory.specs.declared.Bank.{Bank}
@@ -18,21 +18,21 @@ use Rattle.memory.specs.Layout.{layoutOf, cellAt}
 use Rattle.memory.specs.Cells.{bytesAt}
 use Rattle.lines.proofs.Stores.{Left, first, done}
 
-pub none : (s : List ℕ) → 0 ≡ little (drop (length s) s)
+pub none : (s : List ℕ) → 0 ≡ littleEndian (drop (length s) s)
 none s = rw drop-length
 
-pub more : (s : List ℕ) (n k : ℕ) → n ≡ little (drop k s) → 0 < k → k ≤ length s → getD s (k - 1) 0 + 256 * n ≡ little (drop (k - 1) s)
+pub more : (s : List ℕ) (n k : ℕ) → n ≡ littleEndian (drop k s) → 0 < k → k ≤ length s → getD s (k - 1) 0 + 256 * n ≡ littleEndian (drop (k - 1) s)
 more s n k e p h =
     let back : k ≡ suc (k - 1) = omega arith in
-    let rest : n ≡ little (drop (suc (k - 1)) s) = e ∙ ap (λ (j : ℕ). little (drop j s)) back in
+    let rest : n ≡ littleEndian (drop (suc (k - 1)) s) = e ∙ ap (λ (j : ℕ). littleEndian (drop j s)) back in
     rw (drop-cons s (k - 1) 0 (omega arith)) (omega arith)
 
-pub all-of : (s : List ℕ) (n k : ℕ) → n ≡ little (drop k s) → k ≤ 0 → n ≡ little s
+pub all-of : (s : List ℕ) (n k : ℕ) → n ≡ littleEndian (drop k s) → k ≤ 0 → n ≡ littleEndian s
 all-of s n zero e h = e
 all-of s n (suc k) e h = absurd (omega arith)
 
 -- three bytes make a number below 2 ^ 24
-pub small : (s : List ℕ) (n k : ℕ) → Bytes s → length s ≤ 4 → n ≡ little (drop k s) → 0 < k → n < 16777216
+pub small : (s : List ℕ) (n k : ℕ) → Bytes s → length s ≤ 4 → n ≡ littleEndian (drop k s) → 0 < k → n < 16777216
 small s n k b h e p =
     let later : Bytes (drop k s) = λ j. rw (getD-drop k s j 0) (b (k + j)) in
     let long : length (drop k s) ≤ 3 = rw length-drop (omega arith) in

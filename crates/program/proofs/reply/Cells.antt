@@ -5,7 +5,7 @@ use Prim.Native.Nat.{ℕ, _-_, _^_, _≤_, _<_}
 use native.Mathlib.Omega.{arith}
 use lib.Dec.{T, lit≤}
 use lib.ListN.{length}
-use Rattle.words.specs.Words.{little}
+use Rattle.words.specs.Words.{littleEndian}
 use Rattle.words.specs.Laws.{Bytes}
 use Rattle.words.proofs.Laws.{word-laws}
 use Rattle.memory.specs.declared.Bank.{Bank}
@@ -27,7 +27,7 @@ module _ (m : List ℕ) (b : Bank) (i : ℕ) (h : T (hasCell m b i)) where
   pub element-small : i < 1000
   element-small = omega (arith, has-element m b i h, few b)
 
-  pub pattern-small : Bytes m → little (bytesAt m b i) < 256 ^ layoutOf b .width
+  pub pattern-small : Bytes m → littleEndian (bytesAt m b i) < 256 ^ layoutOf b .width
   pattern-small g =
       let w = layoutOf b .width in
       let long : length (bytesAt m b i) ≡ w = run-length m (cellAt b i) w (cell-within m b i h) in

@@ -7,13 +7,13 @@ use native.Mathlib.Omega.{arith}
 use lib.ListN.{length, take}
 use Rattle.memory.proofs.Runs.{run-written}
 use Rattle.operations.specs.declared.Answer.{Answer}
-use Rattle.operations.specs.Operations.{request, performed, performedMemory}
+use Rattle.operations.specs.Operations.{request, requestAnswer, requestMemory}
 use Rattle.program.specs.Cases.{Case, zeros}
 use Rattle.lines.specs.private.Steps.{Puts}
 use Rattle.program.specs.Reply.{answerText, replyTo}
 
-pub text : (s : Case) {code m : List ℕ} {a : Answer} → code ≡ zeros 16384 → a ≡ performed (s .memory) (request (s .target) (s .text) (s .memory) code)
-    → m ≡ performedMemory (s .memory) (request (s .target) (s .text) (s .memory) code) → answerText (s .target) m a ≡ replyTo s
+pub text : (s : Case) {code m : List ℕ} {a : Answer} → code ≡ zeros 16384 → a ≡ requestAnswer (s .memory) (request (s .target) (s .text) (s .memory) code)
+    → m ≡ requestMemory (s .memory) (request (s .target) (s .text) (s .memory) code) → answerText (s .target) m a ≡ replyTo s
 text s c f g = rw (f, g, c)
 
 -- a text that was put at the front is what stands there

@@ -16,8 +16,8 @@ use Rattle.memory.specs.Names.{namedRule, targetRule}
 use Rattle.tokens.specs.Bytes.{runLen}
 use Rattle.tokens.specs.Symbols.{equalBytes}
 use Rattle.text.specs.Judge.{refused, judge}
-use Rattle.operations.specs.Operations.{reportOf, Request, stops, ofText, ofTarget, performed, performedMemory}
-use Rattle.lines.specs.Forms.{patternOf}
+use Rattle.operations.specs.Operations.{reportOf, Request, stops, ofText, ofTarget, requestAnswer, requestMemory}
+use Rattle.lines.specs.Forms.{cellPattern}
 use Rattle.lines.specs.Lines.{except, keyLength}
 use Rattle.program.specs.Cases.{Case, putForm, setCell, targetKey, exprKey, keyed, afterLine, zeros}
 use Rattle.program.specs.Reply.{reportText, storedText, replyTo}
@@ -41,7 +41,7 @@ of-target a b e (Cell c i) = ap (ofText (zeros 16384) c i) e
 of-target a b e Other = refl
 
 abbrev printed : List ℕ → Named → Request → List ℕ
-printed m n q = reportText (reportOf (performed m q)) ++ storedText (performedMemory m q) n (performed m q)
+printed m n q = reportText (reportOf (requestAnswer m q)) ++ storedText (requestMemory m q) n (requestAnswer m q)
 
 abbrev guarded : List ℕ → Request → Request
 guarded m q = cond (eqb (length m) imageSize) (cond (ltb (length (zeros 16384)) 16384) (stops 10 0) q) (stops 1 0)
@@ -111,11 +111,11 @@ either false f g = g refl
 record Like (key v w : List ℕ) : Type 0 where
   target : equalBytes key targetKey ≡ true → targetRule v ≡ targetRule w
   text : equalBytes key exprKey ≡ true → judge v ≡ judge w
-  form : (b : Bank) {i : ℕ} → namedRule key ≡ Cell b i → patternOf b v ≡ patternOf b w
+  form : (b : Bank) {i : ℕ} → namedRule key ≡ Cell b i → cellPattern b v ≡ cellPattern b w
 
 module _ (s t : Case) (a : Agrees s t) where
   set-cell : (key v w : List ℕ) → Like key v w → (n : Named) → namedRule key ≡ n → setCell (s .memory) v n ≡ setCell (t .memory) w n
-  set-cell key v w k (Cell b i) e = ap (λ (m : List ℕ). putForm m b i (patternOf b v)) (a .memory) ∙ ap (putForm (t .memory) b i) (k .form b e)
+  set-cell key v w k (Cell b i) e = ap (λ (m : List ℕ). putForm m b i (cellPattern b v)) (a .memory) ∙ ap (putForm (t .memory) b i) (k .form b e)
   set-cell key v w k Other e = a .memory
 
   line : (key v w : List ℕ) → Like key v w → Agrees (keyed s key v) (keyed t key w)

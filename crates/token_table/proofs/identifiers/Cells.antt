@@ -12,7 +12,7 @@ use borrow.Author.Tests.{lt-ltb, ne-eqb, eqb-true, eqb-false}
 use Rattle.memory.specs.declared.Bank.{Bank}
 use Rattle.memory.specs.declared.names.Letter.the-variants.{Of}
 use Rattle.memory.specs.Layout.{layoutOf}
-use Rattle.memory.specs.Names.{isDigit, allDigits, noLeadingZero, decimalFrom, decimalValue, bankOf, namedRule}
+use Rattle.memory.specs.Names.{isDigit, allDigits, noLeadingZero, decimalFrom, decimalValue, letterBank, namedRule}
 use Rattle.memory.specs.Numbers.{bankNumber}
 use Rattle.memory.proofs.names.Decimals.{digit-range, single, no-zero}
 use Rattle.tokens.specs.declared.Token.the-variants.{Cell}
@@ -38,7 +38,7 @@ each-digit : (s : List ℕ) → all isDigit s ≡ true → allDigits s ≡ true
 each-digit [] e = refl
 each-digit (c ∷ cs) e = let h = both (isDigit c) (all isDigit cs) e in rw (h .0) (each-digit cs (h .1))
 
-cell-is : (c d : ℕ) (s : List ℕ) (b : Bank) (v : ℕ) → bankOf c ≡ Of b → isDigit d ≡ true → all isDigit s ≡ true → noLeadingZero (d ∷ s) ≡ true → v ≡ decimalFrom (d - 48) s → v < layoutOf b .elements → wordToken (c ∷ d ∷ s) ≡ Good (Cell b v)
+cell-is : (c d : ℕ) (s : List ℕ) (b : Bank) (v : ℕ) → letterBank c ≡ Of b → isDigit d ≡ true → all isDigit s ≡ true → noLeadingZero (d ∷ s) ≡ true → v ≡ decimalFrom (d - 48) s → v < layoutOf b .elements → wordToken (c ∷ d ∷ s) ≡ Good (Cell b v)
 unfolding wordToken otherWord namedRule
 cell-is c d s b v q e f p m l =
     let n : 0 * 10 + (d - 48) ≡ d - 48 = omega arith in
@@ -49,7 +49,7 @@ pub digit-inside : (s : List ℕ) (at : ℕ) {d : ℕ} → d ≡ getD s (at + 1)
 digit-inside s at {d} q e =
     let h = digit-range d e in omega (arith, inside s (at + 1) d q (omega arith))
 
-module _ {s : List ℕ} {d v e x : ℕ} (at : ℕ) (b : Bank) (letter : isLetter (getD s at 0) ≡ true) (bank : bankOf (getD s at 0) ≡ Of b) (next : d ≡ getD s (at + 1) 0) (digit : isDigit d ≡ true) (r : DigitsAt s (at + 2) (d - 48) v e x) where
+module _ {s : List ℕ} {d v e x : ℕ} (at : ℕ) (b : Bank) (letter : isLetter (getD s at 0) ≡ true) (bank : letterBank (getD s at 0) ≡ Of b) (next : d ≡ getD s (at + 1) 0) (digit : isDigit d ≡ true) (r : DigitsAt s (at + 2) (d - 48) v e x) where
   -- a leading zero stands alone
   first : (d ≡ 48 → e ≡ at + 2) → noLeadingZero (d ∷ r .run) ≡ true
   first z = by-test (eqb d 48) (λ t. single (d ∷ r .run) (omega (arith, z (eqb-true d 48 t), r .ends))) (λ t. no-zero (d ∷ r .run) (omega arith) (eqb-false d 48 t))

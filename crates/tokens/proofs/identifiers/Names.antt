@@ -5,7 +5,7 @@ use mathlib.Core.List.{List, [], _∷_}
 use Prim.Native.Nat.{ℕ}
 use native.Mathlib.Omega.{arith}
 use lib.ListN.{length, getD}
-use Rattle.memory.specs.Names.{bankOf, namedRule}
+use Rattle.memory.specs.Names.{letterBank, namedRule}
 use Rattle.tokens.specs.declared.Function.{Function}
 use Rattle.tokens.specs.declared.Token.the-variants.{Name}
 use Rattle.tokens.specs.declared.Scanned.the-variants.{Good}
@@ -30,7 +30,7 @@ module _ {f : Function} {fs : List Function} {s : List ℕ} (l : Left (f ∷ fs)
 pub none-left : {s : List ℕ} → Left [] s → otherWord s ≡ wordToken s
 none-left l = sym (l .rest)
 
-pub one : (s : List ℕ) → length s ≡ 1 → otherWord s ≡ letterWord (bankOf (getD s 0 0))
+pub one : (s : List ℕ) → length s ≡ 1 → otherWord s ≡ letterWord (letterBank (getD s 0 0))
 unfolding otherWord
 one [] e = absurd (omega arith)
 one (c ∷ []) e = refl

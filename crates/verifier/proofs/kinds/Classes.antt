@@ -17,7 +17,7 @@ use Rattle.operators.specs.Kinds.{isInt, join}
 use Rattle.operators.specs.Tables.{unaryOf, binaryOf}
 use Rattle.memory.specs.declared.Bank.the-variants.{X}
 use Rattle.memory.specs.Layout.{layoutOf}
-use Rattle.memory.specs.Cells.{bankKind, finiteOr13}
+use Rattle.memory.specs.Cells.{bankKind, finiteOrFault}
 use Rattle.memory.specs.Numbers.{banks, bankNumbered}
 use Rattle.memory.proofs.cells.Exponents.{exponent, single-cell, infinite-cell}
 use Rattle.code.specs.declared.Instr.{Instr}
@@ -111,7 +111,7 @@ module _ (a d : ℕ) where
   unfolding instruction
   real-infinite e h = gives-none (rw e (left (ofBits binary32 d) (infinite-cell d h)))
     where
-      left : (x : Float) → finiteOr13 x ≡ Stopped OutOfRange → finiteOnly x ≡ Unknown
+      left : (x : Float) → finiteOrFault x ≡ Stopped OutOfRange → finiteOnly x ≡ Unknown
       left nan q = refl
       left (inf s) q = refl
       left (fin s m e) q = cc

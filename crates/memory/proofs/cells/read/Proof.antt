@@ -8,7 +8,7 @@ use lib.Ieee.Bits.{is-true}
 use lib.ListN.{length, getD, take, drop}
 use borrow.Author.Needs.{needs}
 use borrow.Author.Tests.{not-true, not-false}
-use Rattle.words.specs.Words.{little}
+use Rattle.words.specs.Words.{littleEndian}
 use Rattle.values.specs.declared.Outcome.{Outcome}
 use Rattle.memory.specs.declared.Bank.{Bank}
 use Rattle.memory.specs.declared.Bank.the-variants.{X, C, «V», N, D, R}
@@ -22,7 +22,7 @@ use Rattle.memory.proofs.cells.read.Tie as tie
 
 -- the rule at the bank a, with the place from a row
 read-row : (s : List ℕ) (b a : Bank) (i : ℕ) (row : Layout) {n : ℕ} {r : Outcome} → row ≡ layoutOf b → b ≡ a → T (hasCell s b i)
-    → n ≡ little (take (layoutOf a .width) (drop (row .place + i * row .width) s)) → r ≡ cellValue a n → r ≡ readRule s b i
+    → n ≡ littleEndian (take (layoutOf a .width) (drop (row .place + i * row .width) s)) → r ≡ cellValue a n → r ≡ readRule s b i
 read-row s b a i row w e h m v = rw (is-true (hasCell s b i) h) (cc)
 
 -- ---- once the row is known
@@ -45,11 +45,11 @@ module _ (c : tie.After-layout-of) where
   reach : (a : Bank) → bank ≡ a → at + layoutOf a .width ≤ length image
   reach a e = row-within image bank a element (c .layout-of .result) (c .layout-of .ensures) e has
 
-  reads : (a : Bank) {n : ℕ} {r : Outcome} → bank ≡ a → n ≡ little (take (layoutOf a .width) (drop at image)) → r ≡ cellValue a n → r ≡ readRule image bank element
+  reads : (a : Bank) {n : ℕ} {r : Outcome} → bank ≡ a → n ≡ littleEndian (take (layoutOf a .width) (drop at image)) → r ≡ cellValue a n → r ≡ readRule image bank element
   reads a e m v = read-row image bank a element (c .layout-of .result) (c .layout-of .ensures) e has m v
 
 -- a byte is the number of a run of one
-first-byte : (s : List ℕ) (at : ℕ) → at + 1 ≤ length s → getD s at 0 ≡ little (take 1 (drop at s))
+first-byte : (s : List ℕ) (at : ℕ) → at + 1 ≤ length s → getD s at 0 ≡ littleEndian (take 1 (drop at s))
 first-byte s at h = rw (run-is s at 1 h) (omega arith)
 
 has-cell-requires : tie.Need-has-cell-requires

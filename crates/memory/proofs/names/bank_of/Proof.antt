@@ -1,35 +1,35 @@
 -- `memory::names::bank_of` meets its contract: six letters, and any other byte is no bank's.
 use borrow.Author.Tests.{ne-eqb}
-use Rattle.memory.specs.Names.{bankOf}
+use Rattle.memory.specs.Names.{letterBank}
 use Rattle.memory.proofs.names.bank_of.Statement.{statement}
 use Rattle.memory.proofs.names.bank_of.Tie as tie
 
 returns : tie.Need-returns
-unfolding bankOf
+unfolding letterBank
 returns c = rw (c .match .keys1)
 
 returns-2 : tie.Need-returns-2
-unfolding bankOf
+unfolding letterBank
 returns-2 c = rw (c .match .keys2)
 
 returns-3 : tie.Need-returns-3
-unfolding bankOf
+unfolding letterBank
 returns-3 c = rw (c .match .keys3)
 
 returns-4 : tie.Need-returns-4
-unfolding bankOf
+unfolding letterBank
 returns-4 c = rw (c .match .keys4)
 
 returns-5 : tie.Need-returns-5
-unfolding bankOf
+unfolding letterBank
 returns-5 c = rw (c .match .keys5)
 
 returns-6 : tie.Need-returns-6
-unfolding bankOf
+unfolding letterBank
 returns-6 c = rw (c .match .keys6)
 
 returns-7 : tie.Need-returns-7
-unfolding bankOf
+unfolding letterBank
 returns-7 c =
     let b = c .before .args .letter in
     let no = c .match .rest in

@@ -4,14 +4,14 @@ use Prim.Native.Nat.{_-_, _≤_, _<_}
 use native.Mathlib.Omega.{arith}
 use lib.ListN.{length, drop}
 use borrow.Author.Needs.{needs}
-use Rattle.words.specs.Words.{little}
+use Rattle.words.specs.Words.{littleEndian}
 use Rattle.words.specs.Laws.{Bytes}
 use Rattle.program.proofs.cells.Numbers.{none, more, small, all-of}
 use Rattle.program.proofs.cells.number_of.Statement.{statement}
 use Rattle.program.proofs.cells.number_of.Tie as tie
 
 abbrev Inv-loop : tie.InvT-loop
-Inv-loop bytes n₀ k₀ n k = (k ≤ length bytes) × (n ≡ little (drop k bytes))
+Inv-loop bytes n₀ k₀ n k = (k ≤ length bytes) × (n ≡ littleEndian (drop k bytes))
 
 abbrev μ-loop : tie.MeasureT-loop
 μ-loop bytes n₀ k₀ n k = k

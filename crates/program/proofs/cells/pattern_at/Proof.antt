@@ -4,7 +4,7 @@ use Prim.Native.Nat.{_+_, _≤_}
 use native.Mathlib.Omega.{arith}
 use lib.ListN.{length}
 use borrow.Author.Needs.{needs}
-use Rattle.words.specs.Words.{little}
+use Rattle.words.specs.Words.{littleEndian}
 use Rattle.memory.proofs.Places.{has-element, cell-within}
 use Rattle.program.proofs.cells.Numbers.{part-length, part-is}
 use Rattle.program.proofs.cells.pattern_at.Statement.{statement}
@@ -42,7 +42,7 @@ number-of-requires c κs =
 returns : tie.Need-returns
 returns c =
     let a = c .before .before .before .before .before .before .args in
-    c .number-of .ensures ∙ ap little (part-is (a .memory .now) (a .bank) (a .element) (c .before .before .before .before .place-of .ensures) (c .before .before .before .layout-of .ensures))
+    c .number-of .ensures ∙ ap littleEndian (part-is (a .memory .now) (a .bank) (a .element) (c .before .before .before .before .place-of .ensures) (c .before .before .before .layout-of .ensures))
 
 pub pattern-at-spec : {M : Type 1} → statement M
 pattern-at-spec =
