@@ -19,7 +19,7 @@ use Rattle.tokens.specs.declared.Scanned.{Scanned}
 use Rattle.tokens.specs.declared.Scanned.the-variants.{Good, Bad}
 use Rattle.tokens.specs.Bytes.{all, isLetter, isWord, isRun, runLen}
 use Rattle.tokens.specs.Symbols.{equalBytes, symbolCount, longest}
-use Rattle.tokens.specs.Numerals.{nonEmpty, allDigits, isHex, hexOf, isHexRun, notDot, realOf, numeralOf}
+use Rattle.tokens.specs.Numerals.{nonEmpty, decimalDigits, isHex, hexOf, isHexRun, notDot, realOf, numeralOf}
 use Rattle.tokens.specs.Words.{nameOf, functionNamed, functions, letterWord, cellWord, otherWord, wordToken}
 use Rattle.tokens.specs.Scan.{Lexeme, Found, Wrong, End, lexeme, runLexeme, lexemeOf, blanks, lexemeAt}
 use Rattle.tokens.proofs.Laws.{found}
@@ -57,11 +57,11 @@ module _ (n : ℕ) where
   a-hex cs = either (nonEmpty cs && all isHex cs) (either (leb (length cs) 8) a-number bad) bad
 
   a-real : (cs ds : List ℕ) → Room n (realOf cs ds)
-  a-real cs ds = either (allDigits cs && allDigits ds) (either (leb (length cs + length ds) 7) a-number bad) bad
+  a-real cs ds = either (decimalDigits cs && decimalDigits ds) (either (leb (length cs + length ds) 7) a-number bad) bad
 
   a-numeral : (cs : List ℕ) → Room n (numeralOf cs)
   a-numeral cs =
-      either (allDigits cs) (either (leb (decimalValue cs) 2147483647) a-number bad)
+      either (decimalDigits cs) (either (leb (decimalValue cs) 2147483647) a-number bad)
       (either (isHexRun cs) (a-hex (drop 2 cs)) (a-real (take (runLen notDot cs) cs) (drop (suc (runLen notDot cs)) cs)))
 
   -- ---- words

@@ -21,7 +21,7 @@ use Rattle.tokens.specs.declared.Scanned.{Scanned}
 use Rattle.tokens.specs.declared.Scanned.the-variants.{Good, Bad}
 use Rattle.tokens.specs.Bytes.{all, isLetter, isWord, isRun, runLen}
 use Rattle.tokens.specs.Symbols.{equalBytes, symbolCount, longest}
-use Rattle.tokens.specs.Numerals.{nonEmpty, allDigits, isHex, isHexRun, hexOf, notDot, realOf, numeralOf}
+use Rattle.tokens.specs.Numerals.{nonEmpty, decimalDigits, isHex, isHexRun, hexOf, notDot, realOf, numeralOf}
 use Rattle.tokens.specs.Words.{nameOf, functionNamed, functions, letterWord, cellWord, otherWord, wordToken}
 use Rattle.tokens.specs.Scan.{Lexeme, Found, Wrong, End, lexeme, lexemeOf, blanks, lexemeAt, Tok, Scan, tokens, wrong, consToken, scanFrom, scan}
 use Rattle.grammar.specs.Tree.{Tree}
@@ -56,11 +56,11 @@ hex : (cs : List ℕ) → Marked (hexOf cs)
 hex cs = either Marked (nonEmpty cs && all isHex cs) (either Marked (leb (length cs) 8) good five) four
 
 real : (whole part : List ℕ) → Marked (realOf whole part)
-real whole part = either Marked (allDigits whole && allDigits part) (either Marked (leb (length whole + length part) 7) good five) four
+real whole part = either Marked (decimalDigits whole && decimalDigits part) (either Marked (leb (length whole + length part) 7) good five) four
 
 numeral : (cs : List ℕ) → Marked (numeralOf cs)
 numeral cs =
-    either Marked (allDigits cs) (either Marked (leb (decimalValue cs) 2147483647) good five)
+    either Marked (decimalDigits cs) (either Marked (leb (decimalValue cs) 2147483647) good five)
     (either Marked (isHexRun cs) (hex (drop 2 cs)) (real (take (runLen notDot cs) cs) (drop (suc (runLen notDot cs)) cs)))
 
 letter : (l : Letter) → Marked (letterWord l)

@@ -28,7 +28,7 @@ use Rattle.tokens.specs.declared.Scanned.{Scanned}
 use Rattle.tokens.specs.declared.Scanned.the-variants.{Good, Bad}
 use Rattle.tokens.specs.Bytes.{all, isLetter, isWord, isRun, runLen}
 use Rattle.tokens.specs.Symbols.{equalBytes, symbolCount, longest}
-use Rattle.tokens.specs.Numerals.{nonEmpty, allDigits, isHex, isHexRun, hexFrom, hexOf, notDot, realOf, decimalOf, numeralOf}
+use Rattle.tokens.specs.Numerals.{nonEmpty, decimalDigits, isHex, isHexRun, hexFrom, hexOf, notDot, realOf, decimalOf, numeralOf}
 use Rattle.tokens.specs.Words.{nameOf, functionNamed, functions, letterWord, cellWord, otherWord, wordToken}
 use Rattle.tokens.specs.Scan.{Lexeme, Found, Wrong, End, lexeme, symbolLexeme, lexemeOf, blanks, lexemeAt}
 use Rattle.tokens.proofs.Tests.{by-test, choose, both, hex-small}
@@ -70,9 +70,9 @@ a-hex cs =
 
 a-real : (s t : List ℕ) → Judged (realOf s t)
 a-real s t =
-    choose Judged (allDigits s && allDigits t) _ _
+    choose Judged (decimalDigits s && decimalDigits t) _ _
     (λ e. choose Judged (leb (length s + length t) 7) _ _
-    (λ l. let h = both (allDigits s) (allDigits t) e in
+    (λ l. let h = both (decimalDigits s) (decimalDigits t) e in
     let n : length s + length t ≤ 7 = leb-true (length s + length t) 7 l in
     let small : decimalValue (s ++ t) < 10 ^ 7 = rw (append decimals 0 s t) (both-small s t (h .0) (h .1) n) in
     good _ (number _ (Proper.real _ (real-laws .literal-single (decimalValue (s ++ t)) (length t) small (omega (arith, some-digit s (h .0)))))))
@@ -81,7 +81,7 @@ a-real s t =
 
 a-numeral : (cs : List ℕ) → Judged (numeralOf cs)
 a-numeral cs =
-    choose Judged (allDigits cs) _ _ (λ _. a-decimal cs)
+    choose Judged (decimalDigits cs) _ _ (λ _. a-decimal cs)
     (λ _. choose Judged (isHexRun cs) _ _ (λ _. a-hex (drop 2 cs)) (λ _. a-real (take (runLen notDot cs) cs) (drop (suc (runLen notDot cs)) cs)))
 
 -- ---- words

@@ -24,8 +24,8 @@ abbrev pub nonEmpty : List ℕ → Bool
 nonEmpty [] = false
 nonEmpty (c ∷ cs) = true
 
-abbrev pub allDigits : List ℕ → Bool
-allDigits cs = nonEmpty cs && all isDigit cs
+abbrev pub decimalDigits : List ℕ → Bool
+decimalDigits cs = nonEmpty cs && all isDigit cs
 
 abbrev pub decimalOf : List ℕ → Scanned
 decimalOf cs = cond (leb (decimalValue cs) 2147483647) (Good (Number (Int (pos (decimalValue cs))))) (Bad 5)
@@ -51,7 +51,7 @@ realLiteral n k = ieee Div (promoted (pos n)) (promoted (pos (10 ^ k)))
 -- the digits before the dot and after it
 abbrev pub realOf : List ℕ → List ℕ → Scanned
 realOf whole part =
-    cond (allDigits whole && allDigits part)
+    cond (decimalDigits whole && decimalDigits part)
     (cond (leb (length whole + length part) 7) (Good (Number (Real (realLiteral (decimalValue (whole ++ part)) (length part))))) (Bad 5))
     (Bad 4)
 
@@ -66,6 +66,6 @@ notDot c = not (eqb c (byte "."))
 -- a run that starts with a digit
 abbrev pub numeralOf : List ℕ → Scanned
 numeralOf cs =
-    cond (allDigits cs) (decimalOf cs)
+    cond (decimalDigits cs) (decimalOf cs)
     (cond (isHexRun cs) (hexOf (drop 2 cs))
     (realOf (take (runLen notDot cs) cs) (drop (suc (runLen notDot cs)) cs)))

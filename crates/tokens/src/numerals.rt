@@ -5,7 +5,7 @@ ghost use Prim.Native.Nat.{_-_, _^_, _<_, _≤_};
 ghost use lib.ListN.{length};
 ghost use Rattle.memory.specs.Names.{isDigit, decimalFrom};
 ghost use Rattle.tokens.specs.Bytes.{runLen, all};
-ghost use Rattle.tokens.specs.Numerals.{nonEmpty, allDigits, decimalOf, isHex, hexDigit, hexFrom, hexOf, realLiteral, notDot, realOf, isHexRun, numeralOf};
+ghost use Rattle.tokens.specs.Numerals.{nonEmpty, decimalDigits, decimalOf, isHex, hexDigit, hexFrom, hexOf, realLiteral, notDot, realOf, isHexRun, numeralOf};
 use crate::Scanned;
 use crate::Token;
 use reals::ArithOp;
@@ -16,7 +16,7 @@ const TENS: [u32; 7] = [1, 10, 100, 1000, 10000, 100000, 1000000];
 
 // At least one digit, and nothing else.
 fn all_digits(run: &[u8]) -> bool
-    ensures { λ r. ⌜ r ≡ allDigits (now (run .entry)) ⌝ }
+    ensures { λ r. ⌜ r ≡ decimalDigits (now (run .entry)) ⌝ }
 {
     let mut i = 0;
     while i < run.len() {
@@ -37,7 +37,7 @@ fn digit_of(b: u8) -> u32
 
 // The value of digits; left early above the limit, since more digits make no number smaller.
 fn decimal(run: &[u8]) -> Scanned
-    requires { ⌜ allDigits (now run) ≡ true ⌝ }
+    requires { ⌜ decimalDigits (now run) ≡ true ⌝ }
     ensures { λ r. ⌜ r ≡ decimalOf (now (run .entry)) ⌝ }
 {
     let mut n: u64 = 0;
@@ -118,7 +118,7 @@ fn hexadecimal(run: &[u8]) -> Scanned
 
 // The number of a run of digits, after those that make n.
 fn value_from(n: u32, run: &[u8]) -> u32
-    requires { ⌜ (allDigits (now run) ≡ true) × (decimalFrom n (now run) < 10000000) ⌝ }
+    requires { ⌜ (decimalDigits (now run) ≡ true) × (decimalFrom n (now run) < 10000000) ⌝ }
     ensures { λ r. ⌜ r ≡ decimalFrom n (now (run .entry)) ⌝ }
 {
     let mut m = n;

@@ -20,7 +20,7 @@ use Rattle.memory.proofs.cells.Exponents.{finite-number}
 use Rattle.tokens.specs.declared.Token.the-variants.{Number}
 use Rattle.tokens.specs.declared.Scanned.the-variants.{Good}
 use Rattle.tokens.specs.Bytes.{isWord, isRun, all}
-use Rattle.tokens.specs.Numerals.{allDigits, realLiteral, notDot, isHexRun, numeralOf}
+use Rattle.tokens.specs.Numerals.{decimalDigits, realLiteral, notDot, isHexRun, numeralOf}
 use Rattle.tokens.specs.Scan.{runLexeme}
 use Rattle.tokens.proofs.Tests.{by-test, both, no}
 use Rattle.tokens.proofs.Runs.{all-append}
@@ -31,7 +31,7 @@ use Rattle.token_table.specs.private.Lexing.{Lexes, found, DigitsAt}
 use Rattle.token_table.proofs.Lexemes.{lexes-as}
 use Rattle.token_table.proofs.numerals.Runs.{some, inside, wider, digit-word, digit-run, run-append, the-run}
 
-all-digits : (s : List ℕ) → 0 < length s → all isDigit s ≡ true → allDigits s ≡ true
+all-digits : (s : List ℕ) → 0 < length s → all isDigit s ≡ true → decimalDigits s ≡ true
 all-digits [] h e = absurd (omega arith)
 all-digits (c ∷ cs) h e = e
 
@@ -64,7 +64,7 @@ no-digits : (s t : List ℕ) → all isDigit (s ++ 46 ∷ t) ≡ false
 no-digits [] t = refl
 no-digits (c ∷ cs) t = rw (no-digits cs t, and-false)
 
-not-decimal : (s t : List ℕ) → allDigits (s ++ 46 ∷ t) ≡ false
+not-decimal : (s t : List ℕ) → decimalDigits (s ++ 46 ∷ t) ≡ false
 not-decimal s t = rw (no-digits s t, and-false)
 
 no-hex : (s t : List ℕ) → all isDigit s ≡ true → isHexRun (s ++ 46 ∷ t) ≡ false

@@ -10,7 +10,7 @@ use lib.ListN.{length, getD, take, drop, length-drop, drop-of-length-le}
 use lib.Seq.{take-all}
 use Rattle.tokens.specs.declared.Scanned.the-variants.{Bad}
 use Rattle.tokens.specs.Bytes.{runLen}
-use Rattle.tokens.specs.Numerals.{allDigits, isHexRun, hexOf, notDot, realOf, numeralOf}
+use Rattle.tokens.specs.Numerals.{decimalDigits, isHexRun, hexOf, notDot, realOf, numeralOf}
 
 pub short : (s : List ℕ) → length s < 2 → false ≡ isHexRun s
 short [] h = refl
@@ -31,7 +31,7 @@ at-least (c ∷ d ∷ cs) e = omega arith
 part : (n : ℕ) (s : List ℕ) → take (length s - n) (drop n s) ≡ drop n s
 part n s = take-all (length s - n) (drop n s) (rw length-drop (omega arith))
 
-module _ (s : List ℕ) (n : allDigits s ≡ false) where
+module _ (s : List ℕ) (n : decimalDigits s ≡ false) where
   pub hex-form : isHexRun s ≡ true → hexOf (take (length s - 2) (drop 2 s)) ≡ numeralOf s
   hex-form h = rw (part, n, h)
 

@@ -9,23 +9,23 @@ use lib.Dec.{T, lit<, lit≤}
 use lib.ListN.{length, getD, length-append}
 use Rattle.memory.specs.Names.{isDigit, decimalFrom}
 use Rattle.tokens.specs.Bytes.{all}
-use Rattle.tokens.specs.Numerals.{nonEmpty, allDigits}
+use Rattle.tokens.specs.Numerals.{nonEmpty, decimalDigits}
 use Rattle.tokens.proofs.Tests.{both, digit-small}
 use Rattle.tokens.proofs.Runs.{all-append}
 use Rattle.tokens.proofs.Readings.{decimals, append, below}
 
-all-of : (s : List ℕ) → allDigits s ≡ true → all isDigit s ≡ true
+all-of : (s : List ℕ) → decimalDigits s ≡ true → all isDigit s ≡ true
 all-of s e = both (nonEmpty s) (all isDigit s) e .1
 
-pub whole-small : (s : List ℕ) → allDigits s ≡ true → length s ≤ 7 → decimalFrom 0 s < 10000000
+pub whole-small : (s : List ℕ) → decimalDigits s ≡ true → length s ≤ 7 → decimalFrom 0 s < 10000000
 whole-small s e h = below decimals digit-small 7 s (lit< tt) (all-of s e) h
 
-pub both-small : (s t : List ℕ) → allDigits s ≡ true → allDigits t ≡ true → length s + length t ≤ 7 → decimalFrom (decimalFrom 0 s) t < 10000000
+pub both-small : (s t : List ℕ) → decimalDigits s ≡ true → decimalDigits t ≡ true → length s + length t ≤ 7 → decimalFrom (decimalFrom 0 s) t < 10000000
 both-small s t e f h =
     rw (← append decimals 0 s t)
     (below decimals digit-small 7 (s ++ t) (lit< tt) (all-append isDigit s t (all-of s e) (all-of t f)) (rw length-append h))
 
-pub some-digit : (s : List ℕ) → allDigits s ≡ true → 1 ≤ length s
+pub some-digit : (s : List ℕ) → decimalDigits s ≡ true → 1 ≤ length s
 some-digit [] e = absurd (subst T (sym e) tt)
 some-digit (c ∷ cs) e = omega arith
 
