@@ -1,9 +1,9 @@
 //! One request by both implementations, and what differs.
 
-use crate::cases::{compiled_as_promised, Operation, Request};
 use crate::library::{self, Lent};
-use crate::memory::MEMORY_BYTES;
-use crate::ops::{self, Report, CODE_BYTES};
+use crate::random::cases::{compiled_as_promised, Operation, Request};
+use crate::reference::memory::MEMORY_BYTES;
+use crate::reference::operations::{self, Report, CODE_BYTES};
 
 struct Expected {
     report: Report,
@@ -38,10 +38,10 @@ fn expected(request: &Request) -> Expected {
     let Request { target, expr, instructions, .. } = request;
     let (mut memory, mut code) = (request.memory.clone(), request.code.clone());
     let report = match request.operation {
-        Operation::Compile => ops::compile(expr, &mut code),
-        Operation::Check => ops::check(&code, *instructions),
-        Operation::Run => ops::run(&code, *instructions, &mut memory, target),
-        Operation::CompileAndRun => ops::compile_and_run(target, expr, &mut memory, &mut code),
+        Operation::Compile => operations::compile(expr, &mut code),
+        Operation::Check => operations::check(&code, *instructions),
+        Operation::Run => operations::run(&code, *instructions, &mut memory, target),
+        Operation::CompileAndRun => operations::compile_and_run(target, expr, &mut memory, &mut code),
     };
     Expected { report, memory, code }
 }
@@ -71,7 +71,7 @@ fn same_as_tree(request: &Request, actual: &Actual) -> Result<(), String> {
         return Ok(());
     }
     let mut memory = request.memory.clone();
-    let walked = ops::walk(&request.target, &request.expr, &mut memory);
+    let walked = operations::walk(&request.target, &request.expr, &mut memory);
     let report = Report { count: 0, ..actual.report };
     if walked != report {
         return Err(format!("the tree gives {walked:?}\nthe code      {report:?}"));

@@ -1,38 +1,40 @@
-//! The examples of the documents as cases of the key=value program.
+//! The examples of the documents, by both implementations.
 //!
 //! In a block ```cells a line `R1 = 2.5` says what a cell holds in the examples. In any other block a line with an
 //! arrow is an example: `EXPR -> 64` (an integer), `EXPR -> 3.5` (a real), `EXPR -> V0 = 0` (the cell after the
 //! store), `EXPR -> answer 12` or `EXPR -> answer 7 at 4` (the place).
 
-use crate::memory::{cell_name, Bank, MEMORY_BYTES};
-use crate::ops::{walk, Report};
-use crate::program::read_input;
-use crate::text::{tokens, Token};
+use crate::library::{self, Lent};
+use crate::reference::memory::{cell_name, Bank};
+use crate::reference::operations::{compile_and_run, walk, Report};
+use crate::reference::program::{output, read_input};
+use crate::reference::text::{tokens, Token};
 
 #[derive(Default)]
-pub struct Lists {
-    pub cases: String,
-    pub outputs: String,
+pub struct Examples {
+    /// How many were tried.
+    pub number: usize,
     /// Each cell's name and its line of the program.
     cells: Vec<(String, String)>,
 }
 
-struct Example {
+struct Stated {
     target: String,
     output: String,
     /// The kind of the value, where the result is one.
     kind: Option<u32>,
 }
 
-impl Lists {
-    pub fn add(&mut self, document: &str) -> Result<(), String> {
+impl Examples {
+    /// Tries those of a document, after its cells and those of the documents before it. The error is the first that is wrong.
+    pub fn try_all(&mut self, document: &str) -> Result<(), String> {
         let mut block = None;
         for line in document.lines() {
             match (block, line.strip_prefix("```")) {
                 (None, Some(name)) => block = Some(name),
                 (Some(_), Some(_)) => block = None,
                 (Some("cells"), None) => self.add_cell(line).ok_or(format!("no cell: {line}"))?,
-                (Some(_), None) => self.add_example(line)?,
+                (Some(_), None) => self.try_one(line)?,
                 (None, None) => {}
             }
         }
@@ -49,16 +51,20 @@ impl Lists {
         Some(())
     }
 
-    fn add_example(&mut self, line: &str) -> Result<(), String> {
+    fn try_one(&mut self, line: &str) -> Result<(), String> {
         let Some((expr, result)) = line.rsplit_once(" -> ") else { return Ok(()) };
-        let example = example(result).ok_or(format!("no result: {line}"))?;
-        let case = format!("{}target={}\nexpr={expr}\n", self.cells_of(expr), example.target);
-        let kind = report(&case).kind;
-        if example.kind.is_some_and(|stated| stated != kind) {
+        let stated = stated(result).ok_or(format!("no result: {line}"))?;
+        let case = format!("{}target={}\nexpr={expr}\n", self.cells_of(expr), stated.target);
+        for operation in [compile_and_run, through_library] {
+            let given = output(read_input(case.as_bytes()), operation);
+            if given != stated.output {
+                return Err(format!("{line}\nexpected\n{}got\n{given}", stated.output));
+            }
+        }
+        if stated.kind.is_some_and(|kind| kind != kind_of(&case)) {
             return Err(format!("the other kind of number: {line}"));
         }
-        self.cases += &format!("{case}\n");
-        self.outputs += &format!("{}\n", example.output);
+        self.number += 1;
         Ok(())
     }
 
@@ -76,17 +82,23 @@ impl Lists {
     }
 }
 
-fn report(case: &str) -> Report {
+fn through_library(target: &[u8], expr: &[u8], memory: &mut [u8], code: &mut [u8]) -> Report {
+    let (mut lent_memory, mut lent_code) = (Lent::new(memory, 0), Lent::new(code, 0));
+    let report = library::compile_and_run(&Lent::new(target, 0), &Lent::new(expr, 0), &mut lent_memory, &mut lent_code);
+    memory.copy_from_slice(lent_memory.content());
+    report
+}
+
+fn kind_of(case: &str) -> u32 {
     let mut input = read_input(case.as_bytes());
-    assert_eq!(input.memory.len(), MEMORY_BYTES);
-    walk(&input.target, &input.expr, &mut input.memory)
+    walk(&input.target, &input.expr, &mut input.memory).kind
 }
 
 fn pattern(decimal: &str) -> Option<String> {
     decimal.parse::<f32>().ok().map(|r| format!("0x{:08X}", r.to_bits()))
 }
 
-fn example(result: &str) -> Option<Example> {
+fn stated(result: &str) -> Option<Stated> {
     if let Some(answer) = result.strip_prefix("answer ") {
         let (answer, place) = answer.split_once(" at ").unwrap_or((answer, "0"));
         return Some(refused(answer.parse().ok()?, place.parse().ok()?));
@@ -99,10 +111,10 @@ fn example(result: &str) -> Option<Example> {
     }
 }
 
-fn refused(answer: u32, place: usize) -> Example {
-    Example { target: "D0".into(), output: format!("answer={answer}\nplace={place}\n"), kind: None }
+fn refused(answer: u32, place: usize) -> Stated {
+    Stated { target: "D0".into(), output: format!("answer={answer}\nplace={place}\n"), kind: None }
 }
 
-fn stored(target: &str, value: &str, kind: Option<u32>) -> Example {
-    Example { target: target.into(), output: format!("answer=0\nplace=0\n{target}={value}\n"), kind }
+fn stored(target: &str, value: &str, kind: Option<u32>) -> Stated {
+    Stated { target: target.into(), output: format!("answer=0\nplace=0\n{target}={value}\n"), kind }
 }

@@ -1,6 +1,6 @@
 //! The C library, called on buffers with guard bytes around them.
 
-use crate::ops::Report;
+use crate::reference::operations::Report;
 
 #[link(name = "formula_c", kind = "static")]
 extern "C" {

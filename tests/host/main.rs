@@ -1,35 +1,20 @@
 //! Holds the C library to an implementation that was written apart from it, on random cases. Built by run.sh.
 //!
 //!   host [CASES [SEED [FIRST]]]   random cases, numbered from FIRST
-//!   host list CASES OUTPUTS       cases of the key=value program, each followed by an empty line
-//!   host examples CASES OUTPUTS DOCUMENT...
-//!                                 the same for the two lists made from the examples of the documents
-//!   host write-examples CASES OUTPUTS DOCUMENT...
-//!                                 makes the two lists
+//!   host examples DOCUMENT...     the examples of the documents
 
-mod cases;
-mod code;
-mod codes;
 mod compare;
 mod examples;
-mod formulas;
-mod grammar;
 mod library;
-mod memory;
-mod ops;
-mod program;
 mod random;
+mod reference;
 mod stop;
-mod text;
-mod tree;
-mod value;
 
 use std::process::exit;
 use std::time::{Instant, SystemTime, UNIX_EPOCH};
 
-use cases::CLASSES;
-use library::Lent;
-use ops::Report;
+use examples::Examples;
+use random::cases::{class_of, CLASSES};
 use random::Random;
 
 const DEFAULT_CASES: u64 = 1_000_000;
@@ -46,9 +31,7 @@ fn main() {
     let arguments: Vec<String> = std::env::args().skip(1).collect();
     let words: Vec<&str> = arguments.iter().map(String::as_str).collect();
     let result = match words[..] {
-        ["list", cases, outputs] => list(cases, outputs),
-        ["examples", cases, outputs, ref documents @ ..] => examples(cases, outputs, documents),
-        ["write-examples", cases, outputs, ref documents @ ..] => write_examples(cases, outputs, documents),
+        ["examples", ref documents @ ..] => try_examples(documents),
         _ => random_cases(&words),
     };
     if let Err(difference) = result {
@@ -88,7 +71,7 @@ fn random_cases(words: &[&str]) -> Result<(), String> {
 
 fn random_case(seed: u64, number: u64, tally: &mut Tally) -> Result<(), String> {
     let mut random = Random::new(seed, number);
-    let class = cases::class_of(&mut random);
+    let class = class_of(&mut random);
     for request in (CLASSES[class].make)(&mut random) {
         let report = compare::compare(&request).map_err(|difference| {
             let name = CLASSES[class].name;
@@ -112,49 +95,12 @@ fn print_tally(tally: &Tally) {
     }
 }
 
-fn through_library(target: &[u8], expr: &[u8], memory: &mut [u8], code: &mut [u8]) -> Report {
-    let (mut lent_memory, mut lent_code) = (Lent::new(memory, 0), Lent::new(code, 0));
-    let report = library::compile_and_run(&Lent::new(target, 0), &Lent::new(expr, 0), &mut lent_memory, &mut lent_code);
-    memory.copy_from_slice(lent_memory.content());
-    code.copy_from_slice(lent_code.content());
-    report
-}
-
-fn file(name: &str) -> Result<Vec<u8>, String> {
-    std::fs::read(name).map_err(|error| format!("{name}: {error}"))
-}
-
-fn list(cases: &str, outputs: &str) -> Result<(), String> {
-    let (cases, outputs) = (file(cases)?, file(outputs)?);
-    let number = program::run_list(&cases, &outputs, ops::compile_and_run)?;
-    program::run_list(&cases, &outputs, through_library)?;
-    println!("{number} listed cases, 0 differences");
-    Ok(())
-}
-
-fn example_lists(documents: &[&str]) -> Result<examples::Lists, String> {
-    let mut lists = examples::Lists::default();
+fn try_examples(documents: &[&str]) -> Result<(), String> {
+    let mut examples = Examples::default();
     for document in documents {
-        lists.add(&String::from_utf8_lossy(&file(document)?)).map_err(|error| format!("{document}: {error}"))?;
+        let text = std::fs::read_to_string(document).map_err(|error| format!("{document}: {error}"))?;
+        examples.try_all(&text).map_err(|error| format!("{document}: {error}"))?;
     }
-    Ok(lists)
-}
-
-// The lists are made from the documents, so neither may change without the other.
-fn examples(cases: &str, outputs: &str, documents: &[&str]) -> Result<(), String> {
-    let lists = example_lists(documents)?;
-    for (name, made) in [(cases, &lists.cases), (outputs, &lists.outputs)] {
-        if file(name)? != made.as_bytes() {
-            return Err(format!("{name} is not what the documents say: host write-examples makes it anew"));
-        }
-    }
-    list(cases, outputs)
-}
-
-fn write_examples(cases: &str, outputs: &str, documents: &[&str]) -> Result<(), String> {
-    let lists = example_lists(documents)?;
-    for (name, made) in [(cases, &lists.cases), (outputs, &lists.outputs)] {
-        std::fs::write(name, made).map_err(|error| format!("{name}: {error}"))?;
-    }
+    println!("{} examples, 0 differences", examples.number);
     Ok(())
 }

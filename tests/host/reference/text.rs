@@ -1,7 +1,9 @@
 //! Bytes to tokens: answers 4, 5 and 6.
 
-use crate::memory::{cell_name, Bank};
-use crate::value::{Binary, Unary, Value};
+use super::literal::nearest;
+use super::memory::{cell_name, Bank};
+use super::operators::{Binary, Unary};
+use super::value::Value;
 
 #[derive(Clone, Copy, PartialEq, Debug)]
 pub enum Function {
@@ -18,6 +20,8 @@ pub enum Token {
     Function(Function),
     Symbol(&'static str),
 }
+
+const REAL_DIGITS: usize = 7;
 
 /// A refusal of a text: its answer and its place.
 #[derive(Clone, Copy, PartialEq, Debug)]
@@ -128,9 +132,9 @@ fn real(run: &[u8], dot: usize) -> Result<Value, u32> {
     if !digits(before) || !digits(after) {
         return Err(4);
     }
-    if before.len() + after.len() > 7 {
+    if before.len() + after.len() > REAL_DIGITS {
         return Err(5);
     }
-    // parse() gives the single nearest to the decimal, ties to even.
-    Ok(Value::Real(std::str::from_utf8(run).unwrap().parse().unwrap()))
+    let mantissa = before.iter().chain(after).fold(0, |n, d| n * 10 + u32::from(d - b'0'));
+    Ok(Value::Real(f32::from_bits(nearest(mantissa, -(after.len() as i32)))))
 }

@@ -1,4 +1,11 @@
-//! A small generator of random numbers (splitmix64): the same seed and case number give the same case everywhere.
+//! Random cases, from a small generator (splitmix64): the same seed and case number give the same case everywhere.
+
+pub mod bad_codes;
+pub mod cases;
+pub mod codes;
+pub mod formulas;
+pub mod images;
+pub mod texts;
 
 pub struct Random(u64);
 

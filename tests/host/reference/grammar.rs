@@ -4,10 +4,10 @@
 //! no formula has there (7), or at an opener that a formula could have there but that is the ninth open one (8). So
 //! the smaller place wins, and 7 on a tie.
 
-use crate::memory::Bank;
-use crate::text::{tokens, Function, Refusal, Token};
-use crate::tree::{kind, Tree};
-use crate::value::{Binary, Unary};
+use super::memory::Bank;
+use super::operators::{Binary, Unary};
+use super::text::{tokens, Function, Refusal, Token};
+use super::tree::{kind, Tree};
 
 const OPEN_LIMIT: usize = 8;
 

@@ -1,8 +1,8 @@
 //! The program of the requirements: lines of key=value in, answer, place and the target's cell out.
 
-use crate::memory::{cell_name, offset, read, store, target_cell, Bank, MEMORY_BYTES};
-use crate::ops::{Report, CODE_BYTES};
-use crate::value::Value;
+use super::memory::{cell_name, offset, read, store, target_cell, Bank, MEMORY_BYTES};
+use super::operations::{Report, CODE_BYTES};
+use super::value::Value;
 
 /// An implementation of compile-and-run: target, expression, memory, code buffer.
 pub type Operation = fn(&[u8], &[u8], &mut [u8], &mut [u8]) -> Report;
@@ -82,35 +82,4 @@ fn cell_line(memory: &[u8], target: &[u8]) -> String {
         Ok(Value::Real(r)) => format!("{name}=0x{:08X}\n", r.to_bits()),
         Err(_) => panic!("a store left an infinity or a NaN"),
     }
-}
-
-/// Runs a file of cases, each followed by an empty line, against a file of outputs in the same form. Gives the number
-/// of cases, or the first one that differs.
-pub fn run_list(cases: &[u8], expected: &[u8], operation: Operation) -> Result<usize, String> {
-    let (cases, expected) = (blocks(cases), blocks(expected));
-    if cases.len() != expected.len() {
-        return Err(format!("{} cases but {} outputs", cases.len(), expected.len()));
-    }
-    for (number, (case, wanted)) in cases.iter().zip(&expected).enumerate() {
-        let got = output(read_input(case), operation);
-        if got.as_bytes() != *wanted {
-            let (case, wanted) = (String::from_utf8_lossy(case), String::from_utf8_lossy(wanted));
-            return Err(format!("case {}\n{case}expected\n{wanted}got\n{got}", number + 1));
-        }
-    }
-    Ok(cases.len())
-}
-
-// The parts of a file that each end with an empty line, without it.
-fn blocks(file: &[u8]) -> Vec<&[u8]> {
-    let mut found = Vec::new();
-    let (mut start, mut line) = (0, 0);
-    for end in (0..file.len()).filter(|i| file[*i] == b'\n') {
-        if end == line {
-            found.push(&file[start..line]);
-            start = end + 1;
-        }
-        line = end + 1;
-    }
-    found
 }

@@ -1,9 +1,10 @@
-//! Random code: code that the check accepts and no formula has, damaged code, and any bytes.
+//! Random code that the check accepts and no formula has, and code close to what it accepts.
 
-use crate::code::{encode, Instruction, HEIGHT_LIMIT, INSTRUCTION_BYTES, INSTRUCTION_LIMIT};
-use crate::memory::BANKS;
-use crate::random::Random;
-use crate::value::{binary_kind, unary_kind, Kind, Value, BINARIES, UNARIES};
+use super::Random;
+use crate::reference::code::{encode, Instruction, HEIGHT_LIMIT, INSTRUCTION_LIMIT};
+use crate::reference::memory::BANKS;
+use crate::reference::operators::{binary_kind, unary_kind, BINARIES, UNARIES};
+use crate::reference::value::{Kind, Value};
 
 pub fn bytes_of(code: &[Instruction]) -> Vec<u8> {
     code.iter().flat_map(|i| encode(*i)).collect()
@@ -259,136 +260,4 @@ impl Builder<'_> {
             }
         }
     }
-}
-
-/// Code of one operator on values pushed: the cheapest way to try many operands. Few are of a wrong kind.
-pub fn one_operator(random: &mut Random) -> Vec<u8> {
-    let code = if random.one_in(3) { one_unary(random) } else { one_binary(random) };
-    bytes_of(&code)
-}
-
-fn one_unary(random: &mut Random) -> Vec<Instruction> {
-    let op = *random.pick(&UNARIES);
-    let (_, takes_real) = unary_kind(op, Kind::Real);
-    let operand = match random.below(2) {
-        0 if takes_real => Instruction::Push(Value::Real(random.neighbour())),
-        _ => operand(random, takes_real),
-    };
-    let operator = match random.below(9) {
-        0 => Instruction::LoadIndexed(*random.pick(&BANKS)),
-        _ => Instruction::Unary(op),
-    };
-    vec![operand, operator]
-}
-
-// Where sums, products and quotients leave 32 bits.
-const LEFT_ENDS: [i32; 6] = [i32::MIN, i32::MIN + 1, i32::MAX, 65536, 46341, -46341];
-const RIGHT_ENDS: [i32; 6] = [i32::MIN, i32::MAX, -1, 1, 32768, 46341];
-
-fn one_binary(random: &mut Random) -> Vec<Instruction> {
-    let op = *random.pick(&BINARIES);
-    let (_, left_real) = binary_kind(op, Kind::Real, Kind::Int);
-    let (_, right_real) = binary_kind(op, Kind::Int, Kind::Real);
-    let integer = |i: i32| Instruction::Push(Value::Int(i));
-    let (left, right) = (operand(random, left_real), operand(random, right_real));
-    let (left, right) = match random.below(16) {
-        // Exponents and shift counts that are not refused, and zero divisors.
-        0..=3 => (left, integer(random.below(33) as i32)),
-        4 => (left, Instruction::Push(*random.pick(&[Value::Int(0), Value::Real(0.0), Value::Real(-0.0)]))),
-        5 | 6 => (integer(*random.pick(&LEFT_ENDS)), integer(*random.pick(&RIGHT_ENDS))),
-        // An integer and the real next to it.
-        7 if right_real => {
-            let i = random.integer();
-            (integer(i), Instruction::Push(Value::Real(i as f32)))
-        }
-        _ => (left, right),
-    };
-    vec![left, right, Instruction::Binary(op)]
-}
-
-fn operand(random: &mut Random, real: bool) -> Instruction {
-    let real = if random.one_in(30) { !real } else { real && random.one_in(2) };
-    Instruction::Push(if real { Value::Real(random.real()) } else { Value::Int(random.integer()) })
-}
-
-/// The code with one to three faults in its bytes or in the order of its instructions.
-pub fn damaged(random: &mut Random, code: &[u8]) -> Vec<u8> {
-    let mut code = code.to_vec();
-    for _ in 0..1 + random.below(3) {
-        damage(random, &mut code);
-    }
-    code
-}
-
-// Elements and distances at a border, infinities and NaNs.
-#[rustfmt::skip]
-const WORDS: [u32; 14] = [
-    0, 1, 2, 63, 64, 255, 256, 0x7F7F_FFFF, 0x7F80_0000, 0xFF80_0000, 0x7FC0_0000, 0x7F80_0001, 0x8000_0000, u32::MAX,
-];
-
-fn damage(random: &mut Random, code: &mut Vec<u8>) {
-    let number = code.len() / INSTRUCTION_BYTES;
-    if number == 0 {
-        return code.push(random.byte());
-    }
-    let at = random.below(number) * INSTRUCTION_BYTES;
-    let other = random.below(number) * INSTRUCTION_BYTES;
-    match random.below(9) {
-        8 => code[at + 4..at + 8].copy_from_slice(&random.pick(&WORDS).to_le_bytes()),
-        0 => code[at + random.below(INSTRUCTION_BYTES)] ^= 1 << random.below(8),
-        1 => code[at + random.below(INSTRUCTION_BYTES)] = random.byte(),
-        2 => code[at] = 1 + random.below(9) as u8,
-        3 => code[at + 1] = random.below(22) as u8,
-        // Distances and elements one off.
-        4 => code[at + 4] = code[at + 4].wrapping_add(random.between(-1, 1) as u8),
-        5 => drop(code.drain(at..at + INSTRUCTION_BYTES)),
-        6 => code.copy_within(other..other + INSTRUCTION_BYTES, at),
-        _ => {
-            let copy = code[other..other + INSTRUCTION_BYTES].to_vec();
-            code.splice(at..at, copy);
-        }
-    }
-}
-
-/// One instruction of any parts, known or not, with the values that it takes.
-pub fn one_instruction(random: &mut Random) -> Vec<u8> {
-    let opcode = 1 + random.below(9) as u8;
-    let pushes = [0, 0, 0, 0, 1, 1, 2, 1, 2, 2][usize::from(opcode)];
-    let mut code = bytes_of(&vec![Instruction::Push(Value::Int(1)); pushes]);
-    let operand = match (opcode, random.below(8)) {
-        (1 | 2 | 7 | 8 | 9, 1..) => 0,
-        (3 | 4, 1..) => random.below(6) as u8,
-        _ => random.below(22) as u8,
-    };
-    let word = match (opcode, random.below(8)) {
-        (4..=9, 1..) => 0,
-        _ => *random.pick(&WORDS),
-    };
-    code.extend([opcode, operand, 0, 0]);
-    code.extend(word.to_le_bytes());
-    if random.one_in(8) {
-        let at = code.len() - 1 - random.below(INSTRUCTION_BYTES);
-        code[at] = random.byte();
-    }
-    code
-}
-
-/// Any bytes, or instructions whose parts are likely and fit nothing.
-pub fn noise(random: &mut Random) -> Vec<u8> {
-    let number = random.below(12);
-    let mut code = vec![0; number * INSTRUCTION_BYTES + random.below(8)];
-    if random.one_in(3) {
-        random.fill(&mut code);
-        return code;
-    }
-    for bytes in code.chunks_exact_mut(INSTRUCTION_BYTES) {
-        bytes[0] = random.below(11) as u8;
-        bytes[1] = [0, random.below(8) as u8, random.below(22) as u8][random.below(3)];
-        bytes[4] = [0, random.below(4) as u8, random.byte()][random.below(3)];
-        if random.one_in(30) {
-            let at = random.below(INSTRUCTION_BYTES);
-            bytes[at] = random.byte();
-        }
-    }
-    code
 }

@@ -1,7 +1,8 @@
 //! The tree of a formula: its kind, answer 9, and its value worked out on the tree itself.
 
-use crate::memory::{read, read_indexed, Bank};
-use crate::value::{binary, binary_kind, unary, unary_kind, wider, Binary, Fault, Kind, Unary, Value};
+use super::memory::{read, read_indexed, Bank};
+use super::operators::{binary, binary_kind, unary, unary_kind, Binary, Unary};
+use super::value::{Fault, Kind, Value};
 
 #[derive(Debug)]
 pub enum Tree {
@@ -40,7 +41,7 @@ pub fn kind(tree: &Tree, wrong: &mut Option<usize>) -> Kind {
         }
         Tree::If(c, t, u) => {
             kind(c, wrong);
-            wider(kind(t, wrong), kind(u, wrong))
+            kind(t, wrong).wider(kind(u, wrong))
         }
     }
 }
@@ -70,11 +71,7 @@ pub fn worth(tree: &Tree, memory: &[u8]) -> Result<Value, Fault> {
         }
         Tree::If(c, t, u) => {
             let chosen = if worth(c, memory)?.truth() { t } else { u };
-            let value = worth(chosen, memory)?;
-            Ok(match wider(kind(t, &mut None), kind(u, &mut None)) {
-                Kind::Real => Value::Real(value.real()),
-                Kind::Int => value,
-            })
+            Ok(worth(chosen, memory)?.promoted(kind(tree, &mut None)))
         }
     }
 }

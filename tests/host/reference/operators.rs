@@ -1,24 +1,6 @@
-//! Values, and what the operators do with them.
+//! What the operators do with values, and with kinds.
 
-#[derive(Clone, Copy, PartialEq, Debug)]
-pub enum Kind {
-    Int,
-    Real,
-}
-
-#[derive(Clone, Copy, Debug)]
-pub enum Value {
-    Int(i32),
-    Real(f32),
-}
-
-#[derive(Clone, Copy, PartialEq, Debug)]
-pub enum Fault {
-    DividedByZero = 11,
-    Overflow = 12,
-    OutOfRange = 13,
-    IndexError = 14,
-}
+use super::value::{Fault, Kind, Value};
 
 #[derive(Clone, Copy, PartialEq, Debug)]
 pub enum Unary {
@@ -69,55 +51,6 @@ pub const BINARIES: [Binary; 20] = [
     GreaterEqual, Equal, NotEqual, And, Xor, Or, Max, Min,
 ];
 
-impl Value {
-    pub fn kind(self) -> Kind {
-        match self {
-            Int(_) => Kind::Int,
-            Real(_) => Kind::Real,
-        }
-    }
-
-    pub fn bits(self) -> u32 {
-        match self {
-            Int(i) => i as u32,
-            Real(r) => r.to_bits(),
-        }
-    }
-
-    pub fn truth(self) -> bool {
-        match self {
-            Int(i) => i != 0,
-            Real(r) => r != 0.0,
-        }
-    }
-
-    // The nearest single, ties to even: that is what `as` gives.
-    pub fn real(self) -> f32 {
-        match self {
-            Int(i) => i as f32,
-            Real(r) => r,
-        }
-    }
-
-    // The integer, or the real cut toward zero.
-    pub fn trunc(self) -> Result<i32, Fault> {
-        match self {
-            Int(i) => Ok(i),
-            Real(r) => whole(r.trunc()),
-        }
-    }
-}
-
-// A single without a fraction as an integer. A double holds both ends of the range exactly.
-fn whole(r: f32) -> Result<i32, Fault> {
-    let r = f64::from(r);
-    if (-2147483648.0..=2147483647.0).contains(&r) {
-        Ok(r as i32)
-    } else {
-        Err(OutOfRange)
-    }
-}
-
 fn exact(i: i64) -> Result<Value, Fault> {
     i32::try_from(i).map(Int).map_err(|_| Overflow)
 }
@@ -150,19 +83,9 @@ pub fn unary_kind(op: Unary, operand: Kind) -> (Kind, bool) {
 pub fn binary_kind(op: Binary, left: Kind, right: Kind) -> (Kind, bool) {
     match op {
         Power => (left, right == Kind::Int),
-        Times | Divide | Remainder | Plus | Minus | Max | Min => (wider(left, right), true),
+        Times | Divide | Remainder | Plus | Minus | Max | Min => (left.wider(right), true),
         Less | Greater | LessEqual | GreaterEqual | Equal | NotEqual => (Kind::Int, true),
-        ShiftLeft | ShiftRight | ShiftRightZero | And | Xor | Or => {
-            (Kind::Int, left == Kind::Int && right == Kind::Int)
-        }
-    }
-}
-
-pub fn wider(a: Kind, b: Kind) -> Kind {
-    if a == Kind::Real {
-        a
-    } else {
-        b
+        ShiftLeft | ShiftRight | ShiftRightZero | And | Xor | Or => (Kind::Int, left == Kind::Int && right == Kind::Int),
     }
 }
 
@@ -176,9 +99,7 @@ pub fn unary(op: Unary, v: Value) -> Result<Value, Fault> {
         (Unary::Abs, Real(r)) => Ok(Real(r.abs())),
         (Unary::ToReal, v) => Ok(Real(v.real())),
         (Unary::Trunc, v) => v.trunc().map(Int),
-        (Unary::Round, Int(i)) => Ok(Int(i)),
-        // f32::round takes halves away from zero.
-        (Unary::Round, Real(r)) => whole(r.round()).map(Int),
+        (Unary::Round, v) => v.round().map(Int),
         (Unary::Frac, v) => finite(v.real() % 1.0),
     }
 }

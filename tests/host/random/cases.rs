@@ -1,11 +1,11 @@
 //! The random cases by class. A case is one or more requests on the same text or code.
 
-use crate::code::{check as check_code, INSTRUCTION_BYTES};
-use crate::codes;
-use crate::formulas;
-use crate::memory::{offset, Bank, BANKS, MEMORY_BYTES};
-use crate::ops::{compile, CODE_BYTES};
-use crate::random::Random;
+use super::images::memory;
+use super::{bad_codes, codes, formulas, texts, Random};
+use crate::reference::check::check as check_code;
+use crate::reference::code::INSTRUCTION_BYTES;
+use crate::reference::memory::BANKS;
+use crate::reference::operations::{compile, CODE_BYTES};
 
 #[derive(Clone, Copy, PartialEq, Debug)]
 pub enum Operation {
@@ -41,17 +41,17 @@ pub struct Class {
 pub const CLASSES: [Class; 13] = [
     Class { name: "formula", weight: 25, make: |r| text_case(r, formulas::formula) },
     Class { name: "damaged formula", weight: 13, make: |r| text_case(r, damaged_formula) },
-    Class { name: "one word", weight: 6, make: |r| text_case(r, formulas::one_word) },
-    Class { name: "any text", weight: 4, make: |r| text_case(r, formulas::noise) },
-    Class { name: "text length", weight: 2, make: |r| text_case(r, formulas::long) },
+    Class { name: "one word", weight: 6, make: |r| text_case(r, texts::one_word) },
+    Class { name: "any text", weight: 4, make: |r| text_case(r, texts::noise) },
+    Class { name: "text length", weight: 2, make: |r| text_case(r, texts::long) },
     Class { name: "sizes and targets", weight: 8, make: sizes_case },
-    Class { name: "one operator", weight: 17, make: |r| code_case(r, codes::one_operator) },
-    Class { name: "one instruction", weight: 4, make: |r| code_case(r, codes::one_instruction) },
+    Class { name: "one operator", weight: 17, make: |r| code_case(r, bad_codes::one_operator) },
+    Class { name: "one instruction", weight: 4, make: |r| code_case(r, bad_codes::one_instruction) },
     Class { name: "accepted code", weight: 8, make: |r| code_case(r, codes::accepted) },
     Class { name: "two ways", weight: 3, make: |r| code_case(r, codes::two_ways) },
     Class { name: "border code", weight: 2, make: |r| code_case(r, codes::border) },
     Class { name: "damaged code", weight: 6, make: |r| code_case(r, damaged_code) },
-    Class { name: "any code", weight: 2, make: |r| code_case(r, codes::noise) },
+    Class { name: "any code", weight: 2, make: |r| code_case(r, bad_codes::noise) },
 ];
 
 pub fn class_of(random: &mut Random) -> usize {
@@ -68,7 +68,7 @@ pub fn class_of(random: &mut Random) -> usize {
 
 fn damaged_formula(random: &mut Random) -> Vec<u8> {
     let text = formulas::formula(random);
-    formulas::damaged(random, &text)
+    texts::damaged(random, &text)
 }
 
 // Damaged code of a formula, or of what only the check knows.
@@ -78,7 +78,7 @@ fn damaged_code(random: &mut Random) -> Vec<u8> {
         1 => codes::border(random),
         _ => compiled(&formulas::formula(random)),
     };
-    codes::damaged(random, &code)
+    bad_codes::damaged(random, &code)
 }
 
 // The code of a text, none if it is refused.
@@ -157,8 +157,8 @@ fn sizes_case(random: &mut Random) -> Vec<Request> {
     memory.resize(*random.pick(&[3204, 3204, 3204, 3203, 3205, 0, 1, 3200, 6408]), 0);
     let expr = match random.below(4) {
         0 => Vec::new(),
-        1 => formulas::noise(random),
-        2 => formulas::long(random),
+        1 => texts::noise(random),
+        2 => texts::long(random),
         _ => formulas::formula(random),
     };
     let operation = *random.pick(&OPERATIONS);
@@ -166,7 +166,7 @@ fn sizes_case(random: &mut Random) -> Vec<Request> {
     let mut code = buffer(random, length);
     let mut instructions = 0;
     if matches!(operation, Check | Run) {
-        code = if random.one_in(4) { codes::noise(random) } else { codes::accepted(random) };
+        code = if random.one_in(4) { bad_codes::noise(random) } else { codes::accepted(random) };
         instructions = number(random, code.len() / INSTRUCTION_BYTES);
         if random.one_in(4) {
             code.truncate(code.len() - random.below(9).min(code.len()));
@@ -200,57 +200,6 @@ fn bad_target(random: &mut Random) -> Vec<u8> {
         0 => random.pick(&BAD_TARGETS).as_bytes().to_vec(),
         1 => (0..random.below(5)).map(|_| *random.pick(b"XCVNDR0123456789 ")).collect(),
         _ => (0..random.below(5)).map(|_| random.byte()).collect(),
-    }
-}
-
-fn memory(random: &mut Random) -> Vec<u8> {
-    let mut memory = vec![0; MEMORY_BYTES];
-    match random.below(5) {
-        0 => {}
-        1 => random.fill(&mut memory),
-        2 => mixed(random, &mut memory),
-        _ => tame(random, &mut memory),
-    }
-    memory
-}
-
-fn put(memory: &mut [u8], bank: Bank, element: usize, word: u32) {
-    let at = offset(bank, element);
-    match bank {
-        Bank::X | Bank::C => memory[at] = word as u8,
-        Bank::V | Bank::N => memory[at..at + 2].copy_from_slice(&(word as u16).to_le_bytes()),
-        Bank::D | Bank::R => memory[at..at + 4].copy_from_slice(&word.to_le_bytes()),
-    }
-}
-
-// Small numbers, so that most formulas have a value.
-fn tame(random: &mut Random, memory: &mut [u8]) {
-    for bank in BANKS {
-        for element in 0..bank.cells() {
-            let small = random.word();
-            let word = match bank {
-                Bank::X | Bank::C => small & 1,
-                Bank::V => small & 0x3F,
-                Bank::N | Bank::D => (small & 0x7F).wrapping_sub(40),
-                Bank::R => (((small & 0xFFF) as i32 - 1500) as f32 / 16.0).to_bits(),
-            };
-            put(memory, bank, element, word);
-        }
-    }
-}
-
-// Any numbers, those at the borders more often; now and then an infinity or a NaN.
-fn mixed(random: &mut Random, memory: &mut [u8]) {
-    random.fill(memory);
-    for bank in BANKS {
-        for element in 0..bank.cells() {
-            let word = match bank {
-                Bank::R if random.one_in(20) => *random.pick(&[0x7F80_0000, 0xFF80_0000, 0x7FC0_0000, 0xFF80_0001]),
-                Bank::R => random.real().to_bits(),
-                _ => random.integer() as u32,
-            };
-            put(memory, bank, element, word);
-        }
     }
 }
 

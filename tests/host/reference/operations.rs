@@ -1,11 +1,14 @@
 //! The four operations: which answer comes first, and what each one writes.
 
-use crate::code::{check as check_code, compile as compile_tree, encode, run as run_code, Instruction};
-use crate::grammar::parse;
-use crate::memory::{set_flag, store, target_cell, Bank, MEMORY_BYTES};
-use crate::text::Refusal;
-use crate::tree::Tree;
-use crate::value::{Fault, Kind, Value};
+use super::check::check as check_code;
+use super::code::{encode, Instruction, INSTRUCTION_BYTES};
+use super::compile::compile as compile_tree;
+use super::grammar::parse;
+use super::machine::{run as run_code, Stop};
+use super::memory::{set_flag, store, target_cell, Bank, MEMORY_BYTES};
+use super::text::Refusal;
+use super::tree::{worth, Tree};
+use super::value::{Fault, Kind, Value};
 
 pub const CODE_BYTES: usize = 16384;
 pub const TEXT_BYTES: usize = 1024;
@@ -48,16 +51,24 @@ pub fn read_text(expr: &[u8]) -> Result<Tree, Refusal> {
     parse(expr)
 }
 
-fn code_of(expr: &[u8]) -> Result<Vec<Instruction>, Refusal> {
-    let mut code = Vec::new();
-    compile_tree(&read_text(expr)?, &mut code);
-    Ok(code)
-}
-
-fn write_code(instructions: &[Instruction], code: &mut [u8]) {
-    for (instruction, bytes) in instructions.iter().zip(code.chunks_exact_mut(8)) {
+// Writes the code of a text and gives the number of instructions.
+fn write_code(expr: &[u8], code: &mut [u8]) -> Result<usize, Refusal> {
+    let mut instructions: Vec<Instruction> = Vec::new();
+    compile_tree(&read_text(expr)?, &mut instructions);
+    for (instruction, bytes) in instructions.iter().zip(code.chunks_exact_mut(INSTRUCTION_BYTES)) {
         bytes.copy_from_slice(&encode(*instruction));
     }
+    Ok(instructions.len())
+}
+
+// A run of code that the check accepts, or that was just compiled.
+fn run_accepted(code: &[u8], instructions: usize, memory: &[u8]) -> (Result<Value, Fault>, u32) {
+    let (result, count) = run_code(code, instructions, memory);
+    let result = result.map_err(|stop| match stop {
+        Stop::Fault(fault) => fault,
+        Stop::Stuck => panic!("accepted code is stuck"),
+    });
+    (result, count)
 }
 
 // Stores what a run gave, or turns on its flag.
@@ -76,12 +87,9 @@ pub fn compile(expr: &[u8], code: &mut [u8]) -> Report {
     if code.len() < CODE_BYTES {
         return Report::answer(10);
     }
-    match code_of(expr) {
+    match write_code(expr, code) {
         Err(refusal) => Report::refused(refusal),
-        Ok(instructions) => {
-            write_code(&instructions, code);
-            Report { count: instructions.len() as u32, ..Report::default() }
-        }
+        Ok(instructions) => Report { count: instructions as u32, ..Report::default() },
     }
 }
 
@@ -94,8 +102,10 @@ pub fn run(code: &[u8], instructions: usize, memory: &mut [u8], target: &[u8]) -
         return Report::answer(1);
     }
     let Some(cell) = target_cell(target) else { return Report::answer(2) };
-    let Some(checked) = check_code(code, instructions) else { return Report::answer(15) };
-    let outcome = run_code(&checked, memory);
+    if check_code(code, instructions).is_none() {
+        return Report::answer(15);
+    }
+    let outcome = run_accepted(code, instructions, memory);
     settle(memory, cell, outcome)
 }
 
@@ -107,11 +117,10 @@ pub fn compile_and_run(target: &[u8], expr: &[u8], memory: &mut [u8], code: &mut
         return Report::answer(10);
     }
     let Some(cell) = target_cell(target) else { return Report::answer(2) };
-    match code_of(expr) {
+    match write_code(expr, code) {
         Err(refusal) => Report::refused(refusal),
         Ok(instructions) => {
-            write_code(&instructions, code);
-            let outcome = run_code(&instructions, memory);
+            let outcome = run_accepted(code, instructions, memory);
             settle(memory, cell, outcome)
         }
     }
@@ -123,8 +132,8 @@ pub fn walk(target: &[u8], expr: &[u8], memory: &mut [u8]) -> Report {
     match read_text(expr) {
         Err(refusal) => Report::refused(refusal),
         Ok(tree) => {
-            let worth = crate::tree::worth(&tree, memory);
-            settle(memory, cell, (worth, 0))
+            let result = worth(&tree, memory);
+            settle(memory, cell, (result, 0))
         }
     }
 }

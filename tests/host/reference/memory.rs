@@ -1,6 +1,6 @@
 //! The lent memory: its banks, its cells, its flags and the store.
 
-use crate::value::{Fault, Kind, Value};
+use super::value::{Fault, Kind, Value};
 
 pub const MEMORY_BYTES: usize = 3204;
 
@@ -38,7 +38,7 @@ impl Bank {
         [1, 1, 2, 2, 4, 4][self as usize]
     }
 
-    fn start(self) -> usize {
+    pub fn start(self) -> usize {
         [0, 64, 128, 640, 1152, 2176][self as usize]
     }
 }
@@ -97,15 +97,19 @@ pub fn read(memory: &[u8], bank: Bank, element: usize) -> Result<Value, Fault> {
     }
 }
 
-/// Reads the cell whose number is worked out at run time. A real below zero names none, however little it lies below.
-pub fn read_indexed(memory: &[u8], bank: Bank, index: Value) -> Result<Value, Fault> {
+/// The element that an index names. A real below zero names none, however little it lies below.
+pub fn element(index: Value, cells: usize) -> Result<usize, Fault> {
     if matches!(index, Value::Real(r) if r < 0.0) {
         return Err(Fault::IndexError);
     }
     match usize::try_from(index.trunc()?) {
-        Ok(element) if element < bank.cells() => read(memory, bank, element),
+        Ok(element) if element < cells => Ok(element),
         _ => Err(Fault::IndexError),
     }
+}
+
+pub fn read_indexed(memory: &[u8], bank: Bank, index: Value) -> Result<Value, Fault> {
+    read(memory, bank, element(index, bank.cells())?)
 }
 
 pub fn store(memory: &mut [u8], (bank, element): (Bank, usize), v: Value) -> Result<(), Fault> {

@@ -1,0 +1,88 @@
+//! What the programs of cases must read and print, by the second implementation: expected.sh runs this at the root of the
+//! repository. Files that were other are written anew and named; then the exit status is 1.
+
+mod codes;
+mod literals;
+mod memory;
+mod replies;
+mod texts;
+mod values;
+
+// The host's tests use what is left.
+#[allow(dead_code)]
+#[path = "../reference/mod.rs"]
+mod reference;
+
+use std::fs;
+use std::process::exit;
+
+use reference::machine::Stop;
+use reference::value::{Fault, Value};
+
+/// A file under crates/ and what it must hold.
+type Expected = (&'static str, Vec<u8>);
+
+fn main() {
+    match run() {
+        Ok(0) => {}
+        Ok(_) => exit(1),
+        Err(error) => {
+            println!("{error}");
+            exit(2);
+        }
+    }
+}
+
+// Gives the number of files that were other.
+fn run() -> Result<usize, String> {
+    let files = all()?;
+    let mut changed = 0;
+    for (name, wanted) in &files {
+        let path = format!("crates/{name}");
+        if fs::read(&path).is_ok_and(|stored| stored == *wanted) {
+            continue;
+        }
+        fs::write(&path, wanted).map_err(|error| format!("{path}: {error}"))?;
+        println!("{path} is written anew");
+        changed += 1;
+    }
+    println!("{} files of cases, {changed} changed", files.len());
+    Ok(changed)
+}
+
+fn all() -> Result<Vec<Expected>, String> {
+    let (texts_in, texts_out) = texts::files()?;
+    let (codes_in, codes_out) = codes::files();
+    Ok(vec![
+        ("value_cases/stdout", values::lines().into()),
+        ("literal_cases/stdout", literals::lines().into()),
+        ("memory_cases/stdout", memory::lines().into()),
+        ("text_cases/stdin", texts_in),
+        ("text_cases/stdout", texts_out.into()),
+        ("code_cases/stdin", codes_in.into()),
+        ("code_cases/stdout", codes_out.into()),
+        ("vector_cases/stdout", replies::of_list("vector_cases/stdin")?.into()),
+        ("formula/stdout", replies::of_one("formula/stdin")?.into()),
+    ])
+}
+
+/// `i` and a signed decimal, or `r` and a pattern.
+fn shown(value: Value) -> String {
+    match value {
+        Value::Int(i) => format!("i{i}"),
+        Value::Real(r) => format!("r{:08X}", r.to_bits()),
+    }
+}
+
+/// A value, `!` and a fault's number, or `?`.
+fn shown_end(end: Result<Value, Stop>) -> String {
+    match end {
+        Ok(value) => shown(value),
+        Err(Stop::Fault(fault)) => shown_fault(fault),
+        Err(Stop::Stuck) => "?".into(),
+    }
+}
+
+fn shown_fault(fault: Fault) -> String {
+    format!("!{}", fault as u32)
+}

@@ -1,0 +1,81 @@
+//! The check of code.
+
+use super::code::Instruction::{self, *};
+use super::code::{at, HEIGHT_LIMIT, INSTRUCTION_LIMIT};
+use super::operators::{binary_kind, unary_kind};
+use super::value::Kind;
+
+/// The kind of the one value at the end, if the check accepts so many instructions.
+pub fn check(bytes: &[u8], number: usize) -> Option<Kind> {
+    if number == 0 || number > INSTRUCTION_LIMIT {
+        return None;
+    }
+    let code: Vec<Instruction> = (0..number).map(|place| at(bytes, place)).collect::<Option<_>>()?;
+    let inside = |at: usize| jump_target(&code, at).is_none_or(|target| target <= code.len());
+    if !(0..code.len()).all(inside) {
+        return None;
+    }
+    match kinds_at_end(&code)?[..] {
+        [kind] => Some(kind),
+        _ => None,
+    }
+}
+
+fn jump_target(code: &[Instruction], at: usize) -> Option<usize> {
+    match code[at] {
+        Jump(distance) | JumpIf(_, distance) => Some(at + 1 + distance as usize),
+        _ => None,
+    }
+}
+
+// Goes through the code once: jumps go forward, so a place's kinds are known before it is met. `coming` has
+// the kinds with which a jump arrives at a place.
+fn kinds_at_end(code: &[Instruction]) -> Option<Vec<Kind>> {
+    let mut coming: Vec<Option<Vec<Kind>>> = vec![None; code.len() + 1];
+    let mut held = Some(Vec::new());
+    for at in 0..code.len() {
+        held = meet(held, coming[at].take())?;
+        let Some(kinds) = &mut held else { continue };
+        step(code[at], kinds)?;
+        if let Some(target) = jump_target(code, at) {
+            coming[target] = meet(Some(kinds.clone()), coming[target].take())?;
+        }
+        if matches!(code[at], Jump(_)) {
+            held = None;
+        }
+    }
+    meet(held, coming[code.len()].take())?
+}
+
+// The kinds at a place that two ways may reach; the outer None if they differ.
+fn meet(a: Option<Vec<Kind>>, b: Option<Vec<Kind>>) -> Option<Option<Vec<Kind>>> {
+    match (a, b) {
+        (Some(a), Some(b)) if a != b => None,
+        (Some(a), _) => Some(Some(a)),
+        (None, b) => Some(b),
+    }
+}
+
+fn step(instruction: Instruction, held: &mut Vec<Kind>) -> Option<()> {
+    let left = match instruction {
+        Push(v) => v.kind(),
+        Load(bank, _) => bank.kind(),
+        LoadIndexed(bank) => {
+            held.pop()?;
+            bank.kind()
+        }
+        Unary(op) => taken(unary_kind(op, held.pop()?))?,
+        Binary(op) => {
+            let right = held.pop()?;
+            taken(binary_kind(op, held.pop()?, right))?
+        }
+        Jump(_) => return Some(()),
+        JumpIf(..) => return held.pop().map(|_| ()),
+    };
+    held.push(left);
+    (held.len() <= HEIGHT_LIMIT).then_some(())
+}
+
+fn taken((kind, taken): (Kind, bool)) -> Option<Kind> {
+    taken.then_some(kind)
+}

@@ -1,0 +1,16 @@
+//! A second implementation of the requirements. It shares nothing with the proved one: literals by exact fractions, values on the
+//! machine's own floats, the grammar by a parser with two stacks.
+
+pub mod check;
+pub mod code;
+pub mod compile;
+pub mod grammar;
+pub mod literal;
+pub mod machine;
+pub mod memory;
+pub mod operations;
+pub mod operators;
+pub mod program;
+pub mod text;
+pub mod tree;
+pub mod value;
