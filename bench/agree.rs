@@ -1,57 +1,81 @@
-//! Inputs on which ours and the contestants are held to each other before anything is measured, so that they do not agree only on
-//! what is measured.
+//! Holds the library and the rival to each other before anything is measured, and not only on what is measured.
 
-use crate::formulas;
-use crate::machine::{instruction, Instruction};
-use crate::random::Random;
+use crate::data::{self, Formula};
+use crate::library::{self, Report, CODE_BYTES, MEMORY_BYTES};
+use crate::random::{formulas, texts, Random};
+use crate::rival;
 
 const SEED: u64 = 1;
 
-/// A text by its number: a formula, a damaged one, words, noise, or one at the borders of the length.
-pub fn text(number: usize) -> Vec<u8> {
+// A buffer of each kind for the library and for the rival.
+struct Sides {
+    memories: [Vec<u8>; 2],
+    codes: [Vec<u8>; 2],
+}
+
+impl Sides {
+    fn new(memory: Vec<u8>) -> Sides {
+        Sides { memories: [memory.clone(), memory], codes: [vec![0; CODE_BYTES], vec![0; CODE_BYTES]] }
+    }
+
+    // Both compile and run, then check and run again what was compiled. The instructions are each one's own, but as many.
+    fn same(&mut self, Formula { target, text }: &Formula) -> Report {
+        let [ours, theirs] = &mut self.memories;
+        let [code, other] = &mut self.codes;
+        let same = |a: Report, b: Report| assert_eq!(a, b, "{}", String::from_utf8_lossy(text));
+        let report = library::compile_and_run(target, text, ours, code);
+        same(report, rival::compile_and_run(target, text, theirs, other));
+        let compiled = library::compile(text, code);
+        same(compiled, rival::compile(text, other));
+        if compiled.answer == 0 {
+            let n = compiled.count as usize;
+            same(library::check(code, n), rival::check(other, n));
+            same(library::run(code, n, ours, target), rival::run(other, n, theirs, target));
+        }
+        assert!(ours == theirs, "memory: {}", String::from_utf8_lossy(text));
+        report
+    }
+}
+
+// A text by its number: a formula, a damaged one, words, noise, or one at the borders of the length.
+fn text(number: usize) -> Vec<u8> {
     let mut random = Random::new(SEED, number as u64);
     match number % 8 {
         0..=2 => formulas::formula(&mut random),
         3 | 4 => {
             let good = formulas::formula(&mut random);
-            formulas::damaged(&mut random, &good)
+            texts::damaged(&mut random, &good)
         }
-        5 => formulas::one_word(&mut random),
-        6 => formulas::noise(&mut random),
-        _ => formulas::long(&mut random),
+        5 => texts::one_word(&mut random),
+        6 => texts::noise(&mut random),
+        _ => texts::long(&mut random),
     }
 }
 
-/// A memory by its number: any bytes.
-pub fn memory(number: usize) -> Vec<u8> {
-    let mut memory = vec![0; crate::image::BYTES];
+fn target(number: usize) -> Vec<u8> {
+    let bank = b"CVNDRX"[number % 6] as char;
+    format!("{bank}{}", number / 6 % 70).into()
+}
+
+fn memory(number: usize) -> Vec<u8> {
+    let mut memory = vec![0; MEMORY_BYTES];
     Random::new(!SEED, number as u64).fill(&mut memory);
     memory
 }
 
-fn random_instruction(random: &mut Random) -> Instruction {
-    let word = *random.pick(&[0, 1, 2, 63, 64, 255, 256, 0x3F000000, 0x7F800000]);
-    match random.below(10) as u8 {
-        0 => instruction(1, 0, word),
-        3 => instruction(3, random.below(7) as u8, word),
-        4 => instruction(4, random.below(7) as u8, 0),
-        5 => instruction(5, random.below(9) as u8, 0),
-        6 => instruction(6, random.below(21) as u8, 0),
-        opcode => instruction(opcode, 0, word),
+pub fn compare(texts: usize) {
+    let mut sides = Sides::new(data::memory());
+    for formula in data::all().iter().flat_map(|scan| &scan.formulas) {
+        assert_eq!(sides.same(formula).answer, 0, "{}", String::from_utf8_lossy(&formula.text));
     }
-}
-
-/// Code by its number, with the number of instructions that is to be checked: at times one more than there are.
-pub fn code(number: usize) -> (Vec<u8>, usize) {
-    let mut random = Random::new(SEED + 1, number as u64);
-    let n = 1 + random.below(9);
-    let code: Vec<Instruction> = (0..n).map(|_| random_instruction(&mut random)).collect();
-    (code.concat(), n + random.below(20) / 19)
-}
-
-/// Code that holds so many values at once: random code never comes near the most.
-pub fn high(values: usize) -> Vec<u8> {
-    let pushes = [instruction(1, 0, 1)].repeat(values);
-    let sums = [instruction(6, 4, 0)].repeat(values - 1);
-    [pushes, sums].concat().concat()
+    let mut answers = [0; 16];
+    for number in 0..texts {
+        // A new memory now and then, so that flags and stored values do not pile up.
+        if number % 16 == 0 {
+            sides = Sides::new(if number % 32 == 0 { data::memory() } else { memory(number) });
+        }
+        let formula = Formula { target: target(number), text: text(number) };
+        answers[sides.same(&formula).answer as usize] += 1;
+    }
+    println!("the same on {texts} texts (answers 0 to 15: {answers:?})");
 }

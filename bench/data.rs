@@ -1,14 +1,14 @@
 //! The formulas that are measured and the memory that they run on, from the text files beside this one.
 
-use crate::image::{self, store};
-use crate::values::Value;
+use crate::reference::memory::{cell_name, store, Bank, MEMORY_BYTES};
+use crate::reference::value::Value;
 
 pub struct Formula {
     pub target: Vec<u8>,
     pub text: Vec<u8>,
 }
 
-/// A scan of forty formulas.
+/// Formulas that run one after the other.
 pub struct Scan {
     pub name: String,
     pub formulas: Vec<Formula>,
@@ -22,18 +22,12 @@ fn lines(file: &str) -> impl Iterator<Item = &str> {
 }
 
 pub fn memory() -> Vec<u8> {
-    let mut memory = vec![0; image::BYTES];
+    let mut memory = vec![0; MEMORY_BYTES];
     for line in lines(include_str!("memory.txt")) {
         let (name, value) = line.split_once('=').expect("cell=value");
-        let bank = image::bank(name.as_bytes()[0]).expect("a bank");
-        let element = image::element(bank, &name.as_bytes()[1..]).expect("an element");
-        if bank == 0 {
-            // inputs are no targets
-            memory[element as usize] = value.parse().expect("a bit");
-            continue;
-        }
+        let Some((bank, Some(element))) = cell_name(name.as_bytes()) else { panic!("{name} is no cell") };
         let value = match bank {
-            image::REAL_BANK => Value::Real(value.parse().expect("a real")),
+            Bank::R => Value::Real(value.parse().expect("a real")),
             _ => Value::Int(value.parse().expect("an integer")),
         };
         store(&mut memory, (bank, element), value).expect("a value that fits");
@@ -41,21 +35,36 @@ pub fn memory() -> Vec<u8> {
     memory
 }
 
+pub fn all() -> Vec<Scan> {
+    let mut all = worst();
+    all.extend(texts());
+    all.push(corpus());
+    all
+}
+
 /// The formulas of a dye works.
 pub fn corpus() -> Scan {
     let formula = |line: &str| {
         let (target, text) = line.split_once('=').expect("target=expr");
-        Formula {
-            target: target.into(),
-            text: text.into(),
-        }
+        Formula { target: target.into(), text: text.into() }
     };
     let formulas: Vec<Formula> = lines(include_str!("corpus.txt")).map(formula).collect();
     assert_eq!(formulas.len(), SCAN);
-    Scan {
-        name: "corpus".into(),
-        formulas,
-    }
+    Scan { name: "corpus".into(), formulas }
+}
+
+/// Single formulas: the one of the requirements; one of the greatest length with a bit of everything; one of short numbers.
+pub fn texts() -> Vec<Scan> {
+    let mixed = "IF(D12 > 5 && X3, MAX(V[7], -N255) * 2, 0x1F) + (R10 / 2.5 - ABS(R11)) ** 2 + (C1 | 6 << 1) - ";
+    let one = |name: &str, text: Vec<u8>| {
+        let formulas = vec![Formula { target: b"R200".into(), text }];
+        Scan { name: name.into(), formulas }
+    };
+    vec![
+        one("(D1 + 2) / 4.0", b"(D1 + 2) / 4.0".into()),
+        one("a mixed formula", longest("", mixed, "1")),
+        one("short numbers", longest("", "1+23*4-", "5")),
+    ]
 }
 
 /// Scans of the dearest formulas of the greatest length. Each has the same text forty times, with a target for each.
@@ -65,22 +74,13 @@ pub fn worst() -> Vec<Scan> {
 
 fn worst_scan(line: &str) -> Scan {
     let words: Vec<&str> = line.split(' ').collect();
-    let [name, first, unit, ref last @ ..] = words[..] else {
-        panic!("name first unit last")
-    };
+    let [name, first, unit, ref last @ ..] = words[..] else { panic!("name first unit last") };
     let text = longest(first, unit, last.first().unwrap_or(&""));
-    let formulas = (0..SCAN)
-        .map(|i| Formula {
-            target: format!("R{}", 200 + i).into(),
-            text: text.clone(),
-        })
-        .collect();
-    Scan {
-        name: name.into(),
-        formulas,
-    }
+    let formula = |i| Formula { target: format!("R{}", 200 + i).into(), text: text.clone() };
+    Scan { name: name.into(), formulas: (0..SCAN).map(formula).collect() }
 }
 
+// The first part, as many units as fit before the last, and spaces.
 fn longest(first: &str, unit: &str, last: &str) -> Vec<u8> {
     let units = (LONGEST - first.len() - last.len()) / unit.len();
     format!("{:<LONGEST$}", [first, &unit.repeat(units), last].concat()).into_bytes()

@@ -1,9 +1,9 @@
 #!/bin/sh
-# Builds the libraries bench_c and formula_c and measures them beside plain Rust: sh bench/run.sh [BATCHES [TEXTS]]
-# A row is the least of so many batches; before that, all must agree on so many random texts. A part whose tool is missing is left
-# out, and said so.
+# Builds the library and measures it beside its rival, plain Rust: sh bench/run.sh [BATCHES [TEXTS]]
+# A row is the least of so many batches; before that, both must agree on so many random texts. A part whose tool is missing is
+# left out, and said so.
 cd "$(dirname "$0")/.." || exit 1
-libraries=target/staticlib
+library=target/staticlib
 out=target/bench
 data="bench/memory.txt bench/corpus.txt bench/worst.txt"
 # a controller of 100 MHz that does an instruction a cycle, for 50 ms
@@ -22,33 +22,22 @@ fail() {
     failed=1
 }
 
-build_libraries() {
-    have rt "the libraries are taken as they lie in $libraries" || return
-    rt staticlib bench_c || fail "rt staticlib bench_c"
+build_library() {
+    have rt "the library is taken as it lies in $library" || return
     sh include/build.sh || fail "include/build.sh"
 }
 
-# One codegen unit, so that the contestants lose nothing by being written in several files.
-build() {
-    rustc --edition 2021 -C opt-level=3 -C codegen-units=1 --check-cfg 'cfg(parts,library)' -L "$libraries" "$@" bench/main.rs
-}
-
+# One codegen unit, so that the rival loses nothing by being written in several files.
 measure_times() {
     have "rustc cc" "no times" || return
-    if build --cfg parts --cfg library -o "$out/bench" 2> "$out/link.txt"; then
-        "$out/bench" "$@" || fail "bench"
-        return
-    fi
-    echo "not linked into one program (see $out/link.txt), so two:"
-    for half in parts library; do
-        build --cfg "$half" -o "$out/bench_$half" && "$out/bench_$half" "$@" || fail "bench_$half"
-    done
+    rustc --edition 2021 -C opt-level=3 -C codegen-units=1 -L "$library" -o "$out/bench" bench/main.rs || { fail "main.rs"; return; }
+    "$out/bench" "$@" || fail "bench"
 }
 
 # The archive is the one that a controller takes, with its own remainder. Symbols are resolved at the start, so that no call pays for
 # that.
 build_c() {
-    cc -std=gnu11 -Wall -Wextra -O2 -I include -Wl,-z,now -o "$out/$1" "bench/$1.c" bench/texts.c -L "$libraries" -lformula_bare
+    cc -std=gnu11 -Wall -Wextra -O2 -I include -Wl,-z,now -o "$out/$1" "bench/$1.c" bench/texts.c -L "$library" -lformula_bare
 }
 
 part() {
@@ -84,14 +73,14 @@ count_instructions() {
 }
 
 text_of() {
-    cc -O2 -I include -Wl,--gc-sections -o "$out/linked" -x c - -x none -L "$libraries" -lformula_bare && size "$out/linked" |
+    cc -O2 -I include -Wl,--gc-sections -o "$out/linked" -x c - -x none -L "$library" -lformula_bare && size "$out/linked" |
         awk 'NR == 2 { print $1 }'
 }
 
 measure_sizes() {
     have "size awk" "no sizes" || return
     echo
-    size -t "$libraries/libformula_bare.a" |
+    size -t "$library/libformula_bare.a" |
         awk 'END { print "text of all " NR - 2 " members of libformula_bare.a: " $1 " bytes, data " $2 ", bss " $3 }'
     have cc "no size of what is linked" || return
     # what the four operations add to a program that does nothing
@@ -113,7 +102,7 @@ measure_stacks() {
     "$out/stack" $data || fail "stack"
 }
 
-build_libraries
+build_library
 measure_times "$@"
 count_instructions
 measure_sizes

@@ -1,33 +1,7 @@
 //! The C library, called on buffers with guard bytes around them.
 
+use crate::header::*;
 use crate::reference::operations::Report;
-
-#[link(name = "formula_c", kind = "static")]
-extern "C" {
-    fn formula_compile(expr: *const u8, expr_len: usize, code: *mut u8, code_len: usize, report: *mut Report);
-    fn formula_check(code: *const u8, code_len: usize, instructions: usize, report: *mut Report);
-    fn formula_run(
-        code: *const u8,
-        code_len: usize,
-        instructions: usize,
-        memory: *mut u8,
-        memory_len: usize,
-        target: *const u8,
-        target_len: usize,
-        report: *mut Report,
-    );
-    fn formula_compile_and_run(
-        target: *const u8,
-        target_len: usize,
-        expr: *const u8,
-        expr_len: usize,
-        memory: *mut u8,
-        memory_len: usize,
-        code: *mut u8,
-        code_len: usize,
-        report: *mut Report,
-    );
-}
 
 const GUARD: usize = 24;
 const GUARD_BYTE: u8 = 0xA5;

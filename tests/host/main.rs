@@ -5,6 +5,7 @@
 
 mod compare;
 mod examples;
+mod header;
 mod library;
 mod random;
 mod reference;

@@ -1,9 +1,7 @@
-//! The tokens of a formula in plain Rust: answers 4, 5 and 6.
+//! The tokens of a formula: answers 4, 5 and 6.
 
-#![forbid(unsafe_code)]
-
-use crate::image::{bank, element, REAL_BANK};
-use crate::values::Kind;
+use super::image::{bank, element, REAL_BANK};
+use super::values::Kind;
 
 #[derive(Clone, Copy)]
 pub enum Function {
@@ -81,11 +79,7 @@ pub fn numeral(run: &[u8]) -> Result<Token, u32> {
         }
     }
     let Some(d) = dot else {
-        return if n <= i32::MAX as u64 {
-            Ok(Token::Number(Kind::Int, n as u32))
-        } else {
-            Err(5)
-        };
+        return if n <= i32::MAX as u64 { Ok(Token::Number(Kind::Int, n as u32)) } else { Err(5) };
     };
     let places = run.len() - d - 1;
     if places == 0 {
@@ -174,12 +168,7 @@ pub struct Scanner<'a> {
 impl Scanner<'_> {
     pub fn new(text: &[u8]) -> Scanner<'_> {
         // any token will do before the first one is read
-        Scanner {
-            text,
-            token: Token::Comma,
-            place: 0,
-            end: 0,
-        }
+        Scanner { text, token: Token::Comma, place: 0, end: 0 }
     }
 
     fn byte(&self, at: usize) -> u8 {

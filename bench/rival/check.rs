@@ -1,9 +1,7 @@
-//! The check of code in plain Rust: one pass, since jumps go forward. Kinds held are bits, 1 for a real, the last pushed lowest.
+//! The check of code: one pass, since jumps go forward. Kinds held are bits, 1 for a real, the last pushed lowest.
 
-#![forbid(unsafe_code)]
-
-use crate::image::REAL_BANK;
-use crate::machine::{decode, taken};
+use super::image::REAL_BANK;
+use super::machine::{decode, taken, BINARY, JUMP, LOAD, LOAD_INDEXED, PUSH_REAL, UNARY};
 
 #[derive(Clone, Copy, PartialEq)]
 struct Held {
@@ -24,10 +22,7 @@ impl Arrivals {
         if top == 0 {
             return None;
         }
-        Some(Held {
-            height: top - 1,
-            kinds: self.kinds[place],
-        })
+        Some(Held { height: top - 1, kinds: self.kinds[place] })
     }
 
     // None where another jump brings something else.
@@ -45,33 +40,27 @@ impl Arrivals {
     }
 }
 
-/// 0 or 1 for code that ends with an integer or a real, 15 for code that is refused.
+/// Whether the check accepts so many instructions.
 #[inline(never)]
-pub fn check(code: &[u8], n: usize) -> u32 {
-    accepted(code, n).unwrap_or(15)
+pub fn accepts(code: &[u8], n: usize) -> bool {
+    n > 0 && n <= 2048 && height_at_end(code, n) == Some(1)
 }
 
-fn accepted(code: &[u8], n: usize) -> Option<u32> {
-    if n == 0 || n > 2048 {
-        return None;
-    }
-    let mut arrivals = Arrivals {
-        tops: vec![0; n + 1],
-        kinds: vec![0; n + 1],
-    };
+fn height_at_end(code: &[u8], n: usize) -> Option<usize> {
+    let mut arrivals = Arrivals { tops: vec![0; n + 1], kinds: vec![0; n + 1] };
     let mut held = Some(Held { height: 0, kinds: 0 });
     for place in 0..n {
         let (opcode, operand, word) = decode(code, place)?;
         let skipped = word as usize;
-        if opcode >= 7 && skipped > n - place - 1 {
+        if opcode >= JUMP && skipped > n - place - 1 {
             return None;
         }
         if let Some(now) = &mut held {
             step(opcode, operand, now)?;
-            if opcode >= 7 {
+            if opcode >= JUMP {
                 arrivals.add(place + 1 + skipped, *now)?;
             }
-            if opcode == 7 {
+            if opcode == JUMP {
                 held = None;
             }
         }
@@ -82,12 +71,7 @@ fn accepted(code: &[u8], n: usize) -> Option<u32> {
             held = Some(there);
         }
     }
-    let end = held?;
-    if end.height == 1 {
-        Some((end.kinds & 1) as u32)
-    } else {
-        None
-    }
+    held.map(|end| end.height)
 }
 
 // What an instruction makes of what is held, None where it needs more or other kinds.
@@ -100,7 +84,7 @@ fn step(opcode: u8, operand: u8, held: &mut Held) -> Option<()> {
     let leaves = kind_left(opcode, operand, held.kinds)?;
     held.height -= takes;
     held.kinds >>= takes;
-    if opcode < 7 {
+    if opcode < JUMP {
         if held.height == 128 {
             return None;
         }
@@ -116,15 +100,15 @@ fn kind_left(opcode: u8, operand: u8, kinds: u128) -> Option<u8> {
     let right = (kinds & 1) as u8;
     let left = (kinds >> 1 & 1) as u8;
     match (opcode, operand) {
-        (2, _) => Some(1),
-        (3 | 4, bank) => Some((bank == REAL_BANK) as u8),
-        (5, 0 | 3) => Some(right),
-        (5, 1) if right == 1 => None,
-        (5, 4 | 7) => Some(1),
-        (6, 0) if right == 1 => None,
-        (6, 0) => Some(left),
-        (6, 1..=5 | 18 | 19) => Some(left | right),
-        (6, 6..=8 | 15..=17) if left | right == 1 => None,
+        (PUSH_REAL, _) => Some(1),
+        (LOAD | LOAD_INDEXED, bank) => Some((bank == REAL_BANK) as u8),
+        (UNARY, 0 | 3) => Some(right),
+        (UNARY, 1) if right == 1 => None,
+        (UNARY, 4 | 7) => Some(1),
+        (BINARY, 0) if right == 1 => None,
+        (BINARY, 0) => Some(left),
+        (BINARY, 1..=5 | 18 | 19) => Some(left | right),
+        (BINARY, 6..=8 | 15..=17) if left | right == 1 => None,
         _ => Some(0),
     }
 }

@@ -1,8 +1,6 @@
-//! The memory in plain Rust: cells read and stored, flags, and the names of targets.
+//! The memory: cells read and stored, flags, and the names of targets.
 
-#![forbid(unsafe_code)]
-
-use crate::values::{Outcome, Stop, Value};
+use super::values::{Outcome, Stop, Value};
 
 use Value::{Int, Real};
 

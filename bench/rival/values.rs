@@ -1,7 +1,4 @@
-//! Values and the operators on them, as the plain Rust machine and the tree walker both use them. Operators have the numbers of
-//! docs/INSTRUCTIONS.md.
-
-#![forbid(unsafe_code)]
+//! Values and the operators on them, by their numbers.
 
 #[derive(Clone, Copy, PartialEq, Debug)]
 pub enum Kind {
@@ -89,6 +86,9 @@ fn bit(t: bool) -> Outcome {
     Ok(Int(t as i32))
 }
 
+/// - ~ ! ABS TOREAL TRUNC ROUND FRAC, numbered from 0.
+pub const UNARIES: u8 = 8;
+
 pub fn unary(operator: u8, v: Value) -> Outcome {
     match (operator, v) {
         (0, Int(z)) => exact(z.checked_neg()),
@@ -105,6 +105,9 @@ pub fn unary(operator: u8, v: Value) -> Outcome {
         (_, v) => Ok(v),
     }
 }
+
+/// ** * / % + - << >> >>> < > <= >= == != & ^ | MAX MIN, numbered from 0.
+pub const BINARIES: u8 = 20;
 
 pub fn binary(operator: u8, a: Value, b: Value) -> Outcome {
     if let (Int(x), Int(y)) = (a, b) {

@@ -1,11 +1,20 @@
-//! The run of docs/INSTRUCTIONS.md in plain Rust. It takes any bytes for code, so it decodes and tests the height at each step.
+//! The run. It takes any bytes for code, so it decodes and tests the height at each step.
 
-#![forbid(unsafe_code)]
-
-use crate::image::{elements, read, read_indexed};
-use crate::values::{binary, unary, Outcome, Stop, Value};
+use super::image::{elements, read, read_indexed, REAL_BANK};
+use super::values::{binary, unary, Outcome, Stop, Value, BINARIES, UNARIES};
 
 pub type Instruction = [u8; 8];
+
+// Opcodes. A load has its bank, and an operator its number, for its operand. Jumps come last: they leave nothing.
+pub const PUSH_INT: u8 = 1;
+pub const PUSH_REAL: u8 = 2;
+pub const LOAD: u8 = 3;
+pub const LOAD_INDEXED: u8 = 4;
+pub const UNARY: u8 = 5;
+pub const BINARY: u8 = 6;
+pub const JUMP: u8 = 7;
+pub const JUMP_IF_FALSE: u8 = 8;
+pub const JUMP_IF_TRUE: u8 = 9;
 
 pub fn instruction(opcode: u8, operand: u8, word: u32) -> Instruction {
     let [a, b, c, d] = word.to_le_bytes();
@@ -23,12 +32,12 @@ pub fn decode(code: &[u8], place: usize) -> Option<(u8, u8, u32)> {
     }
     let (opcode, operand, word) = (whole as u8, (whole >> 8) as u8, (whole >> 32) as u32);
     let good = match opcode {
-        1 | 7 | 8 | 9 => operand == 0,
-        2 => operand == 0 && f32::from_bits(word).is_finite(),
-        3 => operand < 6 && word < elements(operand),
-        4 => operand < 6 && word == 0,
-        5 => operand < 8 && word == 0,
-        6 => operand < 20 && word == 0,
+        PUSH_INT | JUMP | JUMP_IF_FALSE | JUMP_IF_TRUE => operand == 0,
+        PUSH_REAL => operand == 0 && f32::from_bits(word).is_finite(),
+        LOAD => operand <= REAL_BANK && word < elements(operand),
+        LOAD_INDEXED => operand <= REAL_BANK && word == 0,
+        UNARY => operand < UNARIES && word == 0,
+        BINARY => operand < BINARIES && word == 0,
         _ => false,
     };
     if good {
@@ -42,8 +51,8 @@ pub fn decode(code: &[u8], place: usize) -> Option<(u8, u8, u32)> {
 #[inline]
 pub fn taken(opcode: u8) -> usize {
     match opcode {
-        4 | 5 | 8 | 9 => 1,
-        6 => 2,
+        LOAD_INDEXED | UNARY | JUMP_IF_FALSE | JUMP_IF_TRUE => 1,
+        BINARY => 2,
         _ => 0,
     }
 }
@@ -68,11 +77,11 @@ impl Stack<'_> {
     #[inline]
     fn given(&mut self, opcode: u8, operand: u8, word: u32, image: &[u8]) -> Outcome {
         match opcode {
-            1 => Ok(Value::Int(word as i32)),
-            2 => Ok(Value::Real(f32::from_bits(word))),
-            3 => read(image, operand, word as usize),
-            4 => read_indexed(image, operand, self.pop()?),
-            5 => unary(operand, self.pop()?),
+            PUSH_INT => Ok(Value::Int(word as i32)),
+            PUSH_REAL => Ok(Value::Real(f32::from_bits(word))),
+            LOAD => read(image, operand, word as usize),
+            LOAD_INDEXED => read_indexed(image, operand, self.pop()?),
+            UNARY => unary(operand, self.pop()?),
             _ => {
                 let right = self.pop()?;
                 binary(operand, self.pop()?, right)
@@ -93,23 +102,20 @@ impl Stack<'_> {
     // Whether a jump is made.
     #[inline]
     fn jumps(&mut self, opcode: u8) -> Result<bool, Stop> {
-        Ok(opcode == 7 || self.pop()?.truth() == (opcode == 9))
+        Ok(opcode == JUMP || self.pop()?.truth() == (opcode == JUMP_IF_TRUE))
     }
 }
 
 // Runs to the end and counts the instructions begun.
 #[inline]
 fn go(code: &[u8], n: usize, image: &[u8], count: &mut usize) -> Outcome {
-    let mut stack = Stack {
-        values: &mut [Value::Int(0); 128],
-        height: 0,
-    };
+    let mut stack = Stack { values: &mut [Value::Int(0); 128], height: 0 };
     let mut place = 0;
     while place < n {
         *count += 1;
         let (opcode, operand, word) = decode(code, place).ok_or(Stop::Stuck)?;
         place += 1;
-        if opcode < 7 {
+        if opcode < JUMP {
             let v = stack.given(opcode, operand, word, image)?;
             stack.push(v)?;
         } else if stack.jumps(opcode)? {

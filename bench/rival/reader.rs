@@ -1,37 +1,14 @@
-//! A reader of formulas in plain Rust, written from the requirements and not from the proved code. One pass over the text with
-//! one token ahead. What it reads goes to a sink in the order of the instructions: to code, or to a tree. After a
-//! refusal by the grammar it goes on to read tokens, since a bad one anywhere comes first.
+//! A reader of formulas: one pass over the text with one token ahead, which writes the code as it reads. After a refusal by the
+//! grammar it goes on to read tokens, since a bad one anywhere comes first.
 
-#![forbid(unsafe_code)]
+use super::emit::Code;
+use super::tokens::{kind_of, Function, Read, Refusal, Scanner, Token, AND, MINUS, OR};
+use super::values::joined;
+use super::values::Kind::{self, Int, Real};
 
-use crate::tokens::{kind_of, Function, Read, Refusal, Scanner, Token, AND, MINUS, OR};
-use crate::values::joined;
-use crate::values::Kind::{self, Int, Real};
-
-/// Takes the parts of a formula, operands before their operator. A gap is where a jump goes that skips what comes next.
-pub trait Sink {
-    fn number(&mut self, kind: Kind, bits: u32);
-    fn cell(&mut self, bank: u8, element: u8);
-    fn indexed(&mut self, bank: u8);
-    fn unary(&mut self, operator: u8);
-    fn binary(&mut self, operator: u8);
-    /// After the left side of `&&` and `||`, and after the condition of IF. A tree has no jumps.
-    fn gap(&mut self) -> usize {
-        0
-    }
-    /// After the right side: `&&` (false) or `||` (true), the truth of the left side that decides.
-    fn decide(&mut self, decides: bool, gap: usize);
-    /// After the first branch of IF; gives the next gap.
-    fn branch(&mut self, _gap: usize) -> usize {
-        0
-    }
-    /// After the second branch, with the kinds of both.
-    fn choose(&mut self, gap: usize, first: Kind, second: Kind);
-}
-
-struct Reader<'a, S> {
+struct Reader<'a> {
     ahead: Scanner<'a>,
-    sink: &'a mut S,
+    code: &'a mut Code,
     // the first operator with an operand of a wrong kind
     wrong: Option<usize>,
 }
@@ -39,12 +16,9 @@ struct Reader<'a, S> {
 const LOOSEST: u8 = 11;
 const MOST_OPEN: u8 = 8;
 
-impl<S: Sink> Reader<'_, S> {
+impl Reader<'_> {
     fn refused<T>(&self, answer: u32) -> Read<T> {
-        Err(Refusal {
-            answer,
-            place: self.ahead.place,
-        })
+        Err(Refusal { answer, place: self.ahead.place })
     }
 
     fn advance(&mut self) -> Read<()> {
@@ -62,13 +36,13 @@ impl<S: Sink> Reader<'_, S> {
                 break;
             }
             let place = self.ahead.place;
-            let gap = if operator >= AND { self.sink.gap() } else { 0 };
+            let gap = if operator >= AND { self.code.gap() } else { 0 };
             self.advance()?;
             let right = self.expression(open, group - 1)?;
             if operator >= AND {
-                self.sink.decide(operator == OR, gap);
+                self.code.decide(operator == OR, gap);
             } else {
-                self.sink.binary(operator);
+                self.code.binary(operator);
             }
             left = self.infix(operator, place, left, right);
         }
@@ -124,9 +98,9 @@ impl<S: Sink> Reader<'_, S> {
     fn prefixes(&mut self, signs: &[u8]) {
         for sign in signs.iter().rev() {
             match sign {
-                b'-' => self.sink.unary(0),
-                b'~' => self.sink.unary(1),
-                b'!' => self.sink.unary(2),
+                b'-' => self.code.unary(0),
+                b'~' => self.code.unary(1),
+                b'!' => self.code.unary(2),
                 _ => {}
             }
         }
@@ -135,12 +109,12 @@ impl<S: Sink> Reader<'_, S> {
     fn primary(&mut self, open: u8) -> Read<Kind> {
         match self.ahead.token {
             Token::Number(kind, bits) => {
-                self.sink.number(kind, bits);
+                self.code.number(kind, bits);
                 self.advance()?;
                 Ok(kind)
             }
             Token::Cell(bank, element) => {
-                self.sink.cell(bank, element);
+                self.code.cell(bank, element);
                 self.advance()?;
                 Ok(kind_of(bank))
             }
@@ -164,7 +138,7 @@ impl<S: Sink> Reader<'_, S> {
         if !matches!(self.ahead.token, Token::CloseIndex) {
             return self.refused(7);
         }
-        self.sink.indexed(bank);
+        self.code.indexed(bank);
         self.advance()?;
         Ok(kind_of(bank))
     }
@@ -177,7 +151,7 @@ impl<S: Sink> Reader<'_, S> {
         let first = self.bracket(open)?;
         let kind = match function {
             Function::One(operator) => {
-                self.sink.unary(operator);
+                self.code.unary(operator);
                 match operator {
                     3 => first,
                     4 | 7 => Real,
@@ -186,15 +160,15 @@ impl<S: Sink> Reader<'_, S> {
             }
             Function::Two(operator) => {
                 let second = self.argument(open)?;
-                self.sink.binary(operator);
+                self.code.binary(operator);
                 joined(first, second)
             }
             Function::If => {
-                let gap = self.sink.gap();
+                let gap = self.code.gap();
                 let first = self.argument(open)?;
-                let gap = self.sink.branch(gap);
+                let gap = self.code.branch(gap);
                 let second = self.argument(open)?;
-                self.sink.choose(gap, first, second);
+                self.code.choose(gap, first, second);
                 joined(first, second)
             }
         };
@@ -244,16 +218,12 @@ impl<S: Sink> Reader<'_, S> {
     }
 }
 
-/// Gives a formula to the sink, or says why the text is none; the sink then has got a part of it.
-pub fn read<S: Sink>(text: &[u8], sink: &mut S) -> Result<(), Refusal> {
+/// Writes the code of a formula, or says why the text is none; then a part of it is written.
+pub fn read(text: &[u8], code: &mut Code) -> Result<(), Refusal> {
     if text.is_empty() || text.len() > 1024 {
         return Err(Refusal { answer: 3, place: 0 });
     }
-    let mut reader = Reader {
-        ahead: Scanner::new(text),
-        sink,
-        wrong: None,
-    };
+    let mut reader = Reader { ahead: Scanner::new(text), code, wrong: None };
     match reader.formula() {
         Ok(()) => match reader.wrong {
             Some(place) => Err(Refusal { answer: 9, place }),

@@ -1,0 +1,102 @@
+//! Formulas to instructions.
+//!
+//! A refusal must leave the caller's buffer as it was. So the instructions go to a scratch, of the size that they can need at
+//! most, and are copied when the whole text has been read. To judge the text first and then read it again into the buffer was
+//! measured too: it takes twice the time.
+
+use super::machine::*;
+use super::reader::read;
+use super::tokens::Refusal;
+use super::values::Kind::{self, Int, Real};
+
+const TO_REAL: u8 = 4;
+
+/// The instructions so far. A gap is the place of a jump that skips what comes next.
+pub struct Code(Vec<Instruction>);
+
+impl Code {
+    fn push(&mut self, opcode: u8, operand: u8, word: u32) {
+        self.0.push(instruction(opcode, operand, word));
+    }
+
+    fn fill(&mut self, gap: usize, opcode: u8, distance: usize) {
+        self.0[gap] = instruction(opcode, 0, distance as u32);
+    }
+
+    // The instructions after a gap.
+    fn since(&self, gap: usize) -> usize {
+        self.0.len() - gap - 1
+    }
+
+    pub fn number(&mut self, kind: Kind, bits: u32) {
+        self.push(if kind == Int { PUSH_INT } else { PUSH_REAL }, 0, bits);
+    }
+
+    pub fn cell(&mut self, bank: u8, element: u8) {
+        self.push(LOAD, bank, element as u32);
+    }
+
+    pub fn indexed(&mut self, bank: u8) {
+        self.push(LOAD_INDEXED, bank, 0);
+    }
+
+    pub fn unary(&mut self, operator: u8) {
+        self.push(UNARY, operator, 0);
+    }
+
+    pub fn binary(&mut self, operator: u8) {
+        self.push(BINARY, operator, 0);
+    }
+
+    /// After the left side of `&&` and `||`, and after the condition of IF.
+    pub fn gap(&mut self) -> usize {
+        self.push(JUMP, 0, 0);
+        self.0.len() - 1
+    }
+
+    /// After the right side: `&&` (false) or `||` (true), the truth of the left side that decides.
+    pub fn decide(&mut self, decides: bool, gap: usize) {
+        let jump = if decides { JUMP_IF_TRUE } else { JUMP_IF_FALSE };
+        self.fill(gap, jump, self.since(gap) + 3);
+        self.push(jump, 0, 2);
+        self.push(PUSH_INT, 0, !decides as u32);
+        self.push(JUMP, 0, 1);
+        self.push(PUSH_INT, 0, decides as u32);
+    }
+
+    /// After the first branch of IF; gives the next gap.
+    pub fn branch(&mut self, gap: usize) -> usize {
+        let next = self.gap();
+        self.fill(gap, JUMP_IF_FALSE, self.since(gap));
+        next
+    }
+
+    /// After the second branch, with the kinds of both.
+    pub fn choose(&mut self, gap: usize, first: Kind, second: Kind) {
+        let distance = self.since(gap);
+        match (first, second) {
+            // the second branch skips the promotion of the first
+            (Int, Real) => {
+                self.push(JUMP, 0, 1);
+                self.push(UNARY, TO_REAL, 0);
+                self.fill(gap, JUMP, distance + 1);
+            }
+            (Real, Int) => {
+                self.push(UNARY, TO_REAL, 0);
+                self.fill(gap, JUMP, distance + 1);
+            }
+            _ => self.fill(gap, JUMP, distance),
+        }
+    }
+}
+
+/// Writes the code of a formula and gives the number of instructions.
+#[inline(never)]
+pub fn compile(text: &[u8], code: &mut [u8]) -> Result<usize, Refusal> {
+    // two instructions a byte are the most, so it never grows
+    let mut scratch = Code(Vec::with_capacity(2 * text.len().min(1024)));
+    read(text, &mut scratch)?;
+    let bytes = scratch.0.as_flattened();
+    code[..bytes.len()].copy_from_slice(bytes);
+    Ok(scratch.0.len())
+}

@@ -1,0 +1,15 @@
+//! The rival: the same operations in plain Rust, written from the requirements and not from the proved code, without unsafe code
+//! and with its bounds checks on. Its instructions are its own.
+
+#![forbid(unsafe_code)]
+
+mod check;
+mod emit;
+mod image;
+mod machine;
+mod operations;
+mod reader;
+mod tokens;
+mod values;
+
+pub use operations::{check, compile, compile_and_run, run};

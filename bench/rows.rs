@@ -1,0 +1,131 @@
+//! The rows of the table. A run through the library is check, run and store, and so is the rival's; run and store is that less
+//! the check.
+
+use crate::data::{self, Formula, Scan};
+use crate::library::{self, CODE_BYTES};
+use crate::rival;
+use crate::timing::{each, header, least, row, Pair};
+
+// The code that each side compiled, in buffers of its own size, as a controller would keep it.
+struct Ready<'a> {
+    target: &'a [u8],
+    ours: Vec<u8>,
+    theirs: Vec<u8>,
+    instructions: usize,
+}
+
+fn ready(formula: &Formula) -> Ready<'_> {
+    let (mut ours, mut theirs) = (vec![0; CODE_BYTES], vec![0; CODE_BYTES]);
+    let instructions = library::compile(&formula.text, &mut ours).count as usize;
+    rival::compile(&formula.text, &mut theirs);
+    for code in [&mut ours, &mut theirs] {
+        code.truncate(8 * instructions);
+        code.shrink_to_fit();
+    }
+    Ready { target: &formula.target, ours, theirs, instructions }
+}
+
+/// A scan, measured so often.
+struct Measured<'a> {
+    scan: &'a Scan,
+    ready: Vec<Ready<'a>>,
+    batches: usize,
+    calls: usize,
+}
+
+impl Measured<'_> {
+    fn new(scan: &Scan, batches: usize, calls: usize) -> Measured<'_> {
+        Measured { scan, ready: scan.formulas.iter().map(ready).collect(), batches, calls }
+    }
+
+    fn bytes(&self) -> f64 {
+        self.scan.formulas.iter().map(|f| f.text.len()).sum::<usize>() as f64
+    }
+
+    fn instructions(&self) -> f64 {
+        self.ready.iter().map(|r| r.instructions).sum::<usize>() as f64
+    }
+
+    fn formulas(&self) -> f64 {
+        self.ready.len() as f64
+    }
+
+    fn compile(&self) -> Pair {
+        let (mut code, mut other) = (vec![0; CODE_BYTES], vec![0; CODE_BYTES]);
+        let ours = &mut || each(&self.scan.formulas, |f| library::compile(&f.text, &mut code));
+        let theirs = &mut || each(&self.scan.formulas, |f| rival::compile(&f.text, &mut other));
+        least(self.batches, self.calls, [ours, theirs])
+    }
+
+    fn check(&self) -> Pair {
+        let ours = &mut || each(&self.ready, |r| library::check(&r.ours, r.instructions));
+        let theirs = &mut || each(&self.ready, |r| rival::check(&r.theirs, r.instructions));
+        least(self.batches, self.calls, [ours, theirs])
+    }
+
+    // Each side has a memory of its own; they run equally often, so both are the same in the end.
+    fn run(&self) -> Pair {
+        let (mut memory, mut other) = (data::memory(), data::memory());
+        let ours = &mut || each(&self.ready, |r| library::run(&r.ours, r.instructions, &mut memory, r.target));
+        let theirs = &mut || each(&self.ready, |r| rival::run(&r.theirs, r.instructions, &mut other, r.target));
+        let times = least(self.batches, self.calls, [ours, theirs]);
+        hold_to_each_other(&memory, &other);
+        times
+    }
+
+    fn compile_and_run(&self) -> Pair {
+        let (mut memory, mut other) = (data::memory(), data::memory());
+        let (mut code, mut other_code) = (vec![0; CODE_BYTES], vec![0; CODE_BYTES]);
+        let formulas = &self.scan.formulas;
+        let ours = &mut || each(formulas, |f| library::compile_and_run(&f.target, &f.text, &mut memory, &mut code));
+        let theirs = &mut || each(formulas, |f| rival::compile_and_run(&f.target, &f.text, &mut other, &mut other_code));
+        let times = least(self.batches, self.calls, [ours, theirs]);
+        hold_to_each_other(&memory, &other);
+        times
+    }
+}
+
+fn hold_to_each_other(ours: &[u8], theirs: &[u8]) {
+    assert!(ours == theirs, "the memories differ after the runs");
+    assert_eq!(ours[3200..], [0; 4], "a measured formula was at fault");
+}
+
+fn less(whole: Pair, part: Pair) -> Pair {
+    [whole[0] - part[0], whole[1] - part[1]]
+}
+
+pub fn corpus(batches: usize) {
+    let scan = data::corpus();
+    let m = Measured::new(&scan, batches, 4);
+    println!("\ncorpus: {} formulas, {} bytes, {} instructions", m.formulas(), m.bytes(), m.instructions());
+    header("nanoseconds");
+    let (check, run) = (m.check(), m.run());
+    row("compile, corpus", "a byte", m.bytes(), m.compile());
+    row("check, corpus", "an instruction", m.instructions(), check);
+    row("run and store, corpus", "a formula", m.formulas(), less(run, check));
+    row("check, run and store, corpus", "a formula", m.formulas(), run);
+    row("compile, run and store, corpus", "a formula", m.formulas(), m.compile_and_run());
+}
+
+/// Single formulas, short and long.
+pub fn texts(batches: usize) {
+    const CALLS: usize = 100;
+    for scan in &data::texts() {
+        let m = Measured::new(scan, batches, CALLS);
+        let (check, run) = (m.check(), m.run());
+        row(&format!("compile, {}", scan.name), "a byte", m.bytes(), m.compile());
+        row("check", "an instruction", m.instructions(), check);
+        row("run and store", "an instruction", m.instructions(), less(run, check));
+    }
+}
+
+/// Forty formulas of 1,024 bytes each, of each kind that is dear in its way.
+pub fn worst(batches: usize) {
+    const MICROSECONDS: f64 = 1000.0;
+    header("microseconds a scan of forty 1,024-byte formulas");
+    for scan in &data::worst() {
+        let m = Measured::new(scan, batches, 2);
+        row(&format!("compile, {}", scan.name), "a scan", MICROSECONDS, m.compile());
+        row("check, run and store", "a scan", MICROSECONDS, m.run());
+    }
+}

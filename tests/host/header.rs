@@ -1,0 +1,18 @@
+//! include/formula.h in Rust: the operations of the archive formula_c.
+
+use crate::reference::operations::Report;
+
+#[rustfmt::skip]
+#[link(name = "formula_c", kind = "static")]
+extern "C" {
+    pub fn formula_compile(expr: *const u8, expr_len: usize, code: *mut u8, code_len: usize, report: *mut Report);
+    pub fn formula_check(code: *const u8, code_len: usize, instructions: usize, report: *mut Report);
+    pub fn formula_run(
+        code: *const u8, code_len: usize, instructions: usize, memory: *mut u8, memory_len: usize,
+        target: *const u8, target_len: usize, report: *mut Report,
+    );
+    pub fn formula_compile_and_run(
+        target: *const u8, target_len: usize, expr: *const u8, expr_len: usize, memory: *mut u8, memory_len: usize,
+        code: *mut u8, code_len: usize, report: *mut Report,
+    );
+}
