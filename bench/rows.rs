@@ -114,8 +114,8 @@ pub fn texts(batches: usize) {
         let m = Measured::new(scan, batches, CALLS);
         let (check, run) = (m.check(), m.run());
         row(&format!("compile, {}", scan.name), "a byte", m.bytes(), m.compile());
-        row("check", "an instruction", m.instructions(), check);
-        row("run and store", "an instruction", m.instructions(), less(run, check));
+        row("  check", "an instruction", m.instructions(), check);
+        row("  run and store", "an instruction", m.instructions(), less(run, check));
     }
 }
 
@@ -126,6 +126,6 @@ pub fn worst(batches: usize) {
     for scan in &data::worst() {
         let m = Measured::new(scan, batches, 2);
         row(&format!("compile, {}", scan.name), "a scan", MICROSECONDS, m.compile());
-        row("check, run and store", "a scan", MICROSECONDS, m.run());
+        row("  check, run and store", "a scan", MICROSECONDS, m.run());
     }
 }
