@@ -65,7 +65,7 @@ fn memory(number: usize) -> Vec<u8> {
 
 pub fn compare(texts: usize) {
     let mut sides = Sides::new(data::memory());
-    for formula in data::all().iter().flat_map(|scan| &scan.formulas) {
+    for formula in data::scans().iter().chain(&data::texts()).flat_map(|scan| &scan.formulas) {
         assert_eq!(sides.same(formula).answer, 0, "{}", String::from_utf8_lossy(&formula.text));
     }
     let mut answers = [0; 16];

@@ -35,11 +35,9 @@ pub fn memory() -> Vec<u8> {
     memory
 }
 
-pub fn all() -> Vec<Scan> {
-    let mut all = worst();
-    all.extend(texts());
-    all.push(corpus());
-    all
+/// The corpus and the worst scans.
+pub fn scans() -> Vec<Scan> {
+    [corpus()].into_iter().chain(worst()).collect()
 }
 
 /// The formulas of a dye works.

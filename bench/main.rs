@@ -2,12 +2,16 @@
 //! other. Built by run.sh.
 //!
 //!   bench [BATCHES [TEXTS]]     how many batches a row takes the least of, and on how many random texts both must agree
+//!   bench names                 the names of the scans
+//!   bench scan NAME             does a scan once
+//!   bench inputs                the memory and the formulas of the scans
 
 mod agree;
 mod data;
 mod library;
 mod rival;
 mod rows;
+mod scan;
 mod timing;
 
 #[path = "../tests/host/header.rs"]
@@ -25,12 +29,20 @@ const TEXTS: usize = 200_000;
 // A scan of the longest formulas takes far longer than one of the corpus, so it has fewer batches.
 const LONG: usize = 4;
 
-fn argument(at: usize, default: usize) -> usize {
-    std::env::args().nth(at).map_or(default, |word| word.parse().expect("a number"))
+fn main() {
+    let arguments: Vec<String> = std::env::args().skip(1).collect();
+    let words: Vec<&str> = arguments.iter().map(String::as_str).collect();
+    match words[..] {
+        ["names"] => scan::names(),
+        ["scan", name] => scan::once(name),
+        ["inputs"] => scan::inputs(),
+        _ => times(&words),
+    }
 }
 
-fn main() {
-    let (batches, texts) = (argument(1, BATCHES), argument(2, TEXTS));
+fn times(words: &[&str]) {
+    let number = |at: usize, default| words.get(at).map_or(default, |word| word.parse().expect("a number"));
+    let (batches, texts) = (number(0, BATCHES), number(1, TEXTS));
     agree::compare(texts);
     rows::corpus(batches);
     rows::texts(batches);

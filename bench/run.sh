@@ -5,7 +5,6 @@
 cd "$(dirname "$0")/.." || exit 1
 library=target/staticlib
 out=target/bench
-data="bench/memory.txt bench/corpus.txt bench/worst.txt"
 # a controller of 100 MHz that does an instruction a cycle, for 50 ms
 budget=5000000
 mkdir -p "$out"
@@ -27,17 +26,15 @@ build_library() {
     sh include/build.sh || fail "include/build.sh"
 }
 
-# One codegen unit, so that the rival loses nothing by being written in several files.
-measure_times() {
-    have "rustc cc" "no times" || return
-    rustc --edition 2021 -C opt-level=3 -C codegen-units=1 -L "$library" -o "$out/bench" bench/main.rs || { fail "main.rs"; return; }
-    "$out/bench" "$@" || fail "bench"
+# $1: the program to write, $2: the archive. One codegen unit, so that the rival loses nothing by being written in several files.
+build() {
+    rustc --edition 2021 -C opt-level=3 -C codegen-units=1 -L "$library" -l "static=formula_c:$2" -o "$out/$1" bench/main.rs
 }
 
-# The archive is the one that a controller takes, with its own remainder. Symbols are resolved at the start, so that no call pays for
-# that.
-build_c() {
-    cc -std=gnu11 -Wall -Wextra -O2 -I include -Wl,-z,now -o "$out/$1" "bench/$1.c" bench/texts.c -L "$library" -lformula_bare
+measure_times() {
+    have "rustc cc" "no times" || return
+    build bench formula_c || { fail "main.rs"; return; }
+    "$out/bench" "$@" || fail "bench"
 }
 
 part() {
@@ -47,20 +44,20 @@ part() {
 # The instructions of one function of a scan. Valgrind counts each byte that `rep stosb` clears as an instruction; with the
 # tunable memset is a loop of stores, as it is on a controller.
 counted() {
-    GLIBC_TUNABLES=glibc.cpu.x86_rep_stosb_threshold=100000000 valgrind --tool=callgrind --callgrind-out-file=/dev/null --toggle-collect="$2" "$out/scan" $data "$1" 2>&1 |
+    GLIBC_TUNABLES=glibc.cpu.x86_rep_stosb_threshold=100000000 valgrind --tool=callgrind --callgrind-out-file=/dev/null \
+        --toggle-collect="$2" "$out/bench_bare" scan "$1" 2>&1 |
         sed -n 's/.*Collected *: *//p'
 }
 
 count_instructions() {
-    have "valgrind cc awk" "no instruction counts" || return
-    build_c scan || { fail "scan.c"; return; }
+    have "valgrind awk" "no instruction counts" || return
     echo
     echo "instructions of this machine, by callgrind, for a scan of forty formulas"
     echo "the last columns are the parts of $budget that run and store take without and with the check"
     printf '%-20s %12s %12s %12s %10s %12s\n' "" compile check "run, store" "run" "with check"
     most=0
-    for name in $("$out/scan" $data); do
-        "$out/scan" $data "$name" > /dev/null || { fail "scan $name"; continue; }
+    for name in $("$out/bench_bare" names); do
+        "$out/bench_bare" scan "$name" || { fail "scan $name"; continue; }
         check=$(counted "$name" check_scan)
         both=$(counted "$name" run_scan)
         [ -n "$check" ] && [ -n "$both" ] || { fail "callgrind, $name"; continue; }
@@ -95,16 +92,24 @@ measure_sizes() {
 }
 
 measure_stacks() {
-    have cc "no stack depths" || return
-    build_c stack || { fail "stack.c"; return; }
+    # symbols are resolved at the start, so that no call pays for that
+    cc -std=gnu11 -Wall -Wextra -O2 -I include -Wl,-z,now -o "$out/stack" bench/stack.c -L "$library" -lformula_bare ||
+        { fail "stack.c"; return; }
     echo
     echo "deepest stack:"
-    "$out/stack" $data || fail "stack"
+    "$out/bench_bare" inputs | "$out/stack" || fail "stack"
+}
+
+# Counts, stacks and sizes are of the archive that a controller takes, with its own remainder.
+measure_bare() {
+    have "rustc cc" "no instruction counts and stack depths" || return
+    build bench_bare formula_bare || { fail "main.rs"; return; }
+    count_instructions
+    measure_stacks
 }
 
 build_library
 measure_times "$@"
-count_instructions
+measure_bare
 measure_sizes
-measure_stacks
 exit $failed

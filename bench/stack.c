@@ -1,7 +1,7 @@
 /* Measures the deepest stack of each operation: it runs on a painted stack of its own, and the lowest byte that is no longer
  * paint shows how deep it went. Arguments on the stack and the return address are counted in, the caller's frame is not.
  *
- *   stack MEMORY CORPUS WORST
+ *   bench inputs | stack
  *
  * What a function reserves and never writes at the very bottom is not seen.
  */
@@ -10,14 +10,12 @@
 #include <ucontext.h>
 
 #include "formula.h"
-#include "texts.h"
 
 #define STACK (1u << 19)
 
 static uint8_t stack[STACK] __attribute__((aligned(4096)));
 static ucontext_t caller, callee;
 
-static struct scan scans[SCANS];
 static uint8_t memory[FORMULA_MEMORY_BYTES];
 static uint8_t code[FORMULA_CODE_BYTES];
 static struct formula_report report;
@@ -68,7 +66,7 @@ struct measured {
     const char *name;
     void (*operation)(void);
     size_t deepest;
-    const char *by;
+    char by[32];
 };
 
 static struct measured measured[] = {
@@ -97,7 +95,7 @@ static void measure(const char *name, const char *target_text, const char *expr_
         }
         if (deep > measured[i].deepest) {
             measured[i].deepest = deep;
-            measured[i].by = name;
+            snprintf(measured[i].by, sizeof measured[i].by, "%s", name);
         }
     }
 }
@@ -121,19 +119,21 @@ static void measure_nested(void) {
     }
 }
 
-int main(int arguments, char **argument) {
-    if (arguments != 4) {
-        fprintf(stderr, "stack MEMORY CORPUS WORST\n");
-        return 1;
+static void measure_inputs(void) {
+    static char name[32], target_text[8], expr_text[FORMULA_TEXT_BYTES + 1];
+    while (scanf("%31s %7s %1024[^\n]", name, target_text, expr_text) == 3) {
+        measure(name, target_text, expr_text);
     }
-    read_memory(argument[1], memory);
-    size_t n = read_scans(argument[2], argument[3], scans);
-    for (size_t i = 0; i < n; i++) {
-        /* the formulas of a worst scan are all the same */
-        for (size_t f = 0; f < (i == 0 ? SCAN : 1); f++) {
-            measure(scans[i].name, scans[i].formulas[f].target, scans[i].formulas[f].expr);
+}
+
+int main(void) {
+    for (size_t i = 0; i < sizeof memory; i++) {
+        if (scanf("%2hhx", &memory[i]) != 1) {
+            fprintf(stderr, "no memory\n");
+            return 1;
         }
     }
+    measure_inputs();
     measure_nested();
     for (size_t i = 0; i < OPERATIONS; i++) {
         printf("%-24s %7zu bytes, deepest with %s\n", measured[i].name, measured[i].deepest, measured[i].by);
