@@ -2,6 +2,7 @@
 
 use super::image::REAL_BANK;
 use super::machine::{decode, taken, BINARY, JUMP, LOAD, LOAD_INDEXED, PUSH_REAL, UNARY};
+use super::op;
 
 #[derive(Clone, Copy, PartialEq)]
 struct Held {
@@ -102,13 +103,13 @@ fn kind_left(opcode: u8, operand: u8, kinds: u128) -> Option<u8> {
     match (opcode, operand) {
         (PUSH_REAL, _) => Some(1),
         (LOAD | LOAD_INDEXED, bank) => Some((bank == REAL_BANK) as u8),
-        (UNARY, 0 | 3) => Some(right),
-        (UNARY, 1) if right == 1 => None,
-        (UNARY, 4 | 7) => Some(1),
-        (BINARY, 0) if right == 1 => None,
-        (BINARY, 0) => Some(left),
-        (BINARY, 1..=5 | 18 | 19) => Some(left | right),
-        (BINARY, 6..=8 | 15..=17) if left | right == 1 => None,
+        (UNARY, op::NEGATE | op::ABS) => Some(right),
+        (UNARY, op::INVERT) if right == 1 => None,
+        (UNARY, op::TO_REAL | op::FRAC) => Some(1),
+        (BINARY, op::POWER) if right == 1 => None,
+        (BINARY, op::POWER) => Some(left),
+        (BINARY, op::TIMES..=op::MINUS | op::MAX | op::MIN) => Some(left | right),
+        (BINARY, op::SHIFT_LEFT..=op::SHIFT_RIGHT_ZERO | op::AND..=op::OR) if left | right == 1 => None,
         _ => Some(0),
     }
 }

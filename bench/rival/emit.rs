@@ -5,11 +5,10 @@
 //! measured too: it takes twice the time.
 
 use super::machine::*;
+use super::op;
 use super::reader::read;
 use super::tokens::Refusal;
 use super::values::Kind::{self, Int, Real};
-
-const TO_REAL: u8 = 4;
 
 /// The instructions so far. A gap is the place of a jump that skips what comes next.
 pub struct Code(Vec<Instruction>);
@@ -78,11 +77,11 @@ impl Code {
             // the second branch skips the promotion of the first
             (Int, Real) => {
                 self.push(JUMP, 0, 1);
-                self.push(UNARY, TO_REAL, 0);
+                self.push(UNARY, op::TO_REAL, 0);
                 self.fill(gap, JUMP, distance + 1);
             }
             (Real, Int) => {
-                self.push(UNARY, TO_REAL, 0);
+                self.push(UNARY, op::TO_REAL, 0);
                 self.fill(gap, JUMP, distance + 1);
             }
             _ => self.fill(gap, JUMP, distance),

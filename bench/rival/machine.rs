@@ -1,7 +1,8 @@
 //! The run. It takes any bytes for code, so it decodes and tests the height at each step.
 
 use super::image::{elements, read, read_indexed, REAL_BANK};
-use super::values::{binary, unary, Outcome, Stop, Value, BINARIES, UNARIES};
+use super::op;
+use super::values::{binary, unary, Outcome, Stop, Value};
 
 pub type Instruction = [u8; 8];
 
@@ -36,8 +37,8 @@ pub fn decode(code: &[u8], place: usize) -> Option<(u8, u8, u32)> {
         PUSH_REAL => operand == 0 && f32::from_bits(word).is_finite(),
         LOAD => operand <= REAL_BANK && word < elements(operand),
         LOAD_INDEXED => operand <= REAL_BANK && word == 0,
-        UNARY => operand < UNARIES && word == 0,
-        BINARY => operand < BINARIES && word == 0,
+        UNARY => operand < op::UNARIES && word == 0,
+        BINARY => operand < op::BINARIES && word == 0,
         _ => false,
     };
     if good {

@@ -7,6 +7,7 @@ mod check;
 mod emit;
 mod image;
 mod machine;
+mod op;
 mod operations;
 mod reader;
 mod tokens;

@@ -2,7 +2,8 @@
 //! grammar it goes on to read tokens, since a bad one anywhere comes first.
 
 use super::emit::Code;
-use super::tokens::{kind_of, Function, Read, Refusal, Scanner, Token, AND, MINUS, OR};
+use super::op;
+use super::tokens::{kind_of, Function, Read, Refusal, Scanner, Token};
 use super::values::joined;
 use super::values::Kind::{self, Int, Real};
 
@@ -36,11 +37,11 @@ impl Reader<'_> {
                 break;
             }
             let place = self.ahead.place;
-            let gap = if operator >= AND { self.code.gap() } else { 0 };
+            let gap = if operator >= op::LOGICAL_AND { self.code.gap() } else { 0 };
             self.advance()?;
             let right = self.expression(open, group - 1)?;
-            if operator >= AND {
-                self.code.decide(operator == OR, gap);
+            if operator >= op::LOGICAL_AND {
+                self.code.decide(operator == op::LOGICAL_OR, gap);
             } else {
                 self.code.binary(operator);
             }
@@ -53,9 +54,9 @@ impl Reader<'_> {
     #[inline]
     fn infix(&mut self, operator: u8, place: usize, left: Kind, right: Kind) -> Kind {
         let (good, kind) = match operator {
-            0 => (right == Int, left),
-            1..=5 => (true, joined(left, right)),
-            6..=8 | 15..=17 => (left == Int && right == Int, Int),
+            op::POWER => (right == Int, left),
+            op::TIMES..=op::MINUS => (true, joined(left, right)),
+            op::SHIFT_LEFT..=op::SHIFT_RIGHT_ZERO | op::AND..=op::OR => (left == Int && right == Int, Int),
             _ => (true, Int),
         };
         if !good {
@@ -71,7 +72,7 @@ impl Reader<'_> {
         let mut invert = None;
         loop {
             match self.ahead.token {
-                Token::Infix(MINUS, _) => {}
+                Token::Infix(op::MINUS, _) => {}
                 Token::Invert => {
                     integer = true;
                     invert = Some(self.ahead.place);
@@ -98,9 +99,9 @@ impl Reader<'_> {
     fn prefixes(&mut self, signs: &[u8]) {
         for sign in signs.iter().rev() {
             match sign {
-                b'-' => self.code.unary(0),
-                b'~' => self.code.unary(1),
-                b'!' => self.code.unary(2),
+                b'-' => self.code.unary(op::NEGATE),
+                b'~' => self.code.unary(op::INVERT),
+                b'!' => self.code.unary(op::NOT),
                 _ => {}
             }
         }
@@ -153,8 +154,8 @@ impl Reader<'_> {
             Function::One(operator) => {
                 self.code.unary(operator);
                 match operator {
-                    3 => first,
-                    4 | 7 => Real,
+                    op::ABS => first,
+                    op::TO_REAL | op::FRAC => Real,
                     _ => Int,
                 }
             }

@@ -1,6 +1,7 @@
 //! The tokens of a formula: answers 4, 5 and 6.
 
 use super::image::{bank, element, REAL_BANK};
+use super::op;
 use super::values::Kind;
 
 #[derive(Clone, Copy)]
@@ -18,7 +19,7 @@ pub enum Token {
     Cell(u8, u8),
     Bank(u8),
     Name(Function),
-    /// The number of a binary operator, or AND or OR, with its group: 1 is the tightest.
+    /// The number of a binary operator, `&&` or `||`, with its group: 1 is the tightest.
     Infix(u8, u8),
     Invert,
     Not,
@@ -29,11 +30,6 @@ pub enum Token {
     Comma,
     End,
 }
-
-pub const MINUS: u8 = 5;
-// `&&` and `||` are no operators on values, so they have no numbers of the instruction set.
-pub const AND: u8 = 20;
-pub const OR: u8 = 21;
 
 const TENS: [f32; 7] = [1.0, 10.0, 100.0, 1000.0, 10000.0, 100000.0, 1000000.0];
 
@@ -48,13 +44,13 @@ pub fn kind_of(bank: u8) -> Kind {
 /// The token of a run of letters and digits that starts with a letter.
 pub fn word(run: &[u8]) -> Option<Token> {
     match run {
-        b"ABS" => return Some(Token::Name(Function::One(3))),
-        b"TOREAL" => return Some(Token::Name(Function::One(4))),
-        b"TOINT" | b"TRUNC" => return Some(Token::Name(Function::One(5))),
-        b"ROUND" => return Some(Token::Name(Function::One(6))),
-        b"FRAC" => return Some(Token::Name(Function::One(7))),
-        b"MAX" => return Some(Token::Name(Function::Two(18))),
-        b"MIN" => return Some(Token::Name(Function::Two(19))),
+        b"ABS" => return Some(Token::Name(Function::One(op::ABS))),
+        b"TOREAL" => return Some(Token::Name(Function::One(op::TO_REAL))),
+        b"TOINT" | b"TRUNC" => return Some(Token::Name(Function::One(op::TRUNC))),
+        b"ROUND" => return Some(Token::Name(Function::One(op::ROUND))),
+        b"FRAC" => return Some(Token::Name(Function::One(op::FRAC))),
+        b"MAX" => return Some(Token::Name(Function::Two(op::MAX))),
+        b"MIN" => return Some(Token::Name(Function::Two(op::MIN))),
         b"IF" => return Some(Token::Name(Function::If)),
         _ => {}
     }
@@ -115,26 +111,26 @@ fn hexadecimal(run: &[u8]) -> Result<Token, u32> {
 pub fn symbol(first: u8, second: u8, third: u8) -> Option<(Token, usize)> {
     use Token::Infix;
     Some(match (first, second) {
-        (b'*', b'*') => (Infix(0, 1), 2),
-        (b'*', _) => (Infix(1, 2), 1),
-        (b'/', _) => (Infix(2, 2), 1),
-        (b'%', _) => (Infix(3, 2), 1),
-        (b'+', _) => (Infix(4, 3), 1),
-        (b'-', _) => (Infix(MINUS, 3), 1),
-        (b'<', b'<') => (Infix(6, 4), 2),
-        (b'>', b'>') if third == b'>' => (Infix(8, 4), 3),
-        (b'>', b'>') => (Infix(7, 4), 2),
-        (b'<', b'=') => (Infix(11, 5), 2),
-        (b'>', b'=') => (Infix(12, 5), 2),
-        (b'<', _) => (Infix(9, 5), 1),
-        (b'>', _) => (Infix(10, 5), 1),
-        (b'=', b'=') => (Infix(13, 6), 2),
-        (b'!', b'=') => (Infix(14, 6), 2),
-        (b'&', b'&') => (Infix(AND, 10), 2),
-        (b'|', b'|') => (Infix(OR, 11), 2),
-        (b'&', _) => (Infix(15, 7), 1),
-        (b'^', _) => (Infix(16, 8), 1),
-        (b'|', _) => (Infix(17, 9), 1),
+        (b'*', b'*') => (Infix(op::POWER, 1), 2),
+        (b'*', _) => (Infix(op::TIMES, 2), 1),
+        (b'/', _) => (Infix(op::DIVIDE, 2), 1),
+        (b'%', _) => (Infix(op::REMAINDER, 2), 1),
+        (b'+', _) => (Infix(op::PLUS, 3), 1),
+        (b'-', _) => (Infix(op::MINUS, 3), 1),
+        (b'<', b'<') => (Infix(op::SHIFT_LEFT, 4), 2),
+        (b'>', b'>') if third == b'>' => (Infix(op::SHIFT_RIGHT_ZERO, 4), 3),
+        (b'>', b'>') => (Infix(op::SHIFT_RIGHT, 4), 2),
+        (b'<', b'=') => (Infix(op::LESS_EQUAL, 5), 2),
+        (b'>', b'=') => (Infix(op::GREATER_EQUAL, 5), 2),
+        (b'<', _) => (Infix(op::LESS, 5), 1),
+        (b'>', _) => (Infix(op::GREATER, 5), 1),
+        (b'=', b'=') => (Infix(op::EQUAL, 6), 2),
+        (b'!', b'=') => (Infix(op::NOT_EQUAL, 6), 2),
+        (b'&', b'&') => (Infix(op::LOGICAL_AND, 10), 2),
+        (b'|', b'|') => (Infix(op::LOGICAL_OR, 11), 2),
+        (b'&', _) => (Infix(op::AND, 7), 1),
+        (b'^', _) => (Infix(op::XOR, 8), 1),
+        (b'|', _) => (Infix(op::OR, 9), 1),
         (b'~', _) => (Token::Invert, 1),
         (b'!', _) => (Token::Not, 1),
         (b'(', _) => (Token::Open, 1),

@@ -1,4 +1,6 @@
-//! Values and the operators on them, by their numbers.
+//! Values and the operators on them.
+
+use super::op;
 
 #[derive(Clone, Copy, PartialEq, Debug)]
 pub enum Kind {
@@ -86,82 +88,76 @@ fn bit(t: bool) -> Outcome {
     Ok(Int(t as i32))
 }
 
-/// - ~ ! ABS TOREAL TRUNC ROUND FRAC, numbered from 0.
-pub const UNARIES: u8 = 8;
-
 pub fn unary(operator: u8, v: Value) -> Outcome {
     match (operator, v) {
-        (0, Int(z)) => exact(z.checked_neg()),
-        (0, Real(x)) => Ok(Real(-x)),
-        (1, Int(z)) => Ok(Int(!z)),
-        (1, Real(_)) => Err(Stuck),
-        (2, v) => bit(!v.truth()),
-        (3, Int(z)) => exact(z.checked_abs()),
-        (3, Real(x)) => Ok(Real(x.abs())),
-        (4, v) => Ok(Real(v.single())),
-        (5, Real(x)) => cut(x).map(Int),
-        (6, Real(x)) => cut(x.round()).map(Int),
-        (7, v) => Ok(Real(v.single() % 1.0)),
+        (op::NEGATE, Int(z)) => exact(z.checked_neg()),
+        (op::NEGATE, Real(x)) => Ok(Real(-x)),
+        (op::INVERT, Int(z)) => Ok(Int(!z)),
+        (op::INVERT, Real(_)) => Err(Stuck),
+        (op::NOT, v) => bit(!v.truth()),
+        (op::ABS, Int(z)) => exact(z.checked_abs()),
+        (op::ABS, Real(x)) => Ok(Real(x.abs())),
+        (op::TO_REAL, v) => Ok(Real(v.single())),
+        (op::TRUNC, Real(x)) => cut(x).map(Int),
+        (op::ROUND, Real(x)) => cut(x.round()).map(Int),
+        (op::FRAC, v) => Ok(Real(v.single() % 1.0)),
         (_, v) => Ok(v),
     }
 }
-
-/// ** * / % + - << >> >>> < > <= >= == != & ^ | MAX MIN, numbered from 0.
-pub const BINARIES: u8 = 20;
 
 pub fn binary(operator: u8, a: Value, b: Value) -> Outcome {
     if let (Int(x), Int(y)) = (a, b) {
         return on_integers(operator, x, y);
     }
     match (operator, b) {
-        (0, Int(n)) => power(a, n),
+        (op::POWER, Int(n)) => power(a, n),
         _ => on_reals(operator, a.single(), b.single()),
     }
 }
 
 fn on_integers(operator: u8, x: i32, y: i32) -> Outcome {
     match operator {
-        0 => power(Int(x), y),
-        1 => exact(x.checked_mul(y)),
-        2 | 3 if y == 0 => Err(DividedByZero),
-        2 => exact(x.checked_div(y)),
-        3 => Ok(Int(x.wrapping_rem(y))),
-        4 => exact(x.checked_add(y)),
-        5 => exact(x.checked_sub(y)),
-        6..=8 if !(0..32).contains(&y) => Err(OutOfRange),
-        6 => Ok(Int(x << y)),
-        7 => Ok(Int(x >> y)),
-        8 => Ok(Int((x as u32 >> y) as i32)),
-        9 => bit(x < y),
-        10 => bit(x > y),
-        11 => bit(x <= y),
-        12 => bit(x >= y),
-        13 => bit(x == y),
-        14 => bit(x != y),
-        15 => Ok(Int(x & y)),
-        16 => Ok(Int(x ^ y)),
-        17 => Ok(Int(x | y)),
-        18 => Ok(Int(x.max(y))),
+        op::POWER => power(Int(x), y),
+        op::TIMES => exact(x.checked_mul(y)),
+        op::DIVIDE | op::REMAINDER if y == 0 => Err(DividedByZero),
+        op::DIVIDE => exact(x.checked_div(y)),
+        op::REMAINDER => Ok(Int(x.wrapping_rem(y))),
+        op::PLUS => exact(x.checked_add(y)),
+        op::MINUS => exact(x.checked_sub(y)),
+        op::SHIFT_LEFT..=op::SHIFT_RIGHT_ZERO if !(0..32).contains(&y) => Err(OutOfRange),
+        op::SHIFT_LEFT => Ok(Int(x << y)),
+        op::SHIFT_RIGHT => Ok(Int(x >> y)),
+        op::SHIFT_RIGHT_ZERO => Ok(Int((x as u32 >> y) as i32)),
+        op::LESS => bit(x < y),
+        op::GREATER => bit(x > y),
+        op::LESS_EQUAL => bit(x <= y),
+        op::GREATER_EQUAL => bit(x >= y),
+        op::EQUAL => bit(x == y),
+        op::NOT_EQUAL => bit(x != y),
+        op::AND => Ok(Int(x & y)),
+        op::XOR => Ok(Int(x ^ y)),
+        op::OR => Ok(Int(x | y)),
+        op::MAX => Ok(Int(x.max(y))),
         _ => Ok(Int(x.min(y))),
     }
 }
 
 fn on_reals(operator: u8, x: f32, y: f32) -> Outcome {
     match operator {
-        1 => finite(x * y),
-        2 | 3 if y == 0.0 => Err(DividedByZero),
-        2 => finite(x / y),
-        3 => finite(x % y),
-        4 => finite(x + y),
-        5 => finite(x - y),
-        9 => bit(x < y),
-        10 => bit(x > y),
-        11 => bit(x <= y),
-        12 => bit(x >= y),
-        13 => bit(x == y),
-        14 => bit(x != y),
-        18 => Ok(Real(if x < y { y } else { x })),
-        19 => Ok(Real(if y < x { y } else { x })),
+        op::TIMES => finite(x * y),
+        op::DIVIDE | op::REMAINDER if y == 0.0 => Err(DividedByZero),
+        op::DIVIDE => finite(x / y),
+        op::REMAINDER => finite(x % y),
+        op::PLUS => finite(x + y),
+        op::MINUS => finite(x - y),
+        op::LESS => bit(x < y),
+        op::GREATER => bit(x > y),
+        op::LESS_EQUAL => bit(x <= y),
+        op::GREATER_EQUAL => bit(x >= y),
+        op::EQUAL => bit(x == y),
+        op::NOT_EQUAL => bit(x != y),
+        op::MAX => Ok(Real(if x < y { y } else { x })),
+        op::MIN => Ok(Real(if y < x { y } else { x })),
         _ => Err(Stuck),
     }
 }
