@@ -3,6 +3,7 @@
 
 use crate::data::{self, Formula, Scan};
 use crate::library::{self, CODE_BYTES};
+use crate::reference::memory::FLAGS;
 use crate::rival;
 use crate::timing::{each, header, least, row, Pair};
 
@@ -87,7 +88,7 @@ impl Measured<'_> {
 
 fn hold_to_each_other(ours: &[u8], theirs: &[u8]) {
     assert!(ours == theirs, "the memories differ after the runs");
-    assert_eq!(ours[3200..], [0; 4], "a measured formula was at fault");
+    assert_eq!(ours[FLAGS..], [0; 4], "a measured formula was at fault");
 }
 
 fn less(whole: Pair, part: Pair) -> Pair {

@@ -3,6 +3,7 @@
 use super::value::{Fault, Kind, Value};
 
 pub const MEMORY_BYTES: usize = 3204;
+pub const FLAGS: usize = 3200;
 
 #[derive(Clone, Copy, PartialEq, Debug)]
 pub enum Bank {
@@ -124,11 +125,11 @@ pub fn store(memory: &mut [u8], (bank, element): (Bank, usize), v: Value) -> Res
 }
 
 pub fn set_flag(memory: &mut [u8], fault: Fault) {
-    let at = match fault {
-        Fault::IndexError => 3200,
-        Fault::OutOfRange => 3201,
-        Fault::Overflow => 3202,
-        Fault::DividedByZero => 3203,
+    let flag = match fault {
+        Fault::IndexError => 0,
+        Fault::OutOfRange => 1,
+        Fault::Overflow => 2,
+        Fault::DividedByZero => 3,
     };
-    memory[at] = 1;
+    memory[FLAGS + flag] = 1;
 }
