@@ -1,5 +1,5 @@
 // A line of text in an array, and the texts of results. Each function puts its text at a place and answers the place after it.
-// Past the array's end nothing is put: a line that is cut so differs from the oracle's.
+// Past the array's end nothing is put: a line that is cut so differs from the expected one.
 use libc::STDOUT_FILENO;
 use values::Fault;
 use values::Outcome;

@@ -1,4 +1,4 @@
-// The patterns of literals at every scale, to compare with exact fractions: tests/literals/make.py.
+// The patterns of literals at every scale, to compare with exact fractions: tests/host/expected/literals.rs.
 // A line has a mantissa, and the patterns at the scales from -28 to 20. The last line has the scales next to these, which no literal has.
 
 // One digit; a tie between two singles, and twice it; and the most nines of a mantissa.

@@ -1,4 +1,4 @@
-// The memory on edge images, to compare with an oracle: tests/memory/oracle.c. For each image a line for each bank with what its first, second and last element and the one past it read, and a line of
+// The memory on edge images, to compare with a second implementation: tests/host/expected/memory.rs. For each image a line for each bank with what its first, second and last element and the one past it read, and a line of
 // indexed reads; then each value stored into each bank, with the answer and every byte that changed; then texts as targets.
 use memory::Bank;
 use memory::names::Named;

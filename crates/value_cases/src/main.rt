@@ -1,4 +1,4 @@
-// Every operator on a table of edge cases, to compare with an oracle on hardware floats: tests/values/oracle.c.
+// Every operator on a table of edge cases, to compare with a second implementation on hardware floats: tests/host/expected/values.rs.
 // A line has a name and the results for every operand of the table; for two operands the left one stands after the name.
 // A result is i and a signed decimal, r and a pattern, ! and a fault's number, or ? for an operand of the wrong kind.
 // The last lines have whole powers, and the most multiplications that one of them takes.
