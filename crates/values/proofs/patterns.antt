@@ -3,3 +3,4 @@ pub mod Readings
 pub mod Operators
 pub mod Flips
 pub mod Shifts
+pub mod Exponents

@@ -1,11 +1,25 @@
-// Integers as 32-bit patterns: bitwise operators and shifts.
+// Integers as 32-bit patterns: bitwise operators and shifts. And the patterns of singles.
 ghost use mathlib.Core.Path.{_≡_};
+ghost use lib.Ieee.{binary32, ofBits};
+ghost use lib.Ieee.Scale.{finite};
 ghost use Rattle.values.specs.Patterns.{lowBits, signedOf, bitwiseInt, complementInt, shiftInt};
 use crate::BitOp;
 use crate::Fault;
 use crate::Outcome;
 use crate::ShiftOp;
 use crate::Value;
+
+// The lowest bit of the exponent's field in the pattern of a single, and the field with all its bits set.
+const EXPONENT: u32 = 0x0080_0000;
+
+const ALL_ONES: u32 = 255;
+
+// Neither an infinity nor a NaN: their exponent is all ones.
+pub fn is_finite_single(n: u32) -> bool
+    ensures { λ r. ⌜ r ≡ finite (ofBits binary32 n) ⌝ }
+{
+    n / EXPONENT % 256 != ALL_ONES
+}
 
 pub fn bitwise(op: BitOp, a: i32, b: i32) -> i32
     ensures { λ r. ⌜ r ≡ bitwiseInt op a b ⌝ }
