@@ -13,17 +13,16 @@ use Rattle.values.specs.declared.Fault.{Fault}
 use Rattle.values.specs.declared.Fault.the-variants.{DividedByZero, Overflow, OutOfRange, IndexError}
 use Rattle.memory.specs.declared.Bank.{Bank}
 use Rattle.memory.specs.declared.Bank.the-variants.{X, C, «V», N, D, R}
-use Rattle.memory.specs.declared.Layout.{Layout}
-use Rattle.memory.specs.Layout.{layoutOf, cellAt, hasCell, flagAt}
+use Rattle.memory.specs.Layout.{layoutOf, cellAt, flagAt, ImageLayout, bytewise, hasCellIn, hasCell}
 use Rattle.memory.specs.Laws.{Distinct, InCell}
 
 -- ---- an image that has the cell
-module _ (s : List ℕ) (b : Bank) (i : ℕ) where
-  pub has-size : T (hasCell s b i) → length s ≡ 3204
-  has-size h = eqb→eq (length s) 3204 (and-l (eqb (length s) 3204) (ltb i (layoutOf b .elements)) h)
+module _ (F : ImageLayout) (s : List ℕ) (b : Bank) (i : ℕ) where
+  pub has-size : T (hasCellIn F s b i) → length s ≡ F .size
+  has-size h = eqb→eq (length s) (F .size) (and-l (eqb (length s) (F .size)) (ltb i (layoutOf b .elements)) h)
 
-  pub has-element : T (hasCell s b i) → i < layoutOf b .elements
-  has-element h = ltb→lt i (layoutOf b .elements) (and-r (eqb (length s) 3204) (ltb i (layoutOf b .elements)) h)
+  pub has-element : T (hasCellIn F s b i) → i < layoutOf b .elements
+  has-element h = ltb→lt i (layoutOf b .elements) (and-r (eqb (length s) (F .size)) (ltb i (layoutOf b .elements)) h)
 
 -- ---- a cell ends below the flags
 pub cell-end : (b : Bank) (i : ℕ) → i < layoutOf b .elements → cellAt b i + layoutOf b .width ≤ 3200
@@ -35,12 +34,7 @@ cell-end D i h = omega arith
 cell-end R i h = omega arith
 
 pub cell-within : (s : List ℕ) (b : Bank) (i : ℕ) → T (hasCell s b i) → cellAt b i + layoutOf b .width ≤ length s
-cell-within s b i h = omega (arith, cell-end b i (has-element s b i h), has-size s b i h)
-
--- the place as the code finds it: from the row of the bank b, which is a
-pub row-within : (s : List ℕ) (b a : Bank) (i : ℕ) (row : Layout) → row ≡ layoutOf b → b ≡ a
-    → T (hasCell s b i) → row .place + i * row .width + layoutOf a .width ≤ length s
-row-within s b a i row r e h = rw (r, ← e) (cell-within s b i h)
+cell-within s b i h = omega (arith, cell-end b i (has-element bytewise s b i h), has-size bytewise s b i h)
 
 pub flag-end : (f : Fault) → (3200 ≤ flagAt f) × (flagAt f < 3204)
 flag-end IndexError = omega arith

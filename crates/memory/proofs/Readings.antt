@@ -1,4 +1,4 @@
--- What a cell reads: a value of its bank's kind, and a proper one where its bytes are bytes; or a fault. Assumes nothing.
+-- What a cell of an image of any layout reads: a value of its bank's kind, and a proper one where its bytes are bytes; or a fault. Assumes nothing.
 use mathlib.Core.Path.{_≡_, refl}
 use mathlib.Core.Bool.{Bool, true, false, cond}
 use mathlib.Core.List.{List}
@@ -7,11 +7,8 @@ use native.Mathlib.Omega.{arith}
 use lib.Dec.{T, eqb, lit<, lit≤}
 use lib.IntN.{ℤ, pos}
 use lib.Ieee.{Float, nan, inf, fin, ofBits, binary32}
-use lib.ListN.{length}
-use borrow.Author.Tests.{eqb-true, eqb-false}
-use Rattle.words.specs.Words.{littleEndian}
+use lib.Ieee.Scale.{finite}
 use Rattle.words.specs.Laws.{Bytes}
-use Rattle.words.proofs.Laws.{word-laws}
 use Rattle.values.specs.declared.Kind.the-variants as K
 use Rattle.values.specs.declared.Value.{Value}
 use Rattle.values.specs.declared.Value.the-variants.{Int, Real}
@@ -21,24 +18,25 @@ use Rattle.values.specs.declared.Outcome.the-variants.{Done, Stopped}
 use Rattle.values.specs.Integers.{inRange}
 use Rattle.values.specs.Patterns.{signedOf}
 use Rattle.values.proofs.Ranges.{sfits-range}
+use Rattle.values.proofs.patterns.Exponents.{finite-single}
 use Rattle.operators.specs.declared.Position.{Position}
 use Rattle.operators.specs.declared.Position.the-variants as P
 use Rattle.operators.specs.Laws.{Proper, OfKind, AllProper}
 use Rattle.memory.specs.declared.Bank.{Bank}
 use Rattle.memory.specs.declared.Bank.the-variants.{X, C, «V», N, D, R}
-use Rattle.memory.specs.Layout.{layoutOf, cellAt, hasCell}
-use Rattle.memory.specs.Cells.{bankKind, bytesAt, bitOf, finiteOrFault, cellValue, realCell, readRule, positionRule, readAt, indexedRule}
-use Rattle.memory.proofs.Places.{cell-within}
-use Rattle.memory.proofs.Runs.{run-length, run-bytes}
+use Rattle.memory.specs.Layout.{layoutOf, ImageLayout, hasCellIn}
+use Rattle.memory.specs.Cells.{bankKind, bitOf, finiteOrFault, cellValue, realCell, positionRule, readIn, readAt, indexedIn}
+use Rattle.memory.specs.Laws.{LayoutLaws}
+use Rattle.memory.proofs.Places.{has-size, has-element}
 use Rattle.memory.proofs.cells.Signs.{signed-range}
-use Rattle.memory.proofs.cells.Exponents.{exponent, infinite-cell, single-cell, finite-cell}
+use Rattle.memory.proofs.cells.Singles.{finite-cell, special-cell}
 
 -- a property of outcomes that a fault has, and the value of the cell
-read-has : (P : Outcome → Type 0) → P (Stopped IndexError) → (s : List ℕ) (b : Bank) (i : ℕ)
-    → (T (hasCell s b i) → P (cellValue b (littleEndian (bytesAt s b i)))) → P (readRule s b i)
-read-has P f s b i h = by (hasCell s b i) h
+read-has : (P : Outcome → Type 0) → P (Stopped IndexError) → (F : ImageLayout) (s : List ℕ) (b : Bank) (i : ℕ)
+    → (T (hasCellIn F s b i) → P (cellValue b (F .get s b i))) → P (readIn F s b i)
+read-has P f F s b i h = by (hasCellIn F s b i) h
   where
-    by : (t : Bool) → (T t → P (cellValue b (littleEndian (bytesAt s b i)))) → P (cond t (cellValue b (littleEndian (bytesAt s b i))) (Stopped IndexError))
+    by : (t : Bool) → (T t → P (cellValue b (F .get s b i))) → P (cond t (cellValue b (F .get s b i)) (Stopped IndexError))
     by true u = u tt
     by false u = f
 
@@ -56,15 +54,16 @@ cell-kind N n = OfKind.done (Int (signedOf 16 n)) refl
 cell-kind D n = OfKind.done (Int (signedOf 32 n)) refl
 cell-kind R n = real-kind (ofBits binary32 n)
 
-pub read-kind : (s : List ℕ) (b : Bank) (i : ℕ) → OfKind (bankKind b) (readRule s b i)
-read-kind s b i = read-has (OfKind (bankKind b)) (OfKind.stopped IndexError) s b i (λ h. cell-kind b (littleEndian (bytesAt s b i)))
+module _ (F : ImageLayout) (s : List ℕ) (b : Bank) where
+  pub read-kind : (i : ℕ) → OfKind (bankKind b) (readIn F s b i)
+  read-kind i = read-has (OfKind (bankKind b)) (OfKind.stopped IndexError) F s b i (λ h. cell-kind b (F .get s b i))
 
-position-kind : (s : List ℕ) (b : Bank) (p : Position) → OfKind (bankKind b) (readAt s b p)
-position-kind s b (P.At i) = read-kind s b i
-position-kind s b (P.Stopped f) = OfKind.stopped f
+  position-kind : (p : Position) → OfKind (bankKind b) (readAt F s b p)
+  position-kind (P.At i) = read-kind i
+  position-kind (P.Stopped f) = OfKind.stopped f
 
-pub indexed-kind : (s : List ℕ) (b : Bank) (v : Value) → OfKind (bankKind b) (indexedRule s b v)
-indexed-kind s b v = position-kind s b (positionRule b v)
+  pub indexed-kind : (v : Value) → OfKind (bankKind b) (indexedIn F s b v)
+  indexed-kind v = position-kind (positionRule b v)
 
 -- ---- properness
 integer : (z : ℤ) → inRange z ≡ true → AllProper (Done (Int z))
@@ -75,13 +74,11 @@ bit-proper true = integer (pos 0) refl
 bit-proper false = integer (pos 1) refl
 
 real-proper : (n : ℕ) → AllProper (realCell n)
-real-proper n = by (eqb (exponent n) 255) refl
+real-proper n = by (finite (ofBits binary32 n)) refl
   where
-    by : (t : Bool) → eqb (exponent n) 255 ≡ t → AllProper (realCell n)
-    by true e = rw (infinite-cell n (eqb-true (exponent n) 255 e)) (AllProper.stopped OutOfRange)
-    by false e =
-        let h = eqb-false (exponent n) 255 e in
-        rw (finite-cell n h) (AllProper.done (Real (ofBits binary32 n)) (Proper.real (ofBits binary32 n) (single-cell n h)))
+    by : (t : Bool) → finite (ofBits binary32 n) ≡ t → AllProper (realCell n)
+    by true e = rw (finite-cell n e) (AllProper.done (Real (ofBits binary32 n)) (Proper.real (ofBits binary32 n) (finite-single n e)))
+    by false e = rw (special-cell n e) (AllProper.stopped OutOfRange)
 
 cell-proper : (b : Bank) (n : ℕ) → n < 256 ^ layoutOf b .width → AllProper (cellValue b n)
 cell-proper X n h = bit-proper (eqb n 0)
@@ -91,19 +88,15 @@ cell-proper N n h = integer (signedOf 16 n) (signed-range 16 n (lit< tt) (lit≤
 cell-proper D n h = integer (signedOf 32 n) (signed-range 32 n (lit< tt) (lit≤ tt) h)
 cell-proper R n h = real-proper n
 
--- a cell's number is below what its bytes can hold
-cell-below : (s : List ℕ) (b : Bank) (i : ℕ) → Bytes s → T (hasCell s b i) → littleEndian (bytesAt s b i) < 256 ^ layoutOf b .width
-cell-below s b i h g =
-    let w = layoutOf b .width in
-    let long : length (bytesAt s b i) ≡ w = run-length s (cellAt b i) w (cell-within s b i g) in
-    rw long at (word-laws .below (bytesAt s b i) (run-bytes s (cellAt b i) w h))
+module _ (F : ImageLayout) (L : LayoutLaws F) (s : List ℕ) (b : Bank) (h : Bytes s) where
+  pub read-proper : (i : ℕ) → AllProper (readIn F s b i)
+  read-proper i =
+      read-has AllProper (AllProper.stopped IndexError) F s b i
+      (λ g. cell-proper b (F .get s b i) (L .get-below s b i (has-size F s b i g) (has-element F s b i g) h))
 
-pub read-proper : (s : List ℕ) (b : Bank) (i : ℕ) → Bytes s → AllProper (readRule s b i)
-read-proper s b i h = read-has AllProper (AllProper.stopped IndexError) s b i (λ g. cell-proper b (littleEndian (bytesAt s b i)) (cell-below s b i h g))
+  position-proper : (p : Position) → AllProper (readAt F s b p)
+  position-proper (P.At i) = read-proper i
+  position-proper (P.Stopped f) = AllProper.stopped f
 
-position-proper : (s : List ℕ) (b : Bank) (p : Position) → Bytes s → AllProper (readAt s b p)
-position-proper s b (P.At i) h = read-proper s b i h
-position-proper s b (P.Stopped f) h = AllProper.stopped f
-
-pub indexed-proper : (s : List ℕ) (b : Bank) (v : Value) → Bytes s → AllProper (indexedRule s b v)
-indexed-proper s b v h = position-proper s b (positionRule b v) h
+  pub indexed-proper : (v : Value) → AllProper (indexedIn F s b v)
+  indexed-proper v = position-proper (positionRule b v)

@@ -24,7 +24,7 @@ use Rattle.memory.specs.declared.store.Encoded.the-variants.{Pattern}
 use Rattle.memory.specs.Cells.{finiteOrFault, cellValue}
 use Rattle.memory.specs.Store.{encodeCell}
 use Rattle.memory.specs.Laws.{Representable, off, on, unsigned, signed, integer, real}
-use Rattle.memory.proofs.cells.Exponents.{single-reads}
+use Rattle.memory.proofs.cells.Singles.{finite-read}
 use Rattle.memory.proofs.cells.Signs.{signed-range}
 
 pub record Represents (b : Bank) (v : Value) : Type 0 where
@@ -56,5 +56,5 @@ represents (real x S) =
       proper = Proper.real x S;
       pattern = toBits binary32 x;
       written = rw (is-true (finite x) (S .real));
-      read = ap finiteOrFault (real-laws .decode-encode x S) ∙ single-reads x (S .real);
+      read = ap finiteOrFault (real-laws .decode-encode x S) ∙ finite-read x (is-true (finite x) (S .real));
     }

@@ -6,7 +6,7 @@ use Prim.Native.Nat.{ℕ, zero, suc, _+_, _≤_, _<_, min}
 use native.Mathlib.Omega.{arith}
 use lib.Dec.{lit<}
 use lib.ListN.{length, getD, take, drop, set, length-take, length-drop}
-use lib.Seq.{drop-cons, sets, sets-eq, take-append-seam, drop-at, length-take-le, getD-set-other, getD-take, getD-drop, ext-getD}
+use lib.Seq.{drop-cons, sets, sets-eq, take-append-seam, drop-at, length-take-le, getD-set-other, set-comm, getD-take, getD-drop, ext-getD}
 use Rattle.words.specs.Laws.{Bytes}
 
 pub run-written : (s : List ℕ) (at : ℕ) (bs : List ℕ) → at + length bs ≤ length s → take (length bs) (drop at (sets s at bs)) ≡ bs
@@ -20,6 +20,20 @@ other-kept s at [] k h = refl
 other-kept s at (b ∷ bs) k h =
     other-kept (set s at b) (suc at) bs k (⊎-elim (λ l. inl (omega arith)) (λ l. inr (omega arith)) h)
     ∙ getD-set-other s at k b 0 (λ e. ⊎-elim (λ l. omega arith) (λ l. omega arith) h)
+
+-- ---- what is written to distinct places commutes
+pub set-sets : (s : List ℕ) (at : ℕ) (bs : List ℕ) (k b : ℕ) → (k < at) ⊎ (at + length bs ≤ k) → set (sets s at bs) k b ≡ sets (set s k b) at bs
+set-sets s at [] k b h = refl
+set-sets s at (a ∷ rest) k b h =
+    set-sets (set s at a) (suc at) rest k b (⊎-elim (λ l. inl (omega arith)) (λ l. inr (omega arith)) h)
+    ∙ ap (λ (r : List ℕ). sets r (suc at) rest) (set-comm s at k a b (λ e. ⊎-elim (λ l. omega arith) (λ l. omega arith) h))
+
+pub sets-sets : (s : List ℕ) (at : ℕ) (rest : List ℕ) (to : ℕ) (bs : List ℕ) → ((k : ℕ) → to ≤ k → k < to + length bs → (k < at) ⊎ (at + length rest ≤ k))
+    → sets (sets s at rest) to bs ≡ sets (sets s to bs) at rest
+sets-sets s at rest to [] h = refl
+sets-sets s at rest to (b ∷ bs) h =
+    ap (λ (r : List ℕ). sets r (suc to) bs) (set-sets s at rest to b (h to (omega arith) (omega arith)))
+    ∙ sets-sets (set s to b) at rest (suc to) bs (λ k l u. h k (omega arith) (omega arith))
 
 pub run-length : (s : List ℕ) (at n : ℕ) → at + n ≤ length s → length (take n (drop at s)) ≡ n
 run-length s at n h = simp (length-take, length-drop) (omega arith)

@@ -1,3 +1,5 @@
 -- Laws for the proofs of cells.
+mod Arms
 pub mod Signs
+pub mod Singles
 pub mod Exponents

@@ -5,10 +5,8 @@ use mathlib.Core.List.{List}
 use Prim.Native.Nat.{ℕ}
 use lib.Dec.{eqb}
 use lib.IntN.{ℤ, pos}
-use lib.ListN.{take, drop}
 use lib.Ieee as Ieee
 use lib.Ieee.{Float, nan, inf, fin, binary32}
-use Rattle.words.specs.Words.{littleEndian}
 use Rattle.values.specs.declared.Kind.{Kind}
 use Rattle.values.specs.declared.Kind.the-variants as K
 use Rattle.values.specs.declared.Value.{Value}
@@ -22,7 +20,7 @@ use Rattle.operators.specs.declared.Position.the-variants as P
 use Rattle.operators.specs.Operators.{indexRule}
 use Rattle.memory.specs.declared.Bank.{Bank}
 use Rattle.memory.specs.declared.Bank.the-variants.{X, C, «V», N, D, R}
-use Rattle.memory.specs.Layout.{layoutOf, cellAt, hasCell}
+use Rattle.memory.specs.Layout.{layoutOf, ImageLayout, bytewise, hasCellIn}
 
 -- "Bits, V, N, D and plain numerals are integers."
 abbrev pub bankKind : Bank → Kind
@@ -32,10 +30,6 @@ bankKind «V» = K.Int
 bankKind N = K.Int
 bankKind D = K.Int
 bankKind R = K.Real
-
--- the bytes of a cell
-abbrev pub bytesAt : List ℕ → Bank → ℕ → List ℕ
-bytesAt s b i = take (layoutOf b .width) (drop (cellAt b i) s)
 
 abbrev pub bitOf : ℕ → ℤ
 bitOf n = cond (eqb n 0) (pos 0) (pos 1)
@@ -49,7 +43,7 @@ finiteOrFault (fin s m e) = Done (Real (fin s m e))
 abbrev pub realCell : ℕ → Outcome
 realCell n = finiteOrFault (Ieee.ofBits binary32 n)
 
--- what a bank reads in the number of a cell's bytes
+-- what a bank reads in the number that a cell holds
 abbrev pub cellValue : Bank → ℕ → Outcome
 cellValue X n = Done (Int (bitOf n))
 cellValue C n = Done (Int (bitOf n))
@@ -58,17 +52,25 @@ cellValue N n = Done (Int (signedOf 16 n))
 cellValue D n = Done (Int (signedOf 32 n))
 cellValue R n = realCell n
 
-abbrev pub readRule : List ℕ → Bank → ℕ → Outcome
-readRule s b i = cond (hasCell s b i) (cellValue b (littleEndian (bytesAt s b i))) (Stopped IndexError)
-
 -- the element of a bank that an index names
 abbrev pub positionRule : Bank → Value → Position
 positionRule b v = indexRule (layoutOf b .elements) v
 
--- the cell at a position; without one, the index's fault
-abbrev pub readAt : List ℕ → Bank → Position → Outcome
-readAt s b (P.At i) = readRule s b i
-readAt s b (P.Stopped f) = Stopped f
+module _ (F : ImageLayout) where
+  abbrev pub readIn : List ℕ → Bank → ℕ → Outcome
+  readIn s b i = cond (hasCellIn F s b i) (cellValue b (F .get s b i)) (Stopped IndexError)
+
+  -- the cell at a position; without one, the index's fault
+  abbrev pub readAt : List ℕ → Bank → Position → Outcome
+  readAt s b (P.At i) = readIn s b i
+  readAt s b (P.Stopped f) = Stopped f
+
+  abbrev pub indexedIn : List ℕ → Bank → Value → Outcome
+  indexedIn s b v = readAt s b (positionRule b v)
+
+-- of paper 01's image
+abbrev pub readRule : List ℕ → Bank → ℕ → Outcome
+readRule s b i = readIn bytewise s b i
 
 abbrev pub indexedRule : List ℕ → Bank → Value → Outcome
-indexedRule s b v = readAt s b (positionRule b v)
+indexedRule s b v = indexedIn bytewise s b v

@@ -4,11 +4,16 @@ use Prim.Native.Nat.{ℕ}
 use Rattle.values.specs.declared.Value.{Value}
 use Rattle.values.specs.declared.Outcome.{Outcome}
 use Rattle.memory.specs.declared.Bank.{Bank}
-use Rattle.memory.specs.Cells.{readRule, indexedRule}
+use Rattle.memory.specs.Layout.{ImageLayout, bytewise}
+use Rattle.memory.specs.Cells.{readIn, indexedIn}
 
 pub record Environment : Type 0 where
   pub cell : Bank → ℕ → Outcome
   pub indexed : Bank → Value → Outcome
 
+-- an image of any layout
+abbrev pub memoryIn : ImageLayout → List ℕ → Environment
+memoryIn F s = record { cell = readIn F s; indexed = indexedIn F s }
+
 abbrev pub memoryOf : List ℕ → Environment
-memoryOf s = record { cell = readRule s; indexed = indexedRule s }
+memoryOf s = memoryIn bytewise s

@@ -4,7 +4,9 @@ use mathlib.Core.Bool.{Bool, _&&_}
 use mathlib.Core.List.{List}
 use Prim.Native.Nat.{ℕ, _+_, _*_}
 use lib.Dec.{eqb, ltb}
-use lib.ListN.{length}
+use lib.ListN.{length, take, drop}
+use lib.Seq.{sets}
+use Rattle.words.specs.Words.{littleEndian, bytesOf}
 use Rattle.values.specs.declared.Fault.{Fault}
 use Rattle.values.specs.declared.Fault.the-variants.{DividedByZero, Overflow, OutOfRange, IndexError}
 use Rattle.memory.specs.declared.Bank.{Bank}
@@ -26,12 +28,36 @@ layoutOf R = record { place = 2176; elements = 256; width = 4 }
 abbrev pub cellAt : Bank → ℕ → ℕ
 cellAt b i = layoutOf b .place + i * layoutOf b .width
 
--- the image is of the right size, and the bank has the element
-abbrev pub hasCell : List ℕ → Bank → ℕ → Bool
-hasCell s b i = eqb (length s) imageSize && ltb i (layoutOf b .elements)
+-- the bytes of a cell
+abbrev pub bytesAt : List ℕ → Bank → ℕ → List ℕ
+bytesAt s b i = take (layoutOf b .width) (drop (cellAt b i) s)
 
 abbrev pub flagAt : Fault → ℕ
 flagAt IndexError = 3200
 flagAt OutOfRange = 3201
 flagAt Overflow = 3202
 flagAt DividedByZero = 3203
+
+-- how an image keeps cells and flags: its size, the number that a cell holds, the image with a number put into a cell, and the place of a flag's byte
+pub record ImageLayout : Type 0 where
+  pub size : ℕ
+  pub get : List ℕ → Bank → ℕ → ℕ
+  pub put : List ℕ → Bank → ℕ → ℕ → List ℕ
+  pub flag : Fault → ℕ
+
+-- the image above: a cell holds the number of its bytes. `sets s at bs`: the bytes bs from the place at on, every other byte as it was
+abbrev pub bytewise : ImageLayout
+bytewise =
+    record {
+      size = imageSize;
+      get = λ s b i. littleEndian (bytesAt s b i);
+      put = λ s b i n. sets s (cellAt b i) (bytesOf (layoutOf b .width) n);
+      flag = flagAt;
+    }
+
+-- the image is of the right size, and the bank has the element
+abbrev pub hasCellIn : ImageLayout → List ℕ → Bank → ℕ → Bool
+hasCellIn F s b i = eqb (length s) (F .size) && ltb i (layoutOf b .elements)
+
+abbrev pub hasCell : List ℕ → Bank → ℕ → Bool
+hasCell s b i = hasCellIn bytewise s b i

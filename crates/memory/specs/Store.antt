@@ -7,11 +7,9 @@ use Prim.Native.Nat.{ℕ}
 use lib.Dec.{eqb}
 use lib.IntN.{ℤ}
 use lib.ListN.{length, set}
-use lib.Seq.{sets}
 use lib.Ieee as Ieee
 use lib.Ieee.{binary32}
 use lib.Ieee.Scale.{finite}
-use Rattle.words.specs.Words.{bytesOf}
 use Rattle.values.specs.declared.Value.{Value}
 use Rattle.values.specs.declared.Value.the-variants.{Int, Real}
 use Rattle.values.specs.declared.Fault.{Fault}
@@ -27,7 +25,7 @@ use Rattle.memory.specs.declared.store.Encoded.{Encoded}
 use Rattle.memory.specs.declared.store.Encoded.the-variants as E
 use Rattle.memory.specs.declared.store.Stored.{Stored}
 use Rattle.memory.specs.declared.store.Stored.the-variants as S
-use Rattle.memory.specs.Layout.{imageSize, layoutOf, cellAt, hasCell, flagAt}
+use Rattle.memory.specs.Layout.{ImageLayout, bytewise, hasCellIn}
 
 abbrev pub boolPattern : Bool → ℕ
 boolPattern true = 1
@@ -59,21 +57,34 @@ isFinite (Real x) = finite x
 abbrev pub encodeCell : Bank → Value → Encoded
 encodeCell b v = cond (isFinite v) (encodeFiniteCell b v) (E.Stopped OutOfRange)
 
--- the flag's byte is 1, every other byte as it was
-abbrev pub withFlag : List ℕ → Fault → List ℕ
-withFlag s f = cond (eqb (length s) imageSize) (set s (flagAt f) 1) s
-
--- `sets s at bs`: the bytes bs from the place at on, every other byte as it was
-abbrev pub writeCell : List ℕ → Bank → ℕ → Encoded → List ℕ
-writeCell s b i (E.Pattern p) = sets s (cellAt b i) (bytesOf (layoutOf b .width) p)
-writeCell s b i (E.Stopped f) = withFlag s f
-
-abbrev pub storeImage : List ℕ → Bank → ℕ → Value → List ℕ
-storeImage s b i v = cond (hasCell s b i) (writeCell s b i (encodeCell b v)) (withFlag s IndexError)
-
 abbrev pub answerOf : Encoded → Stored
 answerOf (E.Pattern p) = S.Done
 answerOf (E.Stopped f) = S.Stopped f
 
+module _ (F : ImageLayout) where
+  -- the flag's byte is 1, every other byte as it was
+  abbrev pub withFlagIn : List ℕ → Fault → List ℕ
+  withFlagIn s f = cond (eqb (length s) (F .size)) (set s (F .flag f) 1) s
+
+  abbrev pub writeIn : List ℕ → Bank → ℕ → Encoded → List ℕ
+  writeIn s b i (E.Pattern p) = F .put s b i p
+  writeIn s b i (E.Stopped f) = withFlagIn s f
+
+  abbrev pub storeIn : List ℕ → Bank → ℕ → Value → List ℕ
+  storeIn s b i v = cond (hasCellIn F s b i) (writeIn s b i (encodeCell b v)) (withFlagIn s IndexError)
+
+  abbrev pub storeAnswerIn : List ℕ → Bank → ℕ → Value → Stored
+  storeAnswerIn s b i v = cond (hasCellIn F s b i) (answerOf (encodeCell b v)) (S.Stopped IndexError)
+
+-- of paper 01's image
+abbrev pub withFlag : List ℕ → Fault → List ℕ
+withFlag s f = withFlagIn bytewise s f
+
+abbrev pub writeCell : List ℕ → Bank → ℕ → Encoded → List ℕ
+writeCell s b i x = writeIn bytewise s b i x
+
+abbrev pub storeImage : List ℕ → Bank → ℕ → Value → List ℕ
+storeImage s b i v = storeIn bytewise s b i v
+
 abbrev pub storeAnswer : List ℕ → Bank → ℕ → Value → Stored
-storeAnswer s b i v = cond (hasCell s b i) (answerOf (encodeCell b v)) (S.Stopped IndexError)
+storeAnswer s b i v = storeAnswerIn bytewise s b i v

@@ -1,19 +1,19 @@
-// Reading a cell of the image.
+// Cells of the image: where one lies, the number that it holds, and what it reads.
 ghost use mathlib.Core.Path.{_≡_};
-ghost use Prim.Native.Nat.{_+_, _≤_, _<_};
-ghost use lib.ListN.{length, take, drop};
-ghost use Rattle.words.specs.Words.{littleEndian};
-ghost use Rattle.memory.specs.Layout.{hasCell};
+ghost use Prim.Native.Nat.{_^_, _<_};
+ghost use lib.Dec.{T};
+ghost use Rattle.memory.specs.Layout.{layoutOf, cellAt, bytewise, hasCell};
 ghost use Rattle.memory.specs.Cells.{cellValue, readRule, positionRule, indexedRule};
 use crate::Bank;
 use crate::IMAGE_SIZE;
+use crate::bytes;
 use operators::Position;
 use values::Fault;
 use values::Outcome;
 use values::Value;
 
-// What a bank reads in the number of a cell's bytes.
-fn bit_cell(n: u8) -> Outcome
+// What a bank reads in the number that a cell holds.
+fn bit_cell(n: u32) -> Outcome
     ensures { λ r. ⌜ r ≡ cellValue Bank.X n ⌝ }
 {
     if n == 0 {
@@ -47,31 +47,14 @@ fn wide_cell(n: u32) -> Outcome
     Outcome::Done(Value::Int(values::patterns::from_pattern(n)))
 }
 
-// A pattern whose exponent is all ones is an infinity or a NaN.
 fn real_cell(n: u32) -> Outcome
     ensures { λ r. ⌜ r ≡ cellValue Bank.R n ⌝ }
 {
-    if n / 8388608 % 256 == 255 {
-        return Outcome::Stopped(Fault::OutOfRange);
+    if values::patterns::is_finite_single(n) {
+        Outcome::Done(Value::Real(f32::from_bits(n)))
+    } else {
+        Outcome::Stopped(Fault::OutOfRange)
     }
-    Outcome::Done(Value::Real(f32::from_bits(n)))
-}
-
-// The number of two bytes of the image, and of four.
-fn get16(image: &[u8], at: usize) -> u32
-    requires { ⌜ at + 2 ≤ length (now image) ⌝ }
-    ensures { λ r. ⌜ (r ≡ littleEndian (take 2 (drop at (now (image .entry))))) × (r < 65536) ⌝ }
-{
-    let low = image[at];
-    let high = image[at + 1];
-    words::word16(low, high)
-}
-
-fn get32(image: &[u8], at: usize) -> u32
-    requires { ⌜ at + 4 ≤ length (now image) ⌝ }
-    ensures { λ r. ⌜ r ≡ littleEndian (take 4 (drop at (now (image .entry)))) ⌝ }
-{
-    words::word32(image[at], image[at + 1], image[at + 2], image[at + 3])
 }
 
 // Outside the bank, and in an image of another size, there is no element.
@@ -84,21 +67,59 @@ pub fn has_cell(image: &[u8], bank: Bank, element: u32) -> bool
     element < crate::layout_of(bank).elements
 }
 
+// The first byte of an element. Nothing else works out a place.
+fn place_of(bank: Bank, element: u32) -> usize
+    requires { ⌜ element < layoutOf bank .elements ⌝ }
+    ensures { λ r. ⌜ r ≡ cellAt bank element ⌝ }
+{
+    let row = crate::layout_of(bank);
+    row.place + (element as usize) * row.width
+}
+
+// The number that a cell holds. Here and below an arm for each bank, so that its layout is known where the cell is reached.
+pub fn get(image: &[u8], bank: Bank, element: u32) -> u32
+    requires { ⌜ T (hasCell (now image) bank element) ⌝ }
+    ensures { λ r. ⌜ r ≡ bytewise .get (now (image .entry)) bank element ⌝ }
+    ensures { λ r. ⌜ r < 256 ^ layoutOf bank .width ⌝ }
+{
+    match bank {
+        Bank::X => bytes::get8(image, place_of(Bank::X, element)),
+        Bank::C => bytes::get8(image, place_of(Bank::C, element)),
+        Bank::V => bytes::get16(image, place_of(Bank::V, element)),
+        Bank::N => bytes::get16(image, place_of(Bank::N, element)),
+        Bank::D => bytes::get32(image, place_of(Bank::D, element)),
+        Bank::R => bytes::get32(image, place_of(Bank::R, element)),
+    }
+}
+
+// A number into a cell, and no other byte.
+pub fn put(image: &mut [u8], bank: Bank, element: u32, n: u32)
+    requires { ⌜ T (hasCell (now image) bank element) ⌝ }
+    ensures { λ r. ⌜ now (image .exit) ≡ bytewise .put (now (image .entry)) bank element n ⌝ }
+{
+    match bank {
+        Bank::X => image[place_of(Bank::X, element)] = words::byte(n),
+        Bank::C => image[place_of(Bank::C, element)] = words::byte(n),
+        Bank::V => bytes::put16(image, place_of(Bank::V, element), n),
+        Bank::N => bytes::put16(image, place_of(Bank::N, element), n),
+        Bank::D => bytes::put32(image, place_of(Bank::D, element), n),
+        Bank::R => bytes::put32(image, place_of(Bank::R, element), n),
+    }
+}
+
 pub fn read(image: &[u8], bank: Bank, element: u32) -> Outcome
     ensures { λ r. ⌜ r ≡ readRule (now (image .entry)) bank element ⌝ }
 {
     if !has_cell(image, bank, element) {
         return Outcome::Stopped(Fault::IndexError);
     }
-    let row = crate::layout_of(bank);
-    let at = row.place + (element as usize) * row.width;
     match bank {
-        Bank::X => bit_cell(image[at]),
-        Bank::C => bit_cell(image[at]),
-        Bank::V => unsigned_cell(get16(image, at)),
-        Bank::N => signed_cell(get16(image, at)),
-        Bank::D => wide_cell(get32(image, at)),
-        Bank::R => real_cell(get32(image, at)),
+        Bank::X => bit_cell(get(image, Bank::X, element)),
+        Bank::C => bit_cell(get(image, Bank::C, element)),
+        Bank::V => unsigned_cell(get(image, Bank::V, element)),
+        Bank::N => signed_cell(get(image, Bank::N, element)),
+        Bank::D => wide_cell(get(image, Bank::D, element)),
+        Bank::R => real_cell(get(image, Bank::R, element)),
     }
 }
 

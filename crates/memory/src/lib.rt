@@ -3,6 +3,7 @@ ghost use mathlib.Core.Path.{_≡_};
 ghost use Rattle.memory.specs.Layout.{layoutOf, flagAt};
 use values::Fault;
 
+mod bytes;
 pub mod cells;
 pub mod names;
 pub mod numbers;

@@ -1,14 +1,9 @@
-// Storing a value into a cell, and setting a fault's flag. Nothing else writes the image.
+// Storing a value into a cell, and setting a fault's flag.
 ghost use mathlib.Core.Path.{_≡_};
-ghost use Prim.Native.Nat.{_+_, _≤_};
-ghost use lib.Dec.{T};
-ghost use lib.ListN.{length};
-ghost use lib.Seq.{sets};
-ghost use Rattle.words.specs.Words.{bytesOf};
-ghost use Rattle.memory.specs.Layout.{hasCell};
-ghost use Rattle.memory.specs.Store.{boolPattern, lowCut, integerOf, isFinite, encodeCell, withFlag, writeCell, storeAnswer, storeImage};
+ghost use Rattle.memory.specs.Store.{boolPattern, lowCut, integerOf, isFinite, encodeCell, withFlag, storeAnswer, storeImage};
 use crate::Bank;
 use crate::IMAGE_SIZE;
+use crate::cells;
 use values::Cut;
 use values::Fault;
 use values::Value;
@@ -87,22 +82,6 @@ pub fn pattern_of(bank: Bank, v: Value) -> Encoded
     }
 }
 
-fn put16(image: &mut [u8], at: usize, n: u32)
-    requires { ⌜ at + 2 ≤ length (now image) ⌝ }
-    ensures { λ r. ⌜ now (image .exit) ≡ sets (now (image .entry)) at (bytesOf 2 n) ⌝ }
-{
-    image[at] = words::byte(n);
-    image[at + 1] = words::byte(n / 256);
-}
-
-fn put32(image: &mut [u8], at: usize, n: u32)
-    requires { ⌜ at + 4 ≤ length (now image) ⌝ }
-    ensures { λ r. ⌜ now (image .exit) ≡ sets (now (image .entry)) at (bytesOf 4 n) ⌝ }
-{
-    put16(image, at, n);
-    put16(image, at + 2, n / 65536);
-}
-
 pub fn set_flag(image: &mut [u8], f: Fault)
     ensures { λ r. ⌜ now (image .exit) ≡ withFlag (now (image .entry)) f ⌝ }
 {
@@ -111,34 +90,17 @@ pub fn set_flag(image: &mut [u8], f: Fault)
     }
 }
 
-// The bytes of a cell that the image has.
-fn put(image: &mut [u8], bank: Bank, element: u32, pattern: u32)
-    requires { ⌜ T (hasCell (now image) bank element) ⌝ }
-    ensures { λ r. ⌜ now (image .exit) ≡ writeCell (now (image .entry)) bank element (Encoded.Pattern pattern) ⌝ }
-{
-    let row = crate::layout_of(bank);
-    let at = row.place + (element as usize) * row.width;
-    match bank {
-        Bank::X => image[at] = words::byte(pattern),
-        Bank::C => image[at] = words::byte(pattern),
-        Bank::V => put16(image, at, pattern),
-        Bank::N => put16(image, at, pattern),
-        Bank::D => put32(image, at, pattern),
-        Bank::R => put32(image, at, pattern),
-    }
-}
-
 // A fault sets its flag; otherwise only the cell's bytes change.
 pub fn store(image: &mut [u8], bank: Bank, element: u32, v: Value) -> Stored
     ensures { λ r. ⌜ (r ≡ storeAnswer (now (image .entry)) bank element v) × (now (image .exit) ≡ storeImage (now (image .entry)) bank element v) ⌝ }
 {
-    if !crate::cells::has_cell(image, bank, element) {
+    if !cells::has_cell(image, bank, element) {
         set_flag(image, Fault::IndexError);
         return Stored::Stopped(Fault::IndexError);
     }
     match pattern_of(bank, v) {
         Encoded::Pattern(p) => {
-            put(image, bank, element, p);
+            cells::put(image, bank, element, p);
             Stored::Done
         }
         Encoded::Stopped(f) => {

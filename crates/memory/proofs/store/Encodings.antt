@@ -16,15 +16,15 @@ use Rattle.values.specs.declared.Cut.the-variants.{Whole, Outside}
 use Rattle.values.specs.declared.Fault.{Fault}
 use Rattle.values.specs.declared.Fault.the-variants.{OutOfRange}
 use Rattle.values.specs.Patterns.{lowBits}
+use Rattle.values.proofs.patterns.Exponents.{finite-number}
 use Rattle.values.proofs.patterns.Readings.{low-lt}
 use Rattle.operators.specs.Laws.{Proper, int, real}
 use Rattle.operators.specs.Operators.{asReal, truthRule}
 use Rattle.memory.specs.declared.Bank.{Bank}
 use Rattle.memory.specs.declared.Bank.the-variants.{X, C, «V», N, D, R}
 use Rattle.memory.specs.declared.store.Encoded.the-variants.{Pattern, Stopped}
-use Rattle.memory.specs.Layout.{layoutOf}
 use Rattle.memory.specs.Store.{boolPattern, lowCut, integerOf, encodeFiniteCell, isFinite, encodeCell}
-use Rattle.memory.proofs.cells.Exponents.{finite-number}
+use Rattle.memory.specs.Laws.{Bits, is-x, is-c, modulus, Holdable}
 
 -- ---- no NaN
 rounded-number : (q : Fraction) (x : Float) → Rounds q x → T (not (isNan x))
@@ -63,12 +63,16 @@ real-fits : {v : Value} → Proper v → T (fits binary32 (asReal v))
 real-fits (int z t) = ofInt-fits binary32 z
 real-fits (real x s) = s .fit
 
-pub bit-stored : (v : Value) (p : ℕ) → encodeCell C v ≡ Pattern p → p < 2
-bit-stored v p e = bit-below (truthRule v) p (held C v p e)
+pub holdable : (b : Bank) (v : Value) (p : ℕ) → encodeCell b v ≡ Pattern p → Holdable b p
+holdable b v p e = record { bit = λ w. by w e }
+  where
+    by : {a : Bank} → Bits a → encodeCell a v ≡ Pattern p → p < 2
+    by is-x f = bit-below (truthRule v) p (held X v p f)
+    by is-c f = bit-below (truthRule v) p (held C v p f)
 
-pub below : (b : Bank) (v : Value) (p : ℕ) → Proper v → encodeCell b v ≡ Pattern p → p < 256 ^ layoutOf b .width
-below X v p h e = omega (arith, bit-below (truthRule v) p (held X v p e))
-below C v p h e = omega (arith, bit-below (truthRule v) p (held C v p e))
+pub below : (b : Bank) (v : Value) (p : ℕ) → Proper v → encodeCell b v ≡ Pattern p → p < modulus b
+below X v p h e = bit-below (truthRule v) p (held X v p e)
+below C v p h e = bit-below (truthRule v) p (held C v p e)
 below «V» v p h e = low-below 16 (integerOf v) p (held «V» v p e)
 below N v p h e = low-below 16 (integerOf v) p (held N v p e)
 below D v p h e = low-below 32 (integerOf v) p (held D v p e)

@@ -1,9 +1,9 @@
--- `memory::cells::get32` meets its contract.
+-- `memory::bytes::get32` meets its contract.
 use native.Mathlib.Numerals.{add-one, add-two, add-three}
 use borrow.Author.Needs.{needs}
 use Rattle.memory.proofs.Runs.{run-is}
-use Rattle.memory.proofs.cells.get32.Statement.{statement}
-use Rattle.memory.proofs.cells.get32.Tie as tie
+use Rattle.memory.proofs.bytes.get32.Statement.{statement}
+use Rattle.memory.proofs.bytes.get32.Tie as tie
 
 shared-slice-read-word32 : tie.Need-shared-slice-read-word32
 shared-slice-read-word32 c = search needs

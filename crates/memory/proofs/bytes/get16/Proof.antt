@@ -1,11 +1,11 @@
--- `memory::cells::get16` meets its contract.
+-- `memory::bytes::get16` meets its contract.
 use Prim.Native.Nat.{_+_}
 use native.Mathlib.Numerals.{add-one}
 use native.Mathlib.Omega.{arith}
 use borrow.Author.Needs.{needs}
 use Rattle.memory.proofs.Runs.{run-is}
-use Rattle.memory.proofs.cells.get16.Statement.{statement}
-use Rattle.memory.proofs.cells.get16.Tie as tie
+use Rattle.memory.proofs.bytes.get16.Statement.{statement}
+use Rattle.memory.proofs.bytes.get16.Tie as tie
 
 shared-slice-read-low : tie.Need-shared-slice-read-low
 shared-slice-read-low c = search needs

@@ -1,10 +1,10 @@
--- `memory::store::put16` meets its contract.
+-- `memory::bytes::put16` meets its contract.
 use native.Mathlib.Numerals.{add-one}
 use native.Mathlib.Omega.{arith}
 use lib.ListN.{length-set}
 use borrow.Author.Needs.{needs}
-use Rattle.memory.proofs.store.put16.Statement.{statement}
-use Rattle.memory.proofs.store.put16.Tie as tie
+use Rattle.memory.proofs.bytes.put16.Statement.{statement}
+use Rattle.memory.proofs.bytes.put16.Tie as tie
 
 byte-requires : tie.Need-byte-requires
 byte-requires c κs = search needs

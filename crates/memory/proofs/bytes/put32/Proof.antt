@@ -1,4 +1,4 @@
--- `memory::store::put32` meets its contract: two times two bytes.
+-- `memory::bytes::put32` meets its contract: two times two bytes.
 use mathlib.Core.Path.{_≡_, ap, _∙_}
 use mathlib.Core.List.{List}
 use Prim.Native.Nat.{ℕ, _+_, _/_}
@@ -7,8 +7,8 @@ use native.Mathlib.Omega.{arith}
 use lib.Seq.{sets}
 use borrow.Author.Needs.{needs}
 use Rattle.words.specs.Words.{bytesOf}
-use Rattle.memory.proofs.store.put32.Statement.{statement}
-use Rattle.memory.proofs.store.put32.Tie as tie
+use Rattle.memory.proofs.bytes.put32.Statement.{statement}
+use Rattle.memory.proofs.bytes.put32.Tie as tie
 
 two-twos : (s : List ℕ) (at n : ℕ) → sets (sets s at (bytesOf 2 n)) (at + 2) (bytesOf 2 (n / 65536)) ≡ sets s at (bytesOf 4 n)
 two-twos s at n =
