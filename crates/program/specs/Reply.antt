@@ -7,12 +7,11 @@ use Prim.Native.Nat.{ℕ, _≤_}
 use lib.Dec.{ltb}
 use lib.ListN.{length, take}
 use lib.Seq.{sets}
-use Rattle.words.specs.Words.{littleEndian}
 use Rattle.memory.specs.declared.Bank.{Bank}
 use Rattle.memory.specs.declared.names.Named.{Named}
 use Rattle.memory.specs.declared.names.Named.the-variants as Named
+use Rattle.memory.specs.Layout.{bytewise}
 use Rattle.memory.specs.Names.{targetRule}
-use Rattle.memory.specs.Cells.{bytesAt}
 use Rattle.operations.specs.declared.Answer.{Answer}
 use Rattle.operations.specs.declared.Answer.the-variants.{Done, Fault, Refused}
 use Rattle.operations.specs.declared.Report.{Report}
@@ -35,7 +34,7 @@ reportText r = answerKey ++ decimalText (r .answer) ++ placeKey ++ decimalText (
 
 -- a cell's name and what it holds
 abbrev pub cellLine : List ℕ → Bank → ℕ → List ℕ
-cellLine m b i = cellName b i ++ ascii "=" ++ cellText b (littleEndian (bytesAt m b i)) ++ ascii "\n"
+cellLine m b i = cellName b i ++ ascii "=" ++ cellText b (bytewise .get m b i) ++ ascii "\n"
 
 -- the line of the cell that the target names
 abbrev pub targetLine : List ℕ → Named → List ℕ

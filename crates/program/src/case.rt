@@ -5,7 +5,6 @@ ghost use lib.ListN.{length};
 ghost use Rattle.memory.specs.Names.{namedRule};
 ghost use Rattle.program.specs.Cases.{setCell, afterLine};
 ghost use Rattle.program.specs.Stream.{caseIn, LengthsInside};
-use crate::cells;
 use lines::forms;
 use lines::forms::Form;
 use lines::printing;
@@ -30,7 +29,7 @@ fn set_cell(memory: &mut [u8], key: &[u8], value: &[u8])
     let Form::Pattern(n) = forms::pattern_of(bank, value) else {
         return;
     };
-    cells::put_pattern(memory, bank, element, n);
+    memory::cells::put(memory, bank, element, n);
 }
 
 // A line has ended. Any but the target's and the expression's can only set a cell.

@@ -12,7 +12,6 @@ use crate::stream::Receipt;
 use memory::IMAGE_SIZE;
 
 mod case;
-mod cells;
 mod reply;
 mod stream;
 

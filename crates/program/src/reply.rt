@@ -7,7 +7,6 @@ ghost use Rattle.memory.specs.Layout.{hasCell};
 ghost use Rattle.memory.specs.Names.{targetRule};
 ghost use Rattle.lines.specs.private.Steps.{Puts};
 ghost use Rattle.program.specs.Reply.{reportText, cellLine, targetLine, answerText, writeText, writtenLength, HasPrefix};
-use crate::cells;
 use lines::printing;
 use memory::Bank;
 use memory::names::Named;
@@ -35,7 +34,7 @@ fn put_cell(out: &mut [u8], at: usize, memory: &[u8], bank: Bank, element: u32) 
     ensures { λ r. ⌜ Puts (now (out .entry)) at (now (out .exit)) r (cellLine (now (memory .entry)) bank element) ⌝ }
     ensures { λ r. ⌜ r ≤ at + 17 ⌝ }
 {
-    let n = cells::pattern_at(memory, bank, element);
+    let n = memory::cells::get(memory, bank, element);
     let a = printing::put_name(out, at, bank, element);
     let b = printing::put_all(out, a, b"=");
     let c = printing::put_value(out, b, bank, n as u64);

@@ -5,8 +5,7 @@ use Prim.Native.Nat.{ℕ}
 use Rattle.memory.specs.declared.Bank.{Bank}
 use Rattle.memory.specs.declared.names.Named.{Named}
 use Rattle.memory.specs.declared.names.Named.the-variants as Named
-use Rattle.memory.specs.declared.store.Encoded.the-variants as Encoded
-use Rattle.memory.specs.Store.{writeCell}
+use Rattle.memory.specs.Layout.{bytewise}
 use Rattle.lines.specs.declared.forms.Form.the-variants.{Pattern, Other}
 use Rattle.lines.specs.Forms.{cellPattern}
 use Rattle.program.specs.Cases.{setCell}
@@ -19,5 +18,5 @@ module _ (m v : List ℕ) {n : Named} where
     pub no-form : Other ≡ cellPattern b v → m ≡ setCell m v n
     no-form f = rw (e, ← f)
 
-    pub set : {p : ℕ} {t : List ℕ} → Pattern p ≡ cellPattern b v → t ≡ writeCell m b i (Encoded.Pattern p) → t ≡ setCell m v n
+    pub set : {p : ℕ} {t : List ℕ} → Pattern p ≡ cellPattern b v → t ≡ bytewise .put m b i p → t ≡ setCell m v n
     set f g = rw (e, ← f) g

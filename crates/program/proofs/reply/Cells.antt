@@ -1,19 +1,12 @@
--- A cell that the image has: how large its element and its pattern can be. Assumes nothing.
-use mathlib.Core.Path.{_≡_}
+-- A cell that the image has: how large its element can be. Assumes nothing.
 use mathlib.Core.List.{List}
-use Prim.Native.Nat.{ℕ, _-_, _^_, _≤_, _<_}
+use Prim.Native.Nat.{ℕ, _≤_, _<_}
 use native.Mathlib.Omega.{arith}
 use lib.Dec.{T, lit≤}
-use lib.ListN.{length}
-use Rattle.words.specs.Words.{littleEndian}
-use Rattle.words.specs.Laws.{Bytes}
-use Rattle.words.proofs.Laws.{word-laws}
 use Rattle.memory.specs.declared.Bank.{Bank}
 use Rattle.memory.specs.declared.Bank.the-variants.{X, C, «V», N, D, R}
-use Rattle.memory.specs.Layout.{layoutOf, cellAt, hasCell}
-use Rattle.memory.specs.Cells.{bytesAt}
-use Rattle.memory.proofs.Places.{has-element, cell-within}
-use Rattle.memory.proofs.Runs.{run-length, run-bytes}
+use Rattle.memory.specs.Layout.{layoutOf, bytewise, hasCell}
+use Rattle.memory.proofs.Places.{has-element}
 
 few : (b : Bank) → layoutOf b .elements ≤ 256
 few X = lit≤ tt
@@ -23,12 +16,5 @@ few N = lit≤ tt
 few D = lit≤ tt
 few R = lit≤ tt
 
-module _ (m : List ℕ) (b : Bank) (i : ℕ) (h : T (hasCell m b i)) where
-  pub element-small : i < 1000
-  element-small = omega (arith, has-element m b i h, few b)
-
-  pub pattern-small : Bytes m → littleEndian (bytesAt m b i) < 256 ^ layoutOf b .width
-  pattern-small g =
-      let w = layoutOf b .width in
-      let long : length (bytesAt m b i) ≡ w = run-length m (cellAt b i) w (cell-within m b i h) in
-      rw long at (word-laws .below (bytesAt m b i) (run-bytes m (cellAt b i) w g))
+pub element-small : (m : List ℕ) (b : Bank) (i : ℕ) → T (hasCell m b i) → i < 1000
+element-small m b i h = omega (arith, has-element bytewise m b i h, few b)

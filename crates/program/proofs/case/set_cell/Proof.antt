@@ -35,8 +35,8 @@ returns-2 c =
     let name = sym (c .before .before .before .before .before .before .cell-named .ensures) ∙ c .before .before .before .before .bank .given .1 in
     no-form (a .memory .now) (a .value .now) name (sym (c .enum-told2 .given .1) ∙ c .before .before .pattern-of .ensures)
 
-put-pattern-requires : tie.Need-put-pattern-requires
-put-pattern-requires c κs =
+put-requires : tie.Need-put-requires
+put-requires c κs =
     let a = c .before .before .before .before .before .before .before .before .before .before .before .before in
     let name = sym (c .before .before .before .before .before .before .before .before .cell-named .ensures) ∙ c .before .before .before .before .before .before .bank .given .1 in
     has-named (a .args .memory .now) (a .args .key .now) (a .pre) name
@@ -49,7 +49,7 @@ returns-3 c =
     let a = c .before .before .before .before .before .before .before .before .before .before .before .before .before .before .before .args in
     let name = sym (c .before .before .before .before .before .before .before .before .before .before .before .cell-named .ensures) ∙ c .before .before .before .before .before .before .before .before .before .bank .given .1 in
     let form = sym (c .before .before .before .before .before .n .given .1) ∙ c .before .before .before .before .before .before .before .pattern-of .ensures in
-    set (a .memory .now) (a .value .now) name form (c .before .before .put-pattern .ensures)
+    set (a .memory .now) (a .value .now) name form (c .before .before .put .ensures)
 
 pub set-cell-spec : {M : Type 1} → statement M
 set-cell-spec =
@@ -63,6 +63,6 @@ set-cell-spec =
     enum-known-n
     enum-told-2
     returns-2
-    put-pattern-requires
+    put-requires
     same-length
     returns-3)

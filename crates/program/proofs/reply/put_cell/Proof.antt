@@ -1,24 +1,15 @@
 -- `reply::put_cell` meets its contract: four texts, one behind the other.
 use mathlib.Core.Path.{ap}
-use Prim.Native.Nat.{_^_, _<_}
 use native.Mathlib.Omega.{arith}
 use borrow.Author.Needs.{needs}
-use Rattle.words.specs.Laws.{Bytes}
-use Rattle.memory.specs.Layout.{layoutOf}
 use Rattle.lines.specs.Printing.{cellText}
 use Rattle.lines.proofs.Stores.{then, as-text}
-use Rattle.program.proofs.reply.Cells.{element-small, pattern-small}
+use Rattle.program.proofs.reply.Cells.{element-small}
 use Rattle.program.proofs.reply.put_cell.Statement.{statement}
 use Rattle.program.proofs.reply.put_cell.Tie as tie
 
-pattern-at-requires : tie.Need-pattern-at-requires
-pattern-at-requires c κs = search needs
-
--- ---- once the pattern is read
-small : (c : tie.After-pattern-at) → c .pattern-at .result < 256 ^ layoutOf (c .before .before .before .args .bank) .width
-small c =
-    let bytes : Bytes (c .before .before .before .args .memory .now) = λ j. omega (arith, c .before .shared-slice-known .given j) in
-    rw (c .pattern-at .ensures) (pattern-small (c .before .before .before .args .memory .now) (c .before .before .before .args .bank) (c .before .before .before .args .element) (c .before .before .before .pre .0) bytes)
+get-requires : tie.Need-get-requires
+get-requires c κs = search needs
 
 put-name-requires : tie.Need-put-name-requires
 put-name-requires c κs =
@@ -35,7 +26,7 @@ cast-put-value : tie.Need-cast-put-value
 cast-put-value c = search needs
 
 put-value-requires : tie.Need-put-value-requires
-put-value-requires c κs = (small (c .before .before .before .before .before .before .before .before .before .before), omega arith)
+put-value-requires c κs = (c .before .before .before .before .before .before .before .before .before .before .get .ensures .1, omega arith)
 
 slice-aggregate-put-all-2 : tie.Need-slice-aggregate-put-all-2
 slice-aggregate-put-all-2 c = search needs
@@ -50,7 +41,7 @@ returns : tie.Need-returns
 returns c =
     let name = c .before .before .before .before .before .before .before .before .before .before .before .before .before .before .before .before .put-name .ensures .0 in
     let equals = c .before .before .before .before .before .before .before .before .before .before .before .put-all .ensures in
-    let pattern = c .before .before .before .before .before .before .before .before .before .before .before .before .before .before .before .before .before .before .pattern-at .ensures in
+    let pattern = c .before .before .before .before .before .before .before .before .before .before .before .before .before .before .before .before .before .before .get .ensures .0 in
     let value = as-text (ap (cellText (c .before .before .before .before .before .before .before .before .before .before .before .before .before .before .before .before .before .before .before .before .before .args .bank)) pattern) (c .before .before .before .before .before .before .before .put-value .ensures .0) in
     (then (then (then name equals) value) (c .before .before .put-all2 .ensures), omega arith)
 
@@ -58,7 +49,7 @@ pub put-cell-spec : {M : Type 1} → statement M
 put-cell-spec =
     tie.close
     (tie.spec
-    pattern-at-requires
+    get-requires
     put-name-requires
     slice-aggregate-put-all
     put-all-requires

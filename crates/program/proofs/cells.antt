@@ -1,2 +1,0 @@
--- Laws for the proofs of cells.
-mod Numbers
