@@ -1,5 +1,5 @@
--- What a store and a flag do to an image, of any layout: a number is put into a cell, or a flag is set, or, in an image of another size, nothing. What is written to
--- distinct places commutes. Assumes nothing.
+-- What a store and a flag do to an image of any layout: a number is put into a cell, or a flag is set, or, in an image of another size, nothing.
+-- What is written to distinct places commutes. Assumes nothing.
 use mathlib.Core.Path.{_≡_, refl, sym, ap, subst, _∙_}
 use mathlib.Core.Bool.{Bool, true, false, cond}
 use mathlib.Core.List.{List}
@@ -107,9 +107,11 @@ module _ (F : ImageLayout) (L : LayoutLaws F) where
   encoded s b i h (Pattern p) k e = refl
   encoded s b i h (Stopped f) k e = flagged s f e
 
-  at-element : (s : List ℕ) (b : Bank) (i : ℕ) (v : Value) → length s ≡ F .size → (d : Dec (i < layoutOf b .elements)) → storeIn F s b i v ≡ after F s (ofElement b i v d)
+  at-element : (s : List ℕ) (b : Bank) (i : ℕ) (v : Value) → length s ≡ F .size → (d : Dec (i < layoutOf b .elements))
+      → storeIn F s b i v ≡ after F s (ofElement b i v d)
   unfolding ofElement
-  at-element s b i v e (yes h) = rw (eq-eqb (length s) (F .size) e, lt-ltb i (layoutOf b .elements) h) (encoded s b i h (encodeCell b v) (λ p. holdable b v p) e)
+  at-element s b i v e (yes h) =
+      rw (eq-eqb (length s) (F .size) e, lt-ltb i (layoutOf b .elements) h) (encoded s b i h (encodeCell b v) (λ p. holdable b v p) e)
   at-element s b i v e (no h) = rw (eq-eqb (length s) (F .size) e, le-ltb i (layoutOf b .elements) (omega arith))
 
   pub stored : (s : List ℕ) (b : Bank) (i : ℕ) (v : Value) → length s ≡ F .size → storeIn F s b i v ≡ after F s (storing b i v)

@@ -40,5 +40,6 @@ pub cell-kept : (s : List ℕ) (b : Bank) (i p k : ℕ) → (InCell b i k → �
 cell-kept s b i p k h = other-kept s (cellAt b i) (bytesOf (layoutOf b .width) p) k (outside b i p k h)
 
 -- ---- a cell
-pub number-kept : (s t : List ℕ) (c : Bank) (j : ℕ) → length t ≡ length s → ((k : ℕ) → InCell c j k → getD t k 0 ≡ getD s k 0) → bytewise .get t c j ≡ bytewise .get s c j
+pub number-kept : (s t : List ℕ) (c : Bank) (j : ℕ) → length t ≡ length s → ((k : ℕ) → InCell c j k → getD t k 0 ≡ getD s k 0)
+    → bytewise .get t c j ≡ bytewise .get s c j
 number-kept s t c j l h = ap littleEndian (run-kept s t (cellAt c j) (layoutOf c .width) l (λ k a z. h k (record { from = a; to = z })))

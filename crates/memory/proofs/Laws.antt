@@ -19,7 +19,8 @@ pub use Rattle.memory.proofs.Bytewise.{bytewise-laws}
 pub memory-laws : MemoryLaws bytewise
 memory-laws = memory-laws-of bytewise bytewise-laws
 
-others-kept : (s : List ℕ) (b : Bank) (i : ℕ) (v : Value) (p k : ℕ) → encodeCell b v ≡ Pattern p → T (hasCell s b i) → (InCell b i k → ⊥) → getD (storeImage s b i v) k 0 ≡ getD s k 0
+others-kept : (s : List ℕ) (b : Bank) (i : ℕ) (v : Value) (p k : ℕ) → encodeCell b v ≡ Pattern p → T (hasCell s b i)
+    → (InCell b i k → ⊥) → getD (storeImage s b i v) k 0 ≡ getD s k 0
 others-kept s b i v p k e h w = rw (is-true (hasCell s b i) h, e) (cell-kept s b i p k w)
 
 pub byte-laws : ByteLaws

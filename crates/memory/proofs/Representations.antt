@@ -46,9 +46,19 @@ pub represents : {b : Bank} {v : Value} → Representable b v → Represents b v
 represents off = record { proper = proper-int (pos 0) refl; pattern = 0; written = refl; read = refl }
 represents on = record { proper = proper-int (pos 1) refl; pattern = 1; written = refl; read = refl }
 represents (unsigned n h) =
-    record { proper = proper-int (pos n) (sfits-range (pos n) (record { sfits = omega arith })); pattern = n; written = ap Pattern (mod-eq-of-lt h); read = refl }
+    record {
+      proper = proper-int (pos n) (sfits-range (pos n) (record { sfits = omega arith }));
+      pattern = n;
+      written = ap Pattern (mod-eq-of-lt h);
+      read = refl;
+    }
 represents (signed z h) =
-    record { proper = proper-int z (wide z h); pattern = lowBits 16 z; written = refl; read = ap (λ (y : ℤ). Done (Int y)) (pattern-laws .signed-low 16 z (lit< tt) h) }
+    record {
+      proper = proper-int z (wide z h);
+      pattern = lowBits 16 z;
+      written = refl;
+      read = ap (λ (y : ℤ). Done (Int y)) (pattern-laws .signed-low 16 z (lit< tt) h);
+    }
 represents (integer z h) =
     record { proper = Proper.int z h; pattern = lowBits 32 z; written = refl; read = ap (λ (y : ℤ). Done (Int y)) (pattern-laws .signed-low 32 z (lit< tt) h) }
 represents (real x S) =

@@ -60,7 +60,9 @@ module _ (F : ImageLayout) (L : LayoutLaws F) where
       read-kept s (withFlagIn F s f) c j (flagged-length s f) (λ e g. ap (λ (t : List ℕ). F .get t c j) (Effects.flagged F L s f e) ∙ L .get-flag s f c j e g)
 
   read-other : (s : List ℕ) (b : Bank) (i : ℕ) (c : Bank) (j : ℕ) (v : Value) → Distinct b i c j → readIn F (storeIn F s b i v) c j ≡ readIn F s c j
-  read-other s b i c j v d = read-kept s (storeIn F s b i v) c j (same-length s b i v) (λ e g. ap (λ (t : List ℕ). F .get t c j) (Effects.stored F L s b i v e) ∙ by e g (writes b i v))
+  read-other s b i c j v d =
+      read-kept s (storeIn F s b i v) c j (same-length s b i v)
+      (λ e g. ap (λ (t : List ℕ). F .get t c j) (Effects.stored F L s b i v e) ∙ by e g (writes b i v))
     where
       by : length s ≡ F .size → j < layoutOf c .elements → {x : Effect} → Writes b i x → F .get (after F s x) c j ≡ F .get s c j
       by e g (Writes.cell {n} {h} {k}) = L .get-other s b i n c j e h g k d
@@ -110,7 +112,8 @@ module _ (F : ImageLayout) (L : LayoutLaws F) where
       by (yes e) =
           Effects.flagged F L (storeIn F s b i v) f (same-length s b i v ∙ e) ∙ ap (λ (t : List ℕ). set t (F .flag f) 1) (Effects.stored F L s b i v e)
           ∙ Effects.commute F L s e (apart-flag (storing b i v) f)
-          ∙ sym (Effects.stored F L (withFlagIn F s f) b i v (flagged-length s f ∙ e) ∙ ap (λ (t : List ℕ). after F t (storing b i v)) (Effects.flagged F L s f e))
+          ∙ sym
+          (Effects.stored F L (withFlagIn F s f) b i v (flagged-length s f ∙ e) ∙ ap (λ (t : List ℕ). after F t (storing b i v)) (Effects.flagged F L s f e))
       by (no h) = rw (Effects.not-stored F L s b i v h, Effects.not-flagged F L s f h, Effects.not-stored F L s b i v h)
 
   flags-commute : (s : List ℕ) (f g : Fault) → withFlagIn F (withFlagIn F s f) g ≡ withFlagIn F (withFlagIn F s g) f

@@ -39,7 +39,8 @@ pub run-length : (s : List ℕ) (at n : ℕ) → at + n ≤ length s → length 
 run-length s at n h = simp (length-take, length-drop) (omega arith)
 
 -- a run is known by its bytes
-pub run-kept : (s t : List ℕ) (at n : ℕ) → length t ≡ length s → ((k : ℕ) → at ≤ k → k < at + n → getD t k 0 ≡ getD s k 0) → take n (drop at t) ≡ take n (drop at s)
+pub run-kept : (s t : List ℕ) (at n : ℕ) → length t ≡ length s → ((k : ℕ) → at ≤ k → k < at + n → getD t k 0 ≡ getD s k 0)
+    → take n (drop at t) ≡ take n (drop at s)
 run-kept s t at n l h =
     ext-getD 0 (take n (drop at t)) (take n (drop at s)) (simp (length-take, length-drop, l)) step
   where

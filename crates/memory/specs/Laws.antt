@@ -1,5 +1,5 @@
--- What holds of reading and storing, for the layers above. What is said of numbers is `LayoutLaws`, of a layout; whatever keeps it keeps `MemoryLaws`. proofs/Laws.antt
--- proves both of paper 01's image, and `ByteLaws`.
+-- What holds of reading and storing, for the layers above. `LayoutLaws` speaks of the numbers that cells hold, in an image of any layout; a layout that
+-- keeps it keeps `MemoryLaws` (proofs/Rules.antt). proofs/Laws.antt proves both of paper 01's image, and `ByteLaws`.
 use mathlib.Core.Path.{_≡_}
 use mathlib.Core.Logic.{_≢_, _⊎_}
 use mathlib.Core.List.{List}
@@ -33,7 +33,7 @@ pub data Bits : Bank → Type 0 where
   is-x : Bits X
   is-c : Bits C
 
--- a cell holds a number below this
+-- how many numbers a cell of the bank can hold: a bit 0 and 1
 abbrev pub modulus : Bank → ℕ
 modulus X = 2
 modulus C = 2
@@ -42,7 +42,8 @@ modulus N = 2 ^ 16
 modulus D = 2 ^ 32
 modulus R = 2 ^ 32
 
--- what is put into a bit is 0 or 1; of any other number the cell keeps the remainder
+-- a number that can be put into a cell of the bank: into a bit 0 or 1, since another could reach its neighbour in a byte; into a word any, of which it
+-- keeps the remainder
 pub record Holdable (b : Bank) (n : ℕ) : Type 0 where
   pub bit : Bits b → n < 2
 
@@ -52,7 +53,8 @@ pub record LayoutLaws (F : ImageLayout) : Type 0 where
   pub get-other : (s : List ℕ) (b : Bank) (i n : ℕ) (c : Bank) (j : ℕ) → length s ≡ F .size → i < layoutOf b .elements → j < layoutOf c .elements
       → Holdable b n → Distinct b i c j → F .get (F .put s b i n) c j ≡ F .get s c j
   pub get-flag : (s : List ℕ) (f : Fault) (c : Bank) (j : ℕ) → length s ≡ F .size → j < layoutOf c .elements → F .get (set s (F .flag f) 1) c j ≡ F .get s c j
-  pub flag-put : (s : List ℕ) (b : Bank) (i n : ℕ) (f : Fault) → length s ≡ F .size → i < layoutOf b .elements → getD (F .put s b i n) (F .flag f) 0 ≡ getD s (F .flag f) 0
+  pub flag-put : (s : List ℕ) (b : Bank) (i n : ℕ) (f : Fault) → length s ≡ F .size → i < layoutOf b .elements
+      → getD (F .put s b i n) (F .flag f) 0 ≡ getD s (F .flag f) 0
   pub put-put : (s : List ℕ) (b : Bank) (i n : ℕ) (c : Bank) (j m : ℕ) → length s ≡ F .size → i < layoutOf b .elements → j < layoutOf c .elements
       → Holdable b n → Holdable c m → Distinct b i c j → F .put (F .put s b i n) c j m ≡ F .put (F .put s c j m) b i n
   pub put-flag : (s : List ℕ) (b : Bank) (i n : ℕ) (f : Fault) → length s ≡ F .size → i < layoutOf b .elements
@@ -107,8 +109,10 @@ pub record InCell (b : Bank) (i k : ℕ) : Type 0 where
 -- of paper 01's image, byte by byte
 pub record ByteLaws : Type 0 where
   -- distinct cells share no byte, and none is a flag's
-  pub disjoint : (b : Bank) (i : ℕ) (c : Bank) (j k : ℕ) → i < layoutOf b .elements → j < layoutOf c .elements → Distinct b i c j → InCell b i k → InCell c j k → ⊥
+  pub disjoint : (b : Bank) (i : ℕ) (c : Bank) (j k : ℕ) → i < layoutOf b .elements → j < layoutOf c .elements → Distinct b i c j
+      → InCell b i k → InCell c j k → ⊥
   pub no-flag : (b : Bank) (i : ℕ) (f : Fault) → i < layoutOf b .elements → InCell b i (flagAt f) → ⊥
   -- a store that is done changes the cell's bytes only, a flag its own
-  pub others-kept : (s : List ℕ) (b : Bank) (i : ℕ) (v : Value) (p k : ℕ) → encodeCell b v ≡ Pattern p → T (hasCell s b i) → (InCell b i k → ⊥) → getD (storeImage s b i v) k 0 ≡ getD s k 0
+  pub others-kept : (s : List ℕ) (b : Bank) (i : ℕ) (v : Value) (p k : ℕ) → encodeCell b v ≡ Pattern p → T (hasCell s b i)
+      → (InCell b i k → ⊥) → getD (storeImage s b i v) k 0 ≡ getD s k 0
   pub flag-rest : (s : List ℕ) (f : Fault) (k : ℕ) → k ≢ flagAt f → getD (withFlag s f) k 0 ≡ getD s k 0

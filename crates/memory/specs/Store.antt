@@ -1,6 +1,7 @@
 -- The store (paper 01): "to D the integer; to V or N its low 16 bits; to C byte 1 if it is non-zero (0.5 is ON), else 0; to R promoted; a real to V, N or D
 -- truncated first", 13 where it lies outside 32 bits. "11 to 14 set their flag's byte to 1 and change nothing else in memory".
--- An infinite or NaN real, which no formula gives, is 13 into any cell. X is stored to as C is, though no target names it. An image of another size stays as it is.
+-- An infinite or NaN real, which no formula gives, is 13 into any cell. X is stored to as C is, though no target names it. An image of another size
+-- stays as it is.
 use mathlib.Core.Bool.{Bool, true, false, cond}
 use mathlib.Core.List.{List}
 use Prim.Native.Nat.{ℕ}

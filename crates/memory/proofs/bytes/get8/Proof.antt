@@ -13,7 +13,8 @@ cast-result c = omega (arith, c .shared-slice-known .given (c .before .args .at)
 
 returns : tie.Need-returns
 returns c =
-    rw (run-is (c .before .args .image .now) (c .before .args .at) 1 (c .before .pre)) (omega arith, omega (arith, c .shared-slice-known .given (c .before .args .at)))
+    rw (run-is (c .before .args .image .now) (c .before .args .at) 1 (c .before .pre))
+    (omega arith, omega (arith, c .shared-slice-known .given (c .before .args .at)))
 
 pub get8-spec : {M : Type 1} → statement M
 get8-spec = tie.close (tie.spec shared-slice-read-result cast-result returns)

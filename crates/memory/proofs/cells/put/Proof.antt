@@ -31,7 +31,8 @@ module _ (c : tie.Start) where
   reach : (a : Bank) {at : ℕ} → bank ≡ a → at ≡ cellAt a i → at + layoutOf a .width ≤ length image
   reach a e p = Arms.reach image bank a i e (c .pre) p
 
-  written : (a : Bank) {at : ℕ} {t : List ℕ} → bank ≡ a → at ≡ cellAt a i → t ≡ sets image at (bytesOf (layoutOf a .width) (c .args .n)) → t ≡ bytewise .put image bank i (c .args .n)
+  written : (a : Bank) {at : ℕ} {t : List ℕ} → bank ≡ a → at ≡ cellAt a i
+      → t ≡ sets image at (bytesOf (layoutOf a .width) (c .args .n)) → t ≡ bytewise .put image bank i (c .args .n)
   written a e p m = Arms.written image bank a i e (c .pre) (c .args .n) p m
 
 enum-told : tie.Need-enum-told
@@ -44,7 +45,9 @@ place-of-requires : tie.Need-place-of-requires
 place-of-requires c κs = element (c .before .before .before .before) X (c .before .enum-told .given .1)
 
 slice-write-image : tie.Need-slice-write-image
-slice-write-image c = omega (arith, reach (c .before .before .before .before .before) X (c .before .before .enum-told .given .1) (c .place-of .ensures))
+slice-write-image c =
+    let s = c .before .before .before .before .before in
+    omega (arith, reach s X (c .before .before .enum-told .given .1) (c .place-of .ensures))
 
 enum-told-2 : tie.Need-enum-told-2
 enum-told-2 c = search needs
@@ -56,7 +59,9 @@ place-of-requires-2 : tie.Need-place-of-requires-2
 place-of-requires-2 c κs = element (c .before .before .before .before) C (c .before .enum-told2 .given .1)
 
 slice-write-image-2 : tie.Need-slice-write-image-2
-slice-write-image-2 c = omega (arith, reach (c .before .before .before .before .before) C (c .before .before .enum-told2 .given .1) (c .place-of2 .ensures))
+slice-write-image-2 c =
+    let s = c .before .before .before .before .before in
+    omega (arith, reach s C (c .before .before .enum-told2 .given .1) (c .place-of2 .ensures))
 
 enum-told-3 : tie.Need-enum-told-3
 enum-told-3 c = search needs
@@ -65,7 +70,9 @@ place-of-requires-3 : tie.Need-place-of-requires-3
 place-of-requires-3 c κs = element (c .before .before .before .before) «V» (c .before .enum-told3 .given .1)
 
 put16-requires : tie.Need-put16-requires
-put16-requires c κs = reach (c .before .before .before .before .before) «V» (c .before .before .enum-told3 .given .1) (c .place-of3 .ensures)
+put16-requires c κs =
+    let s = c .before .before .before .before .before in
+    reach s «V» (c .before .before .enum-told3 .given .1) (c .place-of3 .ensures)
 
 enum-told-4 : tie.Need-enum-told-4
 enum-told-4 c = search needs
@@ -74,7 +81,9 @@ place-of-requires-4 : tie.Need-place-of-requires-4
 place-of-requires-4 c κs = element (c .before .before .before .before) N (c .before .enum-told4 .given .1)
 
 put16-requires-2 : tie.Need-put16-requires-2
-put16-requires-2 c κs = reach (c .before .before .before .before .before) N (c .before .before .enum-told4 .given .1) (c .place-of4 .ensures)
+put16-requires-2 c κs =
+    let s = c .before .before .before .before .before in
+    reach s N (c .before .before .enum-told4 .given .1) (c .place-of4 .ensures)
 
 enum-told-5 : tie.Need-enum-told-5
 enum-told-5 c = search needs
@@ -83,7 +92,9 @@ place-of-requires-5 : tie.Need-place-of-requires-5
 place-of-requires-5 c κs = element (c .before .before .before .before) D (c .before .enum-told5 .given .1)
 
 put32-requires : tie.Need-put32-requires
-put32-requires c κs = reach (c .before .before .before .before .before) D (c .before .before .enum-told5 .given .1) (c .place-of5 .ensures)
+put32-requires c κs =
+    let s = c .before .before .before .before .before in
+    reach s D (c .before .before .enum-told5 .given .1) (c .place-of5 .ensures)
 
 enum-told-6 : tie.Need-enum-told-6
 enum-told-6 c = search needs
@@ -92,43 +103,61 @@ place-of-requires-6 : tie.Need-place-of-requires-6
 place-of-requires-6 c κs = element (c .before .before .before .before) R (c .before .enum-told6 .given .1)
 
 put32-requires-2 : tie.Need-put32-requires-2
-put32-requires-2 c κs = reach (c .before .before .before .before .before) R (c .before .before .enum-told6 .given .1) (c .place-of6 .ensures)
+put32-requires-2 c κs =
+    let s = c .before .before .before .before .before in
+    reach s R (c .before .before .enum-told6 .given .1) (c .place-of6 .ensures)
 
 same-length : tie.Need-same-length
 same-length c = search needs
 
 returns : tie.Need-returns
-returns c = written (c .before .before .before .before .before) X (c .before .before .enum-told .given .1) (c .place-of .ensures) (ap (set (image (c .before .before .before .before .before)) (c .place-of .result)) (c .before .byte .ensures))
+returns c =
+    let s = c .before .before .before .before .before in
+    written s X (c .before .before .enum-told .given .1) (c .place-of .ensures) (ap (set (image s) (c .place-of .result)) (c .before .byte .ensures))
 
 same-length-2 : tie.Need-same-length-2
 same-length-2 c = search needs
 
 returns-2 : tie.Need-returns-2
-returns-2 c = written (c .before .before .before .before .before) C (c .before .before .enum-told2 .given .1) (c .place-of2 .ensures) (ap (set (image (c .before .before .before .before .before)) (c .place-of2 .result)) (c .before .byte2 .ensures))
+returns-2 c =
+    let s = c .before .before .before .before .before in
+    written s C (c .before .before .enum-told2 .given .1) (c .place-of2 .ensures) (ap (set (image s) (c .place-of2 .result)) (c .before .byte2 .ensures))
 
 same-length-3 : tie.Need-same-length-3
 same-length-3 c = search needs
 
 returns-3 : tie.Need-returns-3
-returns-3 c = written (c .before .before .before .before .before .before .before .before) «V» (c .before .before .before .before .before .enum-told3 .given .1) (c .before .before .before .place-of3 .ensures) (c .before .before .put16 .ensures)
+returns-3 c =
+    let s = c .before .before .before .before .before .before .before .before in
+    written s «V» (c .before .before .before .before .before .enum-told3 .given .1) (c .before .before .before .place-of3 .ensures)
+    (c .before .before .put16 .ensures)
 
 same-length-4 : tie.Need-same-length-4
 same-length-4 c = search needs
 
 returns-4 : tie.Need-returns-4
-returns-4 c = written (c .before .before .before .before .before .before .before .before) N (c .before .before .before .before .before .enum-told4 .given .1) (c .before .before .before .place-of4 .ensures) (c .before .before .put162 .ensures)
+returns-4 c =
+    let s = c .before .before .before .before .before .before .before .before in
+    written s N (c .before .before .before .before .before .enum-told4 .given .1) (c .before .before .before .place-of4 .ensures)
+    (c .before .before .put162 .ensures)
 
 same-length-5 : tie.Need-same-length-5
 same-length-5 c = search needs
 
 returns-5 : tie.Need-returns-5
-returns-5 c = written (c .before .before .before .before .before .before .before .before) D (c .before .before .before .before .before .enum-told5 .given .1) (c .before .before .before .place-of5 .ensures) (c .before .before .put32 .ensures)
+returns-5 c =
+    let s = c .before .before .before .before .before .before .before .before in
+    written s D (c .before .before .before .before .before .enum-told5 .given .1) (c .before .before .before .place-of5 .ensures)
+    (c .before .before .put32 .ensures)
 
 same-length-6 : tie.Need-same-length-6
 same-length-6 c = search needs
 
 returns-6 : tie.Need-returns-6
-returns-6 c = written (c .before .before .before .before .before .before .before .before) R (c .before .before .before .before .before .enum-told6 .given .1) (c .before .before .before .place-of6 .ensures) (c .before .before .put322 .ensures)
+returns-6 c =
+    let s = c .before .before .before .before .before .before .before .before in
+    written s R (c .before .before .before .before .before .enum-told6 .given .1) (c .before .before .before .place-of6 .ensures)
+    (c .before .before .put322 .ensures)
 
 pub put-spec : {M : Type 1} → statement M
 put-spec =

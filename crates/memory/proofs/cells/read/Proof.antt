@@ -95,22 +95,34 @@ real-cell-requires : tie.Need-real-cell-requires
 real-cell-requires c κs = search needs
 
 returns-2 : tie.Need-returns-2
-returns-2 c = reads (c .before .before .before .before) X (c .before .before .enum-told .given .1) (c .before .get .ensures .0) (c .bit-cell .ensures)
+returns-2 c =
+    let s = c .before .before .before .before in
+    reads s X (c .before .before .enum-told .given .1) (c .before .get .ensures .0) (c .bit-cell .ensures)
 
 returns-3 : tie.Need-returns-3
-returns-3 c = reads (c .before .before .before .before) C (c .before .before .enum-told2 .given .1) (c .before .get2 .ensures .0) (c .bit-cell2 .ensures)
+returns-3 c =
+    let s = c .before .before .before .before in
+    reads s C (c .before .before .enum-told2 .given .1) (c .before .get2 .ensures .0) (c .bit-cell2 .ensures)
 
 returns-4 : tie.Need-returns-4
-returns-4 c = reads (c .before .before .before .before) «V» (c .before .before .enum-told3 .given .1) (c .before .get3 .ensures .0) (c .unsigned-cell .ensures)
+returns-4 c =
+    let s = c .before .before .before .before in
+    reads s «V» (c .before .before .enum-told3 .given .1) (c .before .get3 .ensures .0) (c .unsigned-cell .ensures)
 
 returns-5 : tie.Need-returns-5
-returns-5 c = reads (c .before .before .before .before) N (c .before .before .enum-told4 .given .1) (c .before .get4 .ensures .0) (c .signed-cell .ensures)
+returns-5 c =
+    let s = c .before .before .before .before in
+    reads s N (c .before .before .enum-told4 .given .1) (c .before .get4 .ensures .0) (c .signed-cell .ensures)
 
 returns-6 : tie.Need-returns-6
-returns-6 c = reads (c .before .before .before .before) D (c .before .before .enum-told5 .given .1) (c .before .get5 .ensures .0) (c .wide-cell .ensures)
+returns-6 c =
+    let s = c .before .before .before .before in
+    reads s D (c .before .before .enum-told5 .given .1) (c .before .get5 .ensures .0) (c .wide-cell .ensures)
 
 returns-7 : tie.Need-returns-7
-returns-7 c = reads (c .before .before .before .before) R (c .before .before .enum-told6 .given .1) (c .before .get6 .ensures .0) (c .real-cell .ensures)
+returns-7 c =
+    let s = c .before .before .before .before in
+    reads s R (c .before .before .enum-told6 .given .1) (c .before .get6 .ensures .0) (c .real-cell .ensures)
 
 pub read-spec : {M : Type 1} → statement M
 read-spec =
