@@ -1,5 +1,4 @@
--- What a formula, and an instruction, can read: the memory, cell by cell. A definition over an environment holds for every memory, of any layout, and
--- for what later joins the memory there.
+-- What a formula, and an instruction, can read: the memory, cell by cell. A definition over an environment holds for every memory, and for what later joins the memory there.
 use mathlib.Core.List.{List}
 use Prim.Native.Nat.{ℕ}
 use Rattle.values.specs.declared.Value.{Value}
