@@ -31,7 +31,7 @@ use Rattle.code.specs.Instructions.{decodeAt, decodeFrom}
 use Rattle.code.proofs.Laws.{encode-laws}
 use Rattle.code.proofs.Parts.{decode-part}
 use Rattle.compiler.specs.Compile.{encodeAll}
-use Rattle.compiler.specs.private.Draft.{codeWord, codeWords, wordBytes}
+use Rattle.draft.specs.private.Draft.{codeWord, codeWords, wordBytes}
 use Rattle.compiler.proofs.Each.{Each, none, some}
 
 eight-long : (i : Instr) → length (encode i) ≡ 8

@@ -5,5 +5,4 @@ mod Each
 mod Encodable
 mod Least
 mod Scanned
-mod Putting
 mod Answers

@@ -1,4 +1,1 @@
-pub mod Results
-pub mod Words
-pub mod Draft
 pub mod Reading

@@ -1,20 +1,19 @@
-// The compiler: the code of a formula, written into a lent buffer.
+// The compiler: the judgement of a text, and the code of a formula, written into a lent buffer.
 ghost use mathlib.Core.Path.{_≡_};
+ghost use mathlib.Core.Bool.{_&&_};
 ghost use Prim.Native.Nat.{_*_, _<_, _≤_};
+ghost use lib.Dec.{leb};
 ghost use lib.ListN.{length};
 ghost use Rattle.token_table.specs.private.Table.{TokenWords};
 ghost use Rattle.text.specs.Judge.{judge};
 ghost use Rattle.text.specs.Theorems.{Sized};
 ghost use Rattle.compiler.specs.Compile.{compiling, codedAnswer, codedBytes};
+ghost use Rattle.compiler.specs.private.Reading.{Judged};
 use token_table::Filled;
 
-pub mod ahead;
-pub mod draft;
-pub mod kinds;
 pub mod reader;
-pub mod results;
 
-// How many instructions were written, or the answer and place that refuse the text.
+// How many instructions the code has, or the answer and place that refuse the text.
 pub enum Coded {
     Done(usize),
     Refused(u32, usize),
@@ -23,7 +22,48 @@ pub enum Coded {
 // "10: compiling, with a code buffer under 16,384 bytes"
 pub const LEAST_CODE: usize = 16384;
 
-// A text of one to 1,024 bytes, with a table lent for its tokens and a draft for two instructions a byte.
+// "A formula is 1 to 1,024 bytes"
+const LONGEST: usize = 1024;
+
+fn is_sized(text: &[u8]) -> bool
+    ensures { λ r. ⌜ r ≡ (leb 1 (length (now (text .entry))) && leb (length (now (text .entry))) 1024) ⌝ }
+{
+    if text.len() == 0 {
+        false
+    } else {
+        text.len() <= LONGEST
+    }
+}
+
+// A text of one to 1,024 bytes, read with a table lent for its tokens and a draft for its code.
+fn read(text: &[u8], table: &mut [u64], draft: &mut [u64]) -> Coded
+    requires { ⌜ Sized (now text) × (length (now text) < length (now table)) × (length (now table) ≤ 1025) ⌝ }
+    requires { ⌜ TokenWords (now table) ⌝ }
+    ensures { λ r. ⌜ Judged (judge (now (text .entry))) (now (draft .entry)) (now (draft .exit)) r ⌝ }
+{
+    match token_table::fill(text, table) {
+        Filled::Good => reader::formula(table, draft, text.len()),
+        Filled::Wrong(a, p) => Coded::Refused(a, p),
+    }
+}
+
+// The answer alone: nothing is written behind a draft's end, so that of a judgement has no room.
+pub fn judge(text: &[u8]) -> Coded
+    ensures { λ r. ⌜ r ≡ codedAnswer (judge (now (text .entry))) ⌝ }
+{
+    if !is_sized(text) {
+        return Coded::Refused(3, 0);
+    }
+    let mut draft = [0u64; 0];
+    if text.len() < 64 {
+        let mut table = [0u64; 64];
+        return read(text, &mut table, &mut draft);
+    }
+    let mut table = [0u64; 1025];
+    read(text, &mut table, &mut draft)
+}
+
+// The code of a formula, from a draft with room for two instructions a byte.
 fn compile_in(text: &[u8], table: &mut [u64], draft: &mut [u64], code: &mut [u8]) -> Coded
     requires { ⌜ Sized (now text) × (length (now text) < length (now table)) × (length (now table) ≤ 1025) ⌝ }
     requires { ⌜ TokenWords (now table) ⌝ }
@@ -31,9 +71,12 @@ fn compile_in(text: &[u8], table: &mut [u64], draft: &mut [u64], code: &mut [u8]
     ensures { λ r. ⌜ r ≡ codedAnswer (judge (now (text .entry))) ⌝ }
     ensures { λ r. ⌜ now (code .exit) ≡ codedBytes (now (code .entry)) (judge (now (text .entry))) ⌝ }
 {
-    match token_table::fill(text, table) {
-        Filled::Good => reader::formula(table, draft, text.len(), code),
-        Filled::Wrong(a, p) => Coded::Refused(a, p),
+    match read(text, table, draft) {
+        Coded::Done(n) => {
+            draft::copy(draft, n, code);
+            Coded::Done(n)
+        }
+        Coded::Refused(a, p) => Coded::Refused(a, p),
     }
 }
 
@@ -45,10 +88,7 @@ pub fn compile(text: &[u8], code: &mut [u8]) -> Coded
     if code.len() < LEAST_CODE {
         return Coded::Refused(10, 0);
     }
-    if text.len() == 0 {
-        return Coded::Refused(3, 0);
-    }
-    if 1024 < text.len() {
+    if !is_sized(text) {
         return Coded::Refused(3, 0);
     }
     if text.len() < 64 {

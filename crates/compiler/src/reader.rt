@@ -3,24 +3,21 @@
 // for so many brackets more.
 ghost use mathlib.Core.Path.{_≡_};
 ghost use mathlib.Core.Bool.{true};
-ghost use mathlib.Core.List.{List, []};
+ghost use mathlib.Core.List.{List};
 ghost use Prim.Native.Nat.{ℕ, _+_, _<_};
 ghost use lib.ListN.{length};
 ghost use Rattle.token_table.specs.private.Table.{listed};
-ghost use Rattle.grammar.specs.Tree.{Tree, nowhere, wrongKind};
 ghost use Rattle.grammar.specs.Symbols.{loosest};
-ghost use Rattle.grammar.specs.Parse.{ok, enter, expression, operand, bracket, parse};
+ghost use Rattle.grammar.specs.Parse.{enter, expression, operand, bracket, parse};
 ghost use Rattle.text.specs.Judge.{judgeParse};
-ghost use Rattle.compiler.specs.Compile.{codedAnswer, codedBytes};
-ghost use Rattle.compiler.specs.private.Results.{isDone, readNext, readEnd, readOf};
-ghost use Rattle.compiler.specs.private.Words.{functionAt, Signs};
-ghost use Rattle.compiler.specs.private.Draft.{Unaries};
-ghost use Rattle.compiler.specs.private.Reading.{Fits, ReaderAgrees, primaryOf, thenSymbol, callOf, Branches, CodeFits};
+ghost use Rattle.draft.specs.private.Results.{isDone, readNext, readEnd, readOf};
+ghost use Rattle.draft.specs.private.Words.{functionAt, Signs};
+ghost use Rattle.draft.specs.private.Draft.{Unaries};
+ghost use Rattle.compiler.specs.private.Reading.{Fits, ReaderAgrees, primaryOf, thenSymbol, callOf, Branches, Judged};
 use crate::Coded;
-use crate::ahead;
-use crate::draft;
-use crate::results;
-use crate::results::NOWHERE;
+use draft::ahead;
+use draft::results;
+use draft::results::NOWHERE;
 use tokens::symbols;
 
 // "more than eight open" is refused
@@ -206,11 +203,10 @@ fn branches(table: &[u64], draft: &mut [u64], condition: u64, room: u8) -> u64
     draft::chosen(draft, condition, first, second)
 }
 
-// The whole table, of a text of `size` bytes: an expression, and nothing after it. Only then is the draft copied.
-pub fn formula(table: &[u64], draft: &mut [u64], size: usize, code: &mut [u8]) -> Coded
+// The whole table, of a text of `size` bytes: an expression, and nothing after it.
+pub fn formula(table: &[u64], draft: &mut [u64], size: usize) -> Coded
     requires { ⌜ Fits (now table) 0 0 ⌝ }
-    requires { ⌜ ((t : Tree) → parse (listed (now table)) ≡ ok t [] → wrongKind t ≡ nowhere → CodeFits (length (now draft)) (length (now code)) t) ⌝ }
-    ensures { λ r. ⌜ ((s : List ℕ) → length s ≡ size → (r ≡ codedAnswer (judgeParse s (parse (listed (now (table .entry)))))) × (now (code .exit) ≡ codedBytes (now (code .entry)) (judgeParse s (parse (listed (now (table .entry))))))) ⌝ }
+    ensures { λ r. ⌜ ((s : List ℕ) → length s ≡ size → Judged (judgeParse s (parse (listed (now (table .entry))))) (now (draft .entry)) (now (draft .exit)) r) ⌝ }
 {
     let whole = expression(table, draft, 0, 0, MOST_OPEN, LOOSEST);
     let at = results::next_of(whole);
@@ -225,7 +221,5 @@ pub fn formula(table: &[u64], draft: &mut [u64], size: usize, code: &mut [u8]) -
     if wrong < NOWHERE {
         return Coded::Refused(9, wrong as usize);
     }
-    let n = results::end_of(whole);
-    draft::copy(draft, n, code);
-    Coded::Done(n)
+    Coded::Done(results::end_of(whole))
 }

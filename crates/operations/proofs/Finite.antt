@@ -20,7 +20,7 @@ use Rattle.machine.specs.Machine.{runs, endOf}
 use Rattle.machine.proofs.Properness.{ProperEnd, value, fault, stuck, runs-proper}
 use Rattle.tree_code.specs.Code.{codeOf}
 use Rattle.compiler.specs.Compile.{encodeAll, codedBytes}
-use Rattle.compiler.specs.private.Draft.{codeWords, wordBytes}
+use Rattle.draft.specs.private.Draft.{codeWords, wordBytes}
 use Rattle.compiler.proofs.Bytes.{words-encoded}
 use Rattle.operations.specs.Terms.{Finite}
 use Rattle.operations.proofs.Requests.{run-tree}

@@ -51,10 +51,16 @@ fn tell_kind(verdict: Verdict) {
     }
 }
 
-fn tell(text: &[u8]) {
+// A formula's kind is that of its code, with so many instructions as its judgement says.
+fn formula(text: &[u8], n: usize) {
     let mut code = [0u8; 16384];
-    match compiler::compile(text, &mut code) {
-        Coded::Done(n) => tell_kind(verifier::check(&code, n)),
+    compiler::compile(text, &mut code);
+    tell_kind(verifier::check(&code, n));
+}
+
+fn tell(text: &[u8]) {
+    match compiler::judge(text) {
+        Coded::Done(n) => formula(text, n),
         Coded::Refused(answer, place) => refused(answer, place),
     }
 }

@@ -1,6 +1,6 @@
 -- `compiler::compile` meets its contract: the size of the buffer is tested first, then the length of the text.
 use native.Mathlib.Omega.{arith}
-use Rattle.compiler.proofs.Answers.{small, enough, no-text, too-long, no-tokens}
+use Rattle.compiler.proofs.Answers.{small, enough, sized, not-sized, too-long, no-tokens}
 use borrow.Author.Needs.{needs}
 use Rattle.compiler.proofs.compile.Statement.{statement}
 use Rattle.compiler.proofs.compile.Tie as tie
@@ -8,11 +8,11 @@ use Rattle.compiler.proofs.compile.Tie as tie
 returns : tie.Need-returns
 returns c = let a = c .before .before .before .args in small (a .text .now) (a .code .now) (omega arith)
 
-returns-2 : tie.Need-returns-2
-returns-2 c = let a = c .before .before .before .before .args in no-text (a .text .now) (a .code .now) (omega arith) (omega arith)
+is-sized-requires : tie.Need-is-sized-requires
+is-sized-requires c κs = search needs
 
-returns-3 : tie.Need-returns-3
-returns-3 c = let a = c .before .before .before .before .before .args in too-long (a .text .now) (a .code .now) (omega arith) (omega arith)
+returns-2 : tie.Need-returns-2
+returns-2 c = let a = c .before .before .before .before .before .args in too-long (a .text .now) (a .code .now) (omega arith) (not-sized (a .text .now) (c .before .is-sized .ensures) (c .if2 .taken))
 
 slice-aggregate-compile-in : tie.Need-slice-aggregate-compile-in
 slice-aggregate-compile-in c = search needs
@@ -21,15 +21,16 @@ slice-aggregate-compile-in-2 : tie.Need-slice-aggregate-compile-in-2
 slice-aggregate-compile-in-2 c = search needs
 
 compile-in-requires : tie.Need-compile-in-requires
-compile-in-requires c κs = ((record { some = omega (arith, c .before .before .before .before .before .if2 .left); short = omega (arith, c .before .before .before .before .if3 .left) }, omega arith, omega arith), (no-tokens 64, (omega arith, omega arith)))
+compile-in-requires c κs =
+    let a = c .before .before .before .before .before .before .before .before .before .args in
+    let h = sized (a .text .now) (c .before .before .before .before .before .is-sized .ensures) (c .before .before .before .before .if2 .left) in
+    ((h, omega arith, omega arith), (no-tokens 64, (omega arith, omega arith)))
 
 same-length : tie.Need-same-length
 same-length c = search needs
 
-returns-4 : tie.Need-returns-4
-returns-4 c =
-    let a = c .before .before .before .before .before .before .before .before .before .before .before .before .before .before .args in
-    enough (a .text .now) (a .code .now) (omega arith) _ _ (c .before .before .before .before .compile-in .ensures)
+returns-3 : tie.Need-returns-3
+returns-3 c = let a = c .before .before .before .before .before .before .before .before .before .before .before .before .before .before .args in enough (a .text .now) (a .code .now) (omega arith) _ _ (c .before .before .before .before .compile-in .ensures)
 
 slice-aggregate-compile-in-3 : tie.Need-slice-aggregate-compile-in-3
 slice-aggregate-compile-in-3 c = search needs
@@ -38,15 +39,16 @@ slice-aggregate-compile-in-4 : tie.Need-slice-aggregate-compile-in-4
 slice-aggregate-compile-in-4 c = search needs
 
 compile-in-requires-2 : tie.Need-compile-in-requires-2
-compile-in-requires-2 c κs = ((record { some = omega (arith, c .before .before .before .before .before .before .if2 .left); short = omega (arith, c .before .before .before .before .before .if3 .left) }, omega arith, omega arith), (no-tokens 256, (omega arith, omega arith)))
+compile-in-requires-2 c κs =
+    let a = c .before .before .before .before .before .before .before .before .before .before .args in
+    let h = sized (a .text .now) (c .before .before .before .before .before .before .is-sized .ensures) (c .before .before .before .before .before .if2 .left) in
+    ((h, omega arith, omega arith), (no-tokens 256, (omega arith, omega arith)))
 
 same-length-2 : tie.Need-same-length-2
 same-length-2 c = search needs
 
-returns-5 : tie.Need-returns-5
-returns-5 c =
-    let a = c .before .before .before .before .before .before .before .before .before .before .before .before .before .before .before .args in
-    enough (a .text .now) (a .code .now) (omega arith) _ _ (c .before .before .before .before .compile-in2 .ensures)
+returns-4 : tie.Need-returns-4
+returns-4 c = let a = c .before .before .before .before .before .before .before .before .before .before .before .before .before .before .before .args in enough (a .text .now) (a .code .now) (omega arith) _ _ (c .before .before .before .before .compile-in2 .ensures)
 
 slice-aggregate-compile-in-5 : tie.Need-slice-aggregate-compile-in-5
 slice-aggregate-compile-in-5 c = search needs
@@ -55,35 +57,36 @@ slice-aggregate-compile-in-6 : tie.Need-slice-aggregate-compile-in-6
 slice-aggregate-compile-in-6 c = search needs
 
 compile-in-requires-3 : tie.Need-compile-in-requires-3
-compile-in-requires-3 c κs = ((record { some = omega (arith, c .before .before .before .before .before .before .if2 .left); short = omega (arith, c .before .before .before .before .before .if3 .left) }, omega arith, omega arith), (no-tokens 1025, (omega arith, omega arith)))
+compile-in-requires-3 c κs =
+    let a = c .before .before .before .before .before .before .before .before .before .before .args in
+    let h = sized (a .text .now) (c .before .before .before .before .before .before .is-sized .ensures) (c .before .before .before .before .before .if2 .left) in
+    ((h, omega arith, omega arith), (no-tokens 1025, (omega arith, omega arith)))
 
 same-length-3 : tie.Need-same-length-3
 same-length-3 c = search needs
 
-returns-6 : tie.Need-returns-6
-returns-6 c =
-    let a = c .before .before .before .before .before .before .before .before .before .before .before .before .before .before .before .args in
-    enough (a .text .now) (a .code .now) (omega arith) _ _ (c .before .before .before .before .compile-in3 .ensures)
+returns-5 : tie.Need-returns-5
+returns-5 c = let a = c .before .before .before .before .before .before .before .before .before .before .before .before .before .before .before .args in enough (a .text .now) (a .code .now) (omega arith) _ _ (c .before .before .before .before .compile-in3 .ensures)
 
 pub compile-spec : {M : Type 1} → statement M
 compile-spec =
     tie.close
     (tie.spec
     returns
+    is-sized-requires
     returns-2
-    returns-3
     slice-aggregate-compile-in
     slice-aggregate-compile-in-2
     compile-in-requires
     same-length
-    returns-4
+    returns-3
     slice-aggregate-compile-in-3
     slice-aggregate-compile-in-4
     compile-in-requires-2
     same-length-2
-    returns-5
+    returns-4
     slice-aggregate-compile-in-5
     slice-aggregate-compile-in-6
     compile-in-requires-3
     same-length-3
-    returns-6)
+    returns-5)

@@ -12,7 +12,7 @@ use Rattle.grammar.specs.Tree.{Tree, Place}
 use Rattle.grammar.specs.Symbols.{isSymbol}
 use Rattle.grammar.specs.Parse.{Result, ok, bad, deep, starved, andThen, expect, enter}
 use Rattle.grammar.proofs.Laws.{enter-some}
-use Rattle.compiler.specs.private.Results.{Read, Done, Bad, Deep, isDone}
+use Rattle.draft.specs.private.Results.{Read, Done, Bad, Deep, isDone}
 use Rattle.compiler.specs.private.Reading.{DraftHolds, SameResult, same-done, same-bad, same-deep, Span, span-done, span-bad, span-deep, thenSymbol}
 use Rattle.compiler.proofs.reader.Looking.{Splits, headIs, symbolAt}
 

@@ -15,9 +15,9 @@ use Rattle.grammar.specs.Symbols.{loosest, openParen, closeParen, comma, moreAr
 use Rattle.grammar.specs.Parse.{Result, ok, andThen, expression, arguments}
 use Rattle.code.specs.declared.Instr.the-variants.{Unary, Binary, JumpIf}
 use Rattle.tree_code.specs.Code.{branchTail}
-use Rattle.compiler.specs.private.Results.{Read, Done, readNext, readEnd, readKind, readWrong}
-use Rattle.compiler.specs.private.Words.{binaryAt, functionAt, functionOp, isMark}
-use Rattle.compiler.specs.private.Draft.{putInstr, chosenCode}
+use Rattle.draft.specs.private.Results.{Read, Done, readNext, readEnd, readKind, readWrong}
+use Rattle.draft.specs.private.Words.{binaryAt, functionAt, functionOp, isMark}
+use Rattle.draft.specs.private.Draft.{putInstr, chosenCode}
 use Rattle.compiler.specs.private.Reading.{DraftHolds, SameResult, same-done, Span, span-done, ReaderAgrees, thenSymbol, callOf, Branches}
 use Rattle.compiler.proofs.reader.Looking.{There, there}
 use Rattle.compiler.proofs.reader.Binding.{Stopped, span-stopped, bind-done, bind-stopped, and-then, then-then, enter-inside}

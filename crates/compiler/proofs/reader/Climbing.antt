@@ -13,11 +13,11 @@ use Rattle.token_table.specs.private.Table.{wordOperand, wordPlace, wordAt, tok
 use Rattle.grammar.specs.Tree.{Tree, Place, earlier}
 use Rattle.grammar.specs.Symbols.{groupNumber, infixTree}
 use Rattle.grammar.specs.Parse.{Result, ok, andThen, expression, climb}
-use Rattle.compiler.specs.private.Results.{Read, Done, isDone, readNext, readEnd, readKind, readWrong, readOf}
-use Rattle.compiler.specs.private.Words.{groupIn}
-use Rattle.compiler.specs.private.Draft.{reserved, joinedCode, joinedEnd, infixKind, infixWrong}
+use Rattle.draft.specs.private.Results.{Read, Done, isDone, readNext, readEnd, readKind, readWrong, readOf}
+use Rattle.draft.specs.private.Words.{groupIn}
+use Rattle.draft.specs.private.Draft.{reserved, joinedCode, joinedEnd, infixKind, infixWrong}
 use Rattle.compiler.specs.private.Reading.{DraftHolds, SameResult, same-done, Span, span-done, ReaderAgrees}
-use Rattle.compiler.proofs.results.Fields.{done-is, done-next}
+use Rattle.draft.proofs.results.Fields.{done-is, done-next}
 use Rattle.compiler.proofs.reader.Looking.{Splits, symbolAt, Look, look, headBinds, Operator, operator-there, no-operator, loose-operator}
 use Rattle.compiler.proofs.reader.Binding.{Stopped, span-stopped, bind-stopped}
 use Rattle.compiler.proofs.reader.Meaning.{means-infix}

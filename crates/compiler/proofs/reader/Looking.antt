@@ -28,8 +28,8 @@ use Rattle.grammar.specs.Tree.{Tree, literal, cell, nowhere, treeKind, wrongKin
 use Rattle.grammar.specs.Symbols.{groups, groupNumber, group, isSymbol, Prefix, is, none, prefixOf}
 use Rattle.grammar.specs.Parse.{ok, binds, primary}
 use Rattle.tree_code.specs.Code.{codeOf}
-use Rattle.compiler.specs.private.Words.{unaryAt, bankAt, functionAt, isMark, prefixNumber, groupIn, placeAt}
-use Rattle.compiler.specs.private.Draft.{putCode}
+use Rattle.draft.specs.private.Words.{unaryAt, bankAt, functionAt, isMark, prefixNumber, groupIn, placeAt}
+use Rattle.draft.specs.private.Draft.{putCode}
 use Rattle.compiler.specs.private.Reading.{DraftHolds}
 
 -- what comes next

@@ -20,10 +20,10 @@ use Rattle.grammar.specs.Symbols.{infixTree}
 use Rattle.code.specs.declared.Instr.{Instr}
 use Rattle.code.specs.declared.Instr.the-variants.{LoadIndexed, Unary, Binary, Jump, JumpIf}
 use Rattle.tree_code.specs.Code.{codeOf, truthTail, branchTailSkip, branchTail}
-use Rattle.compiler.specs.private.Words.{binaryAt}
-use Rattle.compiler.specs.private.Draft.{putInstr, putCode, reserved, settledCode, joinedCode, joinedEnd, infixKind, infixWrong, chosenCode}
+use Rattle.draft.specs.private.Words.{binaryAt}
+use Rattle.draft.specs.private.Draft.{putInstr, putCode, reserved, settledCode, joinedCode, joinedEnd, infixKind, infixWrong, chosenCode}
 use Rattle.compiler.specs.private.Reading.{DraftHolds}
-use Rattle.compiler.proofs.Putting.{Lies, lies-add, lies-then, lies-filled}
+use Rattle.draft.proofs.Putting.{Lies, lies-add, lies-then, lies-filled}
 
 lies : {pc : ℕ} {o o′ : List ℕ} {e : ℕ} {k : Kind} {w : Place} {t : Tree} → DraftHolds pc o o′ e k w t → Lies (codeOf t) pc e o o′
 lies m = record { ends = m .ends; code = m .code }

@@ -18,10 +18,10 @@ use Rattle.grammar.specs.Tree.{unary, Place, nowhere, earlier, unless}
 use Rattle.grammar.specs.Symbols.{none}
 use Rattle.grammar.specs.Parse.{ok, andThen, operand}
 use Rattle.code.specs.declared.Instr.the-variants.{Unary}
-use Rattle.compiler.specs.private.Results.{Read, Done}
-use Rattle.compiler.specs.private.Words.{unaryAt, bankAt, prefixNumber, Signs}
-use Rattle.compiler.specs.private.Draft.{putInstr, Unaries}
-use Rattle.compiler.specs.private.Draft as U
+use Rattle.draft.specs.private.Results.{Read, Done}
+use Rattle.draft.specs.private.Words.{unaryAt, bankAt, prefixNumber, Signs}
+use Rattle.draft.specs.private.Draft.{putInstr, Unaries}
+use Rattle.draft.specs.private.Draft as U
 use Rattle.compiler.specs.private.Reading.{SameResult, same-done, Span, span-done, ReaderAgrees, primaryOf}
 use Rattle.compiler.proofs.reader.Looking.{look, headSign, Signed, sign-there, sign-none, Leaf}
 use Rattle.compiler.proofs.reader.Binding.{Stopped, span-earlier, bind-done, bind-stopped}

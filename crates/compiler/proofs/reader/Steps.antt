@@ -19,13 +19,13 @@ use Rattle.grammar.specs.Tree.{Tree, Place, nowhere, indexed}
 use Rattle.grammar.specs.Symbols.{loosest, openParen, closeParen, openIndex, closeIndex}
 use Rattle.grammar.specs.Parse.{Result, ok, andThen, expect, enter, expression, primary, bracket}
 use Rattle.code.specs.declared.Instr.the-variants.{LoadIndexed}
-use Rattle.compiler.specs.private.Results.{Read, Done, Bad, Deep, isDone, further, readNext, readEnd, readKind, readWrong, readOf}
-use Rattle.compiler.specs.private.Words.{bankAt, isMark}
-use Rattle.compiler.specs.private.Draft.{putInstr}
+use Rattle.draft.specs.private.Results.{Read, Done, Bad, Deep, isDone, further, readNext, readEnd, readKind, readWrong, readOf}
+use Rattle.draft.specs.private.Words.{bankAt, isMark}
+use Rattle.draft.specs.private.Draft.{putInstr}
 use Rattle.compiler.specs.private.Reading.{DraftHolds, SameResult, same-done, same-bad, same-deep, Span, span-done, span-bad, span-deep, ReaderAgrees, primaryOf, thenSymbol, callOf}
 use Rattle.compiler.proofs.reader.Looking.{Splits, headIs, look, mark, There, there, Leaf}
 use Rattle.compiler.proofs.reader.Binding.{Stopped, span-earlier, bind-done, bind-stopped, expect-past, expect-other, enter-then, enter-inside, enter-full, enter-other}
-use Rattle.compiler.proofs.results.Fields.{done-is}
+use Rattle.draft.proofs.results.Fields.{done-is}
 use Rattle.compiler.proofs.reader.Meaning.{means-indexed}
 
 -- ---- the result of a function

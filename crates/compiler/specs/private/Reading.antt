@@ -11,9 +11,12 @@ use Rattle.token_table.specs.private.Table.{tokensFrom, TokenWords}
 use Rattle.grammar.specs.Tree.{Tree, Place, treeKind, wrongKind, choice}
 use Rattle.grammar.specs.Symbols.{openParen, moreArguments, argument, callTree}
 use Rattle.grammar.specs.Parse.{Result, ok, bad, deep, andThen, expect, enter, primary, arguments}
+use Rattle.text.specs.Judge.{Judgement, accepted}
 use Rattle.tree_code.specs.Code.{codeOf}
-use Rattle.compiler.specs.private.Results.{Read, Done, Bad, Deep, readNext, readEnd, readKind, readWrong}
-use Rattle.compiler.specs.private.Draft.{putCode}
+use Rattle.draft.specs.private.Results.{Read, Done, Bad, Deep, readNext, readEnd, readKind, readWrong}
+use Rattle.draft.specs.private.Draft.{putCode}
+use Rattle.compiler.specs.declared.Coded.{Coded}
+use Rattle.compiler.specs.Compile.{codedAnswer}
 
 -- the tree's kind and first wrong kind are these, and its code was put into the draft from pc up to e
 pub record DraftHolds (pc : ℕ) (o o′ : List ℕ) (e : ℕ) (k : Kind) (w : Place) (t : Tree) : Type 0 where
@@ -69,7 +72,7 @@ pub record Branches (d : ℕ) (s : List ℕ) (c : ℕ) (o o′ : List ℕ) (r : 
   pub same : (pc : ℕ) (o₀ : List ℕ) (t : Tree) → DraftHolds pc o₀ o (readEnd c) (readKind c) (readWrong c) t
       → (p f : ℕ) → (length s - readNext c) * 8 + 4 ≤ f → SameResult pc o₀ o′ s r (branchesOf t p d f (tokensFrom s (readNext c)))
 
--- the code of a tree has room in a draft of n words and a buffer of m bytes
-pub record CodeFits (n m : ℕ) (t : Tree) : Type 0 where
-  pub draft : length (codeOf t) ≤ n
-  pub buffer : 8 * length (codeOf t) ≤ m
+-- the answer is that of the judgement, and where a formula was read its code is in the draft
+pub record Judged (j : Judgement) (o o′ : List ℕ) (r : Coded) : Type 0 where
+  pub answer : r ≡ codedAnswer j
+  pub code : (t : Tree) → j ≡ accepted t → o′ ≡ putCode o 0 (codeOf t)

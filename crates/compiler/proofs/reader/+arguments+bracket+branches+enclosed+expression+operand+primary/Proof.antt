@@ -9,16 +9,16 @@ use borrow.Author.Needs.{needs}
 use lib.ListN.{length}
 use Rattle.grammar.specs.Symbols.{openParen, moreArguments, callTree}
 use Rattle.grammar.specs.Parse.{ok, andThen, bracket as bracketOf, arguments as argumentsOf}
-use Rattle.compiler.specs.private.Results.{isDone, readNext, readOf}
-use Rattle.compiler.specs.private.Words.{functionAt}
-use Rattle.compiler.specs.private.Draft.{reserved}
+use Rattle.draft.specs.private.Results.{isDone, readNext, readOf}
+use Rattle.draft.specs.private.Words.{functionAt}
+use Rattle.draft.specs.private.Draft.{reserved}
 use Rattle.compiler.proofs.reader.Looking.{look, there, primary-there, primary-as, is-leaf, at-end, a-leaf, a-letter, a-name, a-symbol}
 use Rattle.compiler.proofs.reader.Binding.{stopped, met, unmet}
 use Rattle.compiler.proofs.reader.Steps.{being, as-done, moved, reached, enclosed-stopped, enclosed-closed, enclosed-open, shut-reads, full-reads, bracket-inside, primary-end, letter-stopped, letter-done, primary-name, primary-symbol, leaf-reads}
 use Rattle.compiler.proofs.reader.Signing.{Operand, operand-leaf, operand-stopped, operand-signed}
 use Rattle.compiler.proofs.reader.Climbing.{Climb, reserved-few, climb-stopped, climb-starts, loop-none, loop-loose, loop-operator, loop-stopped, loop-joined}
 use Rattle.compiler.proofs.reader.Calls.{branches-as, only-stopped, only-done, first-stopped, second-stopped, second-done, choice-reads, branch-stopped, other-stopped, other-done}
-use Rattle.compiler.proofs.results.Fields.{done-next}
+use Rattle.draft.proofs.results.Fields.{done-next}
 use borrow.Fn.Kinds.{In}
 use borrow.Fn.PlainCycle.{Measures, is, falls, and}
 use Rattle.compiler.proofs.reader.arguments.Reads as arguments
@@ -42,25 +42,25 @@ use Rattle.compiler.proofs.reader.+arguments+bracket+branches+enclosed+
 use Rattle.compiler.proofs.reader.primary.Reads as primary
 use Rattle.compiler.proofs.reader.primary.Kinds as primary-kinds
 use Rattle.compiler.proofs.reader.+arguments+bracket+branches+enclosed+expression+operand+primary.Lts-primary as primary-lts
-use Rattle.compiler.proofs.ahead.expected.Reads as expected-reads
-use Rattle.compiler.proofs.ahead.group_in.Reads as group-in-reads
-use Rattle.compiler.proofs.ahead.is_leaf.Reads as is-leaf-reads
-use Rattle.compiler.proofs.ahead.signs_end.Reads as signs-end-reads
-use Rattle.compiler.proofs.draft.applied.Reads as applied-reads
-use Rattle.compiler.proofs.draft.chosen.Reads as chosen-reads
-use Rattle.compiler.proofs.draft.decided.Reads as decided-reads
-use Rattle.compiler.proofs.draft.joined.Reads as joined-reads
-use Rattle.compiler.proofs.draft.leaf.Reads as leaf-reads
-use Rattle.compiler.proofs.draft.loaded.Reads as loaded-reads
-use Rattle.compiler.proofs.draft.paired.Reads as paired-reads
-use Rattle.compiler.proofs.draft.reserve.Reads as reserve-reads
+use Rattle.draft.proofs.ahead.expected.Reads as expected-reads
+use Rattle.draft.proofs.ahead.group_in.Reads as group-in-reads
+use Rattle.draft.proofs.ahead.is_leaf.Reads as is-leaf-reads
+use Rattle.draft.proofs.ahead.signs_end.Reads as signs-end-reads
+use Rattle.draft.proofs.applied.Reads as applied-reads
+use Rattle.draft.proofs.chosen.Reads as chosen-reads
+use Rattle.draft.proofs.decided.Reads as decided-reads
+use Rattle.draft.proofs.joined.Reads as joined-reads
+use Rattle.draft.proofs.leaf.Reads as leaf-reads
+use Rattle.draft.proofs.loaded.Reads as loaded-reads
+use Rattle.draft.proofs.paired.Reads as paired-reads
+use Rattle.draft.proofs.reserve.Reads as reserve-reads
 use Rattle.compiler.proofs.reader.signed.Reads as signed-reads
-use Rattle.compiler.proofs.results.bad.Reads as bad-reads
-use Rattle.compiler.proofs.results.deep.Reads as deep-reads
-use Rattle.compiler.proofs.results.end_of.Reads as end-of-reads
-use Rattle.compiler.proofs.results.is_done.Reads as is-done-reads
-use Rattle.compiler.proofs.results.next_of.Reads as next-of-reads
-use Rattle.compiler.proofs.results.past.Reads as past-reads
+use Rattle.draft.proofs.results.bad.Reads as bad-reads
+use Rattle.draft.proofs.results.deep.Reads as deep-reads
+use Rattle.draft.proofs.results.end_of.Reads as end-of-reads
+use Rattle.draft.proofs.results.is_done.Reads as is-done-reads
+use Rattle.draft.proofs.results.next_of.Reads as next-of-reads
+use Rattle.draft.proofs.results.past.Reads as past-reads
 use Rattle.token_table.proofs.class_of.Reads as class-of-reads
 use Rattle.token_table.proofs.operand_of.Reads as operand-of-reads
 use Rattle.token_table.proofs.word_at.Reads as word-at-reads

@@ -1,8 +1,7 @@
 -- `compiler::reader::formula` meets its contract.
 use mathlib.Core.Path.{sym, _∙_}
-use native.Mathlib.Omega.{arith}
 use Rattle.compiler.proofs.reader.Binding.{met, unmet}
-use Rattle.compiler.proofs.reader.Whole.{refused-way, more-way, wrong-way, held, done-way}
+use Rattle.compiler.proofs.reader.Whole.{refused-way, more-way, wrong-way, done-way}
 use borrow.Author.Needs.{needs}
 use Rattle.compiler.proofs.reader.formula.Statement.{statement}
 use Rattle.compiler.proofs.reader.formula.Tie as tie
@@ -26,9 +25,7 @@ same-length : tie.Need-same-length
 same-length c = search needs
 
 returns : tie.Need-returns
-returns c =
-    let s = c .before .before .before .before .before .before .before .before .before .before .before .before in
-    refused-way (s .args .table .now) (c .before .before .before .before .before .before .before .expression .result) (s .pre .0 .tokens) (c .before .before .before .before .before .before .before .expression .ensures) (s .args .code .now) (s .args .size) (unmet (c .before .before .before .is-done .ensures) (c .before .before .if1 .taken)) (c .before .refusal-of .ensures) (c .before .before .before .before .next-of .ensures .0) (c .place-at .ensures)
+returns c = refused-way (c .before .before .before .before .before .before .before .before .before .before .before .args .table .now) (c .before .before .before .before .before .before .before .expression .result) (c .before .before .before .before .before .before .before .before .before .before .before .pre .tokens) (c .before .before .before .before .before .before .before .expression .ensures) (c .before .before .before .before .before .before .before .before .before .before .before .args .size) (unmet (c .before .before .before .is-done .ensures) (c .before .before .if1 .taken)) (c .before .refusal-of .ensures) (c .before .before .before .before .next-of .ensures .0) (c .place-at .ensures)
 
 word-at-requires : tie.Need-word-at-requires
 word-at-requires c κs = search needs
@@ -43,9 +40,7 @@ same-length-2 : tie.Need-same-length-2
 same-length-2 c = search needs
 
 returns-2 : tie.Need-returns-2
-returns-2 c =
-    let s = c .before .before .before .before .before .before .before .before .before .before .before .before .before .before in
-    λ x l. more-way (s .args .table .now) (c .before .before .before .before .before .before .before .before .before .expression .result) (s .pre .0 .tokens) (c .before .before .before .before .before .before .before .before .before .expression .ensures) (met (c .before .before .before .before .before .is-done .ensures) (c .before .before .before .before .if1 .left)) (c .before .before .before .before .before .before .next-of .ensures .0) (c .before .before .before .word-at .ensures) (s .args .code .now) (λ e. c .before .if2 .taken (c .before .before .class-of .ensures ∙ e)) (c .place-of .ensures) x
+returns-2 c = λ x l. more-way (c .before .before .before .before .before .before .before .before .before .before .before .before .before .args .table .now) (c .before .before .before .before .before .before .before .before .before .expression .result) (c .before .before .before .before .before .before .before .before .before .before .before .before .before .pre .tokens) (c .before .before .before .before .before .before .before .before .before .expression .ensures) (met (c .before .before .before .before .before .is-done .ensures) (c .before .before .before .before .if1 .left)) (c .before .before .before .before .before .before .next-of .ensures .0) (c .before .before .before .word-at .ensures) (λ e. c .before .if2 .taken (c .before .before .class-of .ensures ∙ e)) (c .place-of .ensures) x
 
 wrong-of-requires : tie.Need-wrong-of-requires
 wrong-of-requires c κs = search needs
@@ -54,30 +49,16 @@ same-length-3 : tie.Need-same-length-3
 same-length-3 c = search needs
 
 returns-3 : tie.Need-returns-3
-returns-3 c =
-    let s = c .before .before .before .before .before .before .before .before .before .before .before .before .before .before .before in
-    λ x l. wrong-way (s .args .table .now) (c .before .before .before .before .before .before .before .before .before .before .expression .result) (s .pre .0 .tokens) (c .before .before .before .before .before .before .before .before .before .before .expression .ensures) (met (c .before .before .before .before .before .before .is-done .ensures) (c .before .before .before .before .before .if1 .left)) (c .before .before .before .before .before .before .before .next-of .ensures .0) (c .before .before .before .before .word-at .ensures) (sym (c .before .before .before .class-of .ensures) ∙ c .before .before .if2 .left) (s .args .code .now) (c .before .wrong-of .ensures .0) (c .if3 .taken) x
+returns-3 c = λ x l. wrong-way (c .before .before .before .before .before .before .before .before .before .before .before .before .before .before .args .table .now) (c .before .before .before .before .before .before .before .before .before .before .expression .result) (c .before .before .before .before .before .before .before .before .before .before .before .before .before .before .pre .tokens) (c .before .before .before .before .before .before .before .before .before .before .expression .ensures) (met (c .before .before .before .before .before .before .is-done .ensures) (c .before .before .before .before .before .if1 .left)) (c .before .before .before .before .before .before .before .next-of .ensures .0) (c .before .before .before .before .word-at .ensures) (sym (c .before .before .before .class-of .ensures) ∙ c .before .before .if2 .left) (c .before .wrong-of .ensures .0) (c .if3 .taken) x
 
 end-of-requires : tie.Need-end-of-requires
 end-of-requires c κs = search needs
 
-copy-requires : tie.Need-copy-requires
-copy-requires c κs =
-    let s = c .before .before .before .before .before .before .before .before .before .before .before .before .before .before .before .before .before .before in
-    let h = held (s .args .table .now) (c .before .before .before .before .before .before .before .before .before .before .before .before .before .expression .result) (s .pre .0 .tokens) (c .before .before .before .before .before .before .before .before .before .before .before .before .before .expression .ensures) (met (c .before .before .before .before .before .before .before .before .before .is-done .ensures) (c .before .before .before .before .before .before .before .before .if1 .left)) (c .before .before .before .before .before .before .before .before .before .before .next-of .ensures .0) (c .before .before .before .before .before .before .before .word-at .ensures) (sym (c .before .before .before .before .before .before .class-of .ensures) ∙ c .before .before .before .before .before .if2 .left) (c .before .before .before .before .wrong-of .ensures .0) (c .before .before .before .if3 .left) (c .before .before .end-of .ensures .0) (s .pre .1) in
-    (omega (arith, h .0, c .before .before .before .before .before .before .before .before .before .before .before .before .before .expression .kept .1 .0), h .1)
-
 same-length-4 : tie.Need-same-length-4
 same-length-4 c = search needs
 
-same-length-5 : tie.Need-same-length-5
-same-length-5 c = search needs
-
 returns-4 : tie.Need-returns-4
-returns-4 c =
-    let s = c .before .before .before .before .before .before .before .before .before .before .before .before .before .before .before .before .before .before .before .before .before in
-    let h = held (s .args .table .now) (c .before .before .before .before .before .before .before .before .before .before .before .before .before .before .before .before .expression .result) (s .pre .0 .tokens) (c .before .before .before .before .before .before .before .before .before .before .before .before .before .before .before .before .expression .ensures) (met (c .before .before .before .before .before .before .before .before .before .before .before .before .is-done .ensures) (c .before .before .before .before .before .before .before .before .before .before .before .if1 .left)) (c .before .before .before .before .before .before .before .before .before .before .before .before .before .next-of .ensures .0) (c .before .before .before .before .before .before .before .before .before .before .word-at .ensures) (sym (c .before .before .before .before .before .before .before .before .before .class-of .ensures) ∙ c .before .before .before .before .before .before .before .before .if2 .left) (c .before .before .before .before .before .before .before .wrong-of .ensures .0) (c .before .before .before .before .before .before .if3 .left) (c .before .before .before .before .before .end-of .ensures .0) (s .pre .1) in
-    λ x l. done-way (s .args .table .now) (c .before .before .before .before .before .before .before .before .before .before .before .before .before .before .before .before .expression .result) (s .pre .0 .tokens) (c .before .before .before .before .before .before .before .before .before .before .before .before .before .before .before .before .expression .ensures) (met (c .before .before .before .before .before .before .before .before .before .before .before .before .is-done .ensures) (c .before .before .before .before .before .before .before .before .before .before .before .if1 .left)) (c .before .before .before .before .before .before .before .before .before .before .before .before .before .next-of .ensures .0) (c .before .before .before .before .before .before .before .before .before .before .word-at .ensures) (sym (c .before .before .before .before .before .before .before .before .before .class-of .ensures) ∙ c .before .before .before .before .before .before .before .before .if2 .left) (c .before .before .before .before .before .before .before .wrong-of .ensures .0) (c .before .before .before .before .before .before .if3 .left) (c .before .before .before .before .before .end-of .ensures .0) (s .args .code .now) (h .0) (c .before .before .copy .ensures) x
+returns-4 c = λ x l. done-way (c .before .before .before .before .before .before .before .before .before .before .before .before .before .before .before .args .table .now) (c .before .before .before .before .before .before .before .before .before .before .before .expression .result) (c .before .before .before .before .before .before .before .before .before .before .before .before .before .before .before .pre .tokens) (c .before .before .before .before .before .before .before .before .before .before .before .expression .ensures) (met (c .before .before .before .before .before .before .before .is-done .ensures) (c .before .before .before .before .before .before .if1 .left)) (c .before .before .before .before .before .before .before .before .next-of .ensures .0) (c .before .before .before .before .before .word-at .ensures) (sym (c .before .before .before .before .class-of .ensures) ∙ c .before .before .before .if2 .left) (c .before .before .wrong-of .ensures .0) (c .before .if3 .left) (c .end-of .ensures .0) x
 
 pub formula-spec : {M : Type 1} → statement M
 formula-spec =
@@ -99,7 +80,5 @@ formula-spec =
     same-length-3
     returns-3
     end-of-requires
-    copy-requires
     same-length-4
-    same-length-5
     returns-4)

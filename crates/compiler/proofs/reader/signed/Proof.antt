@@ -4,7 +4,7 @@ use Prim.Native.Nat.{_-_, _≤_}
 use native.Mathlib.Omega.{arith}
 use lib.ListN.{length}
 use borrow.Author.Needs.{needs}
-use Rattle.compiler.proofs.draft.Signing.{Signed, signed-none, signed-more}
+use Rattle.draft.proofs.Signing.{Signed, signed-none, signed-more}
 use Rattle.compiler.proofs.reader.signed.Statement.{statement}
 use Rattle.compiler.proofs.reader.signed.Tie as tie
 

@@ -1,0 +1,6 @@
+-- Laws of drafts; the compiler cites Putting and Signing.
+pub mod Putting
+pub mod Signing
+mod Numbers
+mod Words
+mod Copied

@@ -1,0 +1,15 @@
+-- `kinds::earlier` meets its contract.
+use native.Mathlib.Nat.{le-of-lt}
+use borrow.Author.Needs.{needs}
+use Rattle.draft.proofs.kinds.Places.{earlier-first, earlier-second}
+use Rattle.draft.proofs.kinds.earlier.Statement.{statement}
+use Rattle.draft.proofs.kinds.earlier.Tie as tie
+
+returns : tie.Need-returns
+returns c = (earlier-first _ _ (le-of-lt (c .if1 .taken)), search needs)
+
+returns-2 : tie.Need-returns-2
+returns-2 c = (earlier-second _ _ (c .if1 .left), search needs)
+
+pub earlier-spec : {M : Type 1} → statement M
+earlier-spec = tie.close (tie.spec returns returns-2)

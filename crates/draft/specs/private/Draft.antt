@@ -1,0 +1,84 @@
+-- For the contracts of private functions: instructions as words of 64 bits, and what is put into the draft.
+use mathlib.Core.Bool.{Bool, true, false, cond}
+use mathlib.Core.List.{List, [], _∷_, _++_}
+use Prim.Native.Nat.{ℕ, suc, _+_, _-_}
+use lib.Dec.{eqb, ltb}
+use lib.ListN.{set}
+use lib.Ieee as Ieee
+use lib.Ieee.{binary32}
+use Rattle.values.specs.declared.Kind.{Kind}
+use Rattle.values.specs.declared.Kind.the-variants.{Int}
+use Rattle.values.specs.Patterns.{lowBits}
+use Rattle.operators.specs.Kinds.{unaryKind, unaryTakes, binaryKind, binaryTakes}
+use Rattle.operators.specs.Tables.{unaryNumber, binaryNumber}
+use Rattle.words.specs.Words.{bytesOf}
+use Rattle.memory.specs.Numbers.{bankNumber}
+use Rattle.token_table.specs.private.Table.{packFields, wordPlace, wordAt}
+use Rattle.code.specs.declared.Instr.{Instr}
+use Rattle.code.specs.declared.Instr.the-variants.{PushInt, PushReal, Load, LoadIndexed, Unary, Binary, Jump, JumpIf, Unknown}
+use Rattle.grammar.specs.Tree.{Place, nowhere, unless, earlier}
+use Rattle.tree_code.specs.Code.{truthTail, branchTailSkip, branchTail}
+use Rattle.draft.specs.private.Results.{Read, Done}
+use Rattle.draft.specs.private.Words.{unaryAt, binaryAt, prefixNumber}
+
+-- an instruction as a word: a literal's and a cell's are their tokens' words without the place
+abbrev pub codeWord : Instr → ℕ
+codeWord (PushInt z) = packFields 1 0 (lowBits 32 z) 0
+codeWord (PushReal x) = packFields 2 0 (Ieee.toBits binary32 x) 0
+codeWord (Load b i) = packFields 3 (bankNumber b) i 0
+codeWord (LoadIndexed b) = packFields 4 (bankNumber b) 0 0
+codeWord (Unary o) = packFields 5 (unaryNumber o) 0 0
+codeWord (Binary o) = packFields 6 (binaryNumber o) 0 0
+codeWord (Jump d) = packFields 7 0 d 0
+codeWord (JumpIf false d) = packFields 8 0 d 0
+codeWord (JumpIf true d) = packFields 9 0 d 0
+codeWord Unknown = packFields 0 0 0 0
+
+abbrev pub codeWords : List Instr → List ℕ
+codeWords [] = []
+codeWords (i ∷ c) = codeWord i ∷ codeWords c
+
+-- the bytes of some words
+unfoldable pub wordBytes : List ℕ → List ℕ
+wordBytes [] = []
+wordBytes (w ∷ ws) = bytesOf 8 w ++ wordBytes ws
+
+-- one instruction, and some one after another, each where the draft has such a place
+abbrev pub putInstr : List ℕ → ℕ → Instr → List ℕ
+putInstr s pc i = set s pc (codeWord i)
+
+unfoldable pub putCode : List ℕ → ℕ → List Instr → List ℕ
+putCode s pc [] = s
+putCode s pc (i ∷ c) = putCode (putInstr s pc i) (suc pc) c
+
+-- the places kept for a jump before the right side: the binary operators from 18 on are `&&` and `||`
+abbrev pub reserved : ℕ → ℕ
+reserved n = cond (ltb n 18) 0 1
+
+-- after the right side of `&&` or `||`, which ends at k: the jump over it, at j, and what makes 0 or 1 of it
+abbrev pub settledCode : List ℕ → ℕ → ℕ → Bool → List ℕ
+settledCode s j k d = putCode (putInstr s j (JumpIf d (k - suc j + 3))) k (truthTail d)
+
+-- after both sides of the binary operator n, which end at j and k
+abbrev pub joinedCode : List ℕ → ℕ → ℕ → ℕ → List ℕ
+joinedCode s n j k = cond (ltb n 18) (putInstr s k (Binary (binaryAt n))) (settledCode s j k (eqb n 19))
+
+abbrev pub joinedEnd : ℕ → ℕ → ℕ
+joinedEnd n k = k + cond (ltb n 18) 1 4
+
+abbrev pub infixKind : ℕ → Kind → Kind → Kind
+infixKind n a b = cond (ltb n 18) (binaryKind (binaryAt n) a b) Int
+
+abbrev pub infixWrong : ℕ → ℕ → Kind → Kind → Place
+infixWrong n p a b = cond (ltb n 18) (unless (binaryTakes (binaryAt n) a b) p) nowhere
+
+-- after both branches of IF, which end at j and k and are of the kinds a and b
+abbrev pub chosenCode : List ℕ → ℕ → ℕ → Kind → Kind → List ℕ
+chosenCode s j k a b = putCode (putInstr s j (Jump (k - suc j + branchTailSkip a b))) k (branchTail a b)
+
+-- under the unary operators from a position up to `first`, the last of them first, what was read becomes this, and the draft this
+pub data Unaries (s : List ℕ) (first : ℕ) (o : List ℕ) (r : Read) : ℕ → List ℕ → Read → Type 0 where
+  none : Unaries s first o r first o r
+  more : {i j e : ℕ} {k : Kind} {w : Place} {o′ : List ℕ} → Unaries s first o r (suc i) o′ (Done j e k w)
+      → Unaries s first o r i (putInstr o′ e (Unary (unaryAt (prefixNumber (wordAt s i)))))
+      (Done j (e + 1) (unaryKind (unaryAt (prefixNumber (wordAt s i))) k) (earlier (unless (unaryTakes (unaryAt (prefixNumber (wordAt s i))) k) (wordPlace (wordAt s i))) w))

@@ -1,0 +1,251 @@
+// Instructions as words, written into a draft: what follows the parts of a formula. A jump is filled in when what it skips has been written; nothing is written behind the draft's end.
+ghost use mathlib.Core.Path.{_≡_};
+ghost use mathlib.Core.Bool.{false};
+ghost use Prim.Native.Nat.{_+_, _-_, _*_, _%_, _<_, _≤_};
+ghost use lib.Dec.{eqb};
+ghost use lib.ListN.{length, take, set};
+ghost use lib.Seq.{sets};
+ghost use Rattle.operators.specs.Kinds.{join, unaryKind, unaryTakes, binaryKind};
+ghost use Rattle.memory.specs.Cells.{bankKind};
+ghost use Rattle.token_table.specs.private.Table.{packFields, wordClass, wordOperand, wordNumber, wordPlace};
+ghost use Rattle.grammar.specs.Tree.{nowhere, earlier, unless};
+ghost use Rattle.code.specs.declared.Instr.the-variants.{LoadIndexed, Unary, Binary, JumpIf};
+ghost use Rattle.tree_code.specs.Code.{branchTail};
+ghost use Rattle.draft.specs.private.Results.{Done, kindIs, placed, readNext, readEnd, readKind, readWrong, readOf};
+ghost use Rattle.draft.specs.private.Words.{unaryAt, binaryAt, bankAt, functionOp, leafKind, prefixNumber};
+ghost use Rattle.draft.specs.private.Draft.{wordBytes, putInstr, putCode, reserved, settledCode, joinedCode, joinedEnd, infixKind, infixWrong, chosenCode};
+use results::NOWHERE;
+
+pub mod ahead;
+pub mod kinds;
+pub mod results;
+
+const UNARY: u8 = 5;
+
+const BINARY: u8 = 6;
+
+const JUMP: u8 = 7;
+
+const JUMP_IF_FALSE: u8 = 8;
+
+// One instruction.
+pub fn put(draft: &mut [u64], place: usize, opcode: u8, operand: u8, word: u32)
+    ensures { λ _. ⌜ now (draft .exit) ≡ set (now (draft .entry)) place (packFields opcode operand word 0) ⌝ }
+{
+    if place < draft.len() {
+        draft[place] = (opcode as u64) + 256 * (operand as u64) + 4294967296 * (word as u64);
+    }
+}
+
+// One instruction behind what was read, and what it makes of that.
+fn added(draft: &mut [u64], before: u64, opcode: u8, operand: u8, kind: u64, wrong: u64) -> u64
+    requires { ⌜ (readEnd before < 65535) × (kind < 2) × (wrong < 536870912) ⌝ }
+    ensures { λ r. ⌜ readOf r ≡ Done (readNext before) (readEnd before + 1) (kindIs kind) (placed wrong) ⌝ }
+    ensures { λ r. ⌜ now (draft .exit) ≡ set (now (draft .entry)) (readEnd before) (packFields opcode operand 0 0) ⌝ }
+{
+    let end = results::end_of(before);
+    put(draft, end, opcode, operand, 0);
+    results::done(results::next_of(before), end + 1, kind, wrong)
+}
+
+// A number or a cell: its word without the place is the instruction.
+pub fn leaf(draft: &mut [u64], w: u64, at: usize, pc: usize) -> u64
+    requires { ⌜ (wordOperand w < 6) × (at < 65535) × (pc < 65535) ⌝ }
+    ensures { λ r. ⌜ readOf r ≡ Done (at + 1) (pc + 1) (leafKind w) nowhere ⌝ }
+    ensures { λ r. ⌜ now (draft .exit) ≡ set (now (draft .entry)) pc (packFields (wordClass w) (wordOperand w) (wordNumber w) 0) ⌝ }
+{
+    if pc < draft.len() {
+        draft[pc] = w / 4294967296 * 4294967296 + w % 65536;
+    }
+    results::done(at + 1, pc + 1, ahead::leaf_kind(w), NOWHERE)
+}
+
+// An element of a bank, behind its index.
+pub fn loaded(draft: &mut [u64], bank: u8, index: u64) -> u64
+    requires { ⌜ (bank < 6) × (readEnd index < 65535) ⌝ }
+    ensures { λ r. ⌜ readOf r ≡ Done (readNext index) (readEnd index + 1) (bankKind (bankAt bank)) (readWrong index) ⌝ }
+    ensures { λ r. ⌜ now (draft .exit) ≡ putInstr (now (draft .entry)) (readEnd index) (LoadIndexed (bankAt bank)) ⌝ }
+{
+    added(
+        draft,
+        index,
+        4,
+        bank,
+        ahead::bank_kind(bank),
+        results::wrong_of(index),
+    )
+}
+
+// A unary operator before an operand.
+pub fn prefixed(draft: &mut [u64], w: u64, inner: u64) -> u64
+    requires { ⌜ (prefixNumber w < 3) × (readEnd inner < 65535) ⌝ }
+    ensures { λ r. ⌜ readOf r ≡ Done (readNext inner) (readEnd inner + 1) (unaryKind (unaryAt (prefixNumber w)) (readKind inner)) (earlier (unless (unaryTakes (unaryAt (prefixNumber w)) (readKind inner)) (wordPlace w)) (readWrong inner)) ⌝ }
+    ensures { λ r. ⌜ now (draft .exit) ≡ putInstr (now (draft .entry)) (readEnd inner) (Unary (unaryAt (prefixNumber w))) ⌝ }
+{
+    let op = ahead::sign_of(w);
+    let kind = results::kind_of(inner);
+    let here = kinds::wrong_at(kinds::unary_takes(op, kind), w);
+    let wrong = kinds::earlier(here, results::wrong_of(inner));
+    added(draft, inner, UNARY, op, kinds::of_unary(op, kind), wrong)
+}
+
+// The number of the operator of a function of one argument.
+fn operator_of(f: u8) -> u8
+    requires { ⌜ f < 6 ⌝ }
+    ensures { λ r. ⌜ unaryAt r ≡ functionOp f ⌝ }
+    ensures { λ r. ⌜ r < 8 ⌝ }
+{
+    match f {
+        0 => 3,
+        1 => 4,
+        2 => 5,
+        3 => 5,
+        4 => 6,
+        _ => 7,
+    }
+}
+
+// A function of one argument.
+pub fn applied(draft: &mut [u64], f: u8, first: u64) -> u64
+    requires { ⌜ (f < 6) × (readEnd first < 65535) ⌝ }
+    ensures { λ r. ⌜ readOf r ≡ Done (readNext first) (readEnd first + 1) (unaryKind (functionOp f) (readKind first)) (readWrong first) ⌝ }
+    ensures { λ r. ⌜ now (draft .exit) ≡ putInstr (now (draft .entry)) (readEnd first) (Unary (functionOp f)) ⌝ }
+{
+    let op = operator_of(f);
+    let kind = kinds::of_unary(op, results::kind_of(first));
+    added(draft, first, UNARY, op, kind, results::wrong_of(first))
+}
+
+// MAX and MIN: among the binary operators they follow those of the text.
+pub fn paired(draft: &mut [u64], f: u8, first: u64, second: u64) -> u64
+    requires { ⌜ (6 ≤ f) × (f < 8) × (readEnd second < 65535) ⌝ }
+    ensures { λ r. ⌜ readOf r ≡ Done (readNext second) (readEnd second + 1) (binaryKind (binaryAt (12 + f)) (readKind first) (readKind second)) (earlier (readWrong first) (readWrong second)) ⌝ }
+    ensures { λ r. ⌜ now (draft .exit) ≡ putInstr (now (draft .entry)) (readEnd second) (Binary (binaryAt (12 + f))) ⌝ }
+{
+    let op = 12 + f;
+    let kind = kinds::of_binary(op, results::kind_of(first), results::kind_of(second));
+    let wrong = kinds::earlier(results::wrong_of(first), results::wrong_of(second));
+    added(draft, second, BINARY, op, kind, wrong)
+}
+
+// The place that a binary operator needs before its right side: && and || jump over that.
+pub fn reserve(n: u8) -> usize
+    ensures { λ r. ⌜ r ≡ reserved n ⌝ }
+{
+    if n < 18 { 0 } else { 1 }
+}
+
+// After both sides of && (d is 0) or || (d is 1): the jump at j over the right side, which ends at k, and what makes 0 or 1 of it.
+fn settle(draft: &mut [u64], j: usize, k: usize, d: u8)
+    requires { ⌜ (d < 2) × (j < k) × (k < 65000) ⌝ }
+    ensures { λ _. ⌜ now (draft .exit) ≡ settledCode (now (draft .entry)) j k (eqb d 1) ⌝ }
+{
+    put(draft, j, JUMP_IF_FALSE + d, 0, (k - j + 2) as u32);
+    put(draft, k, JUMP_IF_FALSE + d, 0, 2);
+    put(draft, k + 1, 1, 0, (1 - d) as u32);
+    put(draft, k + 2, JUMP, 0, 1);
+    put(draft, k + 3, 1, 0, d as u32);
+}
+
+// What follows the sides of a binary operator, whose word is w.
+pub fn joined(draft: &mut [u64], w: u64, left: u64, right: u64) -> u64
+    requires { ⌜ (wordOperand w < 20) × (readEnd left + reserved (wordOperand w) ≤ readEnd right) × (readEnd right < 65000) ⌝ }
+    ensures { λ r. ⌜ readOf r ≡ Done (readNext right) (joinedEnd (wordOperand w) (readEnd right)) (infixKind (wordOperand w) (readKind left) (readKind right)) (earlier (infixWrong (wordOperand w) (wordPlace w) (readKind left) (readKind right)) (earlier (readWrong left) (readWrong right))) ⌝ }
+    ensures { λ r. ⌜ now (draft .exit) ≡ joinedCode (now (draft .entry)) (wordOperand w) (readEnd left) (readEnd right) ⌝ }
+{
+    let n = token_table::operand_of(w);
+    let inner = kinds::earlier(results::wrong_of(left), results::wrong_of(right));
+    if 18 <= n {
+        let end = results::end_of(right);
+        settle(draft, results::end_of(left), end, n - 18);
+        return results::done(results::next_of(right), end + 4, 0, inner);
+    }
+    let a = results::kind_of(left);
+    let b = results::kind_of(right);
+    let here = kinds::wrong_at(kinds::binary_takes(n, a, b), w);
+    added(
+        draft,
+        right,
+        BINARY,
+        n,
+        kinds::of_binary(n, a, b),
+        kinds::earlier(here, inner),
+    )
+}
+
+// What promotes an integer branch of IF beside a real one, and where it ends.
+fn promoted(draft: &mut [u64], k: usize, first: u64, second: u64) -> usize
+    requires { ⌜ (k < 65000) × (first < 2) × (second < 2) ⌝ }
+    ensures { λ r. ⌜ r ≡ k + length (branchTail (kindIs first) (kindIs second)) ⌝ }
+    ensures { λ r. ⌜ now (draft .exit) ≡ putCode (now (draft .entry)) k (branchTail (kindIs first) (kindIs second)) ⌝ }
+{
+    if first == second {
+        return k;
+    }
+    if first == 0 {
+        put(draft, k, JUMP, 0, 1);
+        put(draft, k + 1, UNARY, 4, 0);
+        return k + 2;
+    }
+    put(draft, k, UNARY, 4, 0);
+    k + 1
+}
+
+// After the condition of IF, at whose end a place was kept: the jump over the first branch.
+pub fn decided(draft: &mut [u64], condition: u64, first: u64)
+    requires { ⌜ readEnd condition < readEnd first ⌝ }
+    ensures { λ _. ⌜ now (draft .exit) ≡ putInstr (now (draft .entry)) (readEnd condition) (JumpIf false (readEnd first - readEnd condition)) ⌝ }
+{
+    let j = results::end_of(condition);
+    put(
+        draft,
+        j,
+        JUMP_IF_FALSE,
+        0,
+        (results::end_of(first) - j) as u32,
+    );
+}
+
+// After the branches of IF: the jump from the first over the second.
+pub fn chosen(draft: &mut [u64], condition: u64, first: u64, second: u64) -> u64
+    requires { ⌜ (readEnd first < readEnd second) × (readEnd second < 65000) ⌝ }
+    ensures { λ r. ⌜ readOf r ≡ Done (readNext second) (readEnd second + length (branchTail (readKind first) (readKind second))) (join (readKind first) (readKind second)) (earlier (readWrong condition) (earlier (readWrong first) (readWrong second))) ⌝ }
+    ensures { λ r. ⌜ now (draft .exit) ≡ chosenCode (now (draft .entry)) (readEnd first) (readEnd second) (readKind first) (readKind second) ⌝ }
+{
+    let j = results::end_of(first);
+    let k = results::end_of(second);
+    let a = results::kind_of(first);
+    let b = results::kind_of(second);
+    put(draft, j, JUMP, 0, (k - j - 1 + kinds::skipped(a, b)) as u32);
+    let end = promoted(draft, k, a, b);
+    let branches = kinds::earlier(results::wrong_of(first), results::wrong_of(second));
+    let wrong = kinds::earlier(results::wrong_of(condition), branches);
+    results::done(results::next_of(second), end, kinds::joined(a, b), wrong)
+}
+
+fn byte_of(w: u64) -> u8
+    ensures { λ r. ⌜ r ≡ w % 256 ⌝ }
+{
+    (w % 256) as u8
+}
+
+// The first n words, as bytes.
+pub fn copy(draft: &[u64], n: usize, code: &mut [u8])
+    requires { ⌜ (n ≤ length (now draft)) × (8 * n ≤ length (now code)) ⌝ }
+    ensures { λ _. ⌜ now (code .exit) ≡ sets (now (code .entry)) 0 (wordBytes (take n (now (draft .entry)))) ⌝ }
+{
+    let mut i: usize = 0;
+    while i < n {
+        let w = draft[i];
+        let at = 8 * i;
+        code[at] = byte_of(w);
+        code[at + 1] = byte_of(w / 256);
+        code[at + 2] = byte_of(w / 65536);
+        code[at + 3] = byte_of(w / 16777216);
+        code[at + 4] = byte_of(w / 4294967296);
+        code[at + 5] = byte_of(w / 1099511627776);
+        code[at + 6] = byte_of(w / 281474976710656);
+        code[at + 7] = byte_of(w / 72057594037927936);
+        i += 1;
+    }
+}
