@@ -15,7 +15,7 @@ use Rattle.token_table.specs.private.Table.{listed, Fills, blank, TokenWords}
 use Rattle.token_table.proofs.Laws.{filled-good, filled-wrong}
 use Rattle.grammar.specs.Tree.{Tree}
 use Rattle.grammar.specs.Parse.{parse}
-use Rattle.text.specs.Judge.{Judgement, accepted, refused, judgeParse, judgeScan, judge}
+use Rattle.text.specs.Judge.{Judgement, accepted, refused, judgeParse, judgeScan, judgeFrom, judge}
 use Rattle.text.specs.Theorems.{Sized}
 use Rattle.tree_code.specs.Code.{codeOf}
 use Rattle.draft.specs.private.Draft.{wordBytes, putCode}
@@ -40,17 +40,17 @@ taken-up {o = o} t q l d = record { answer = rw q (ap Done l); code = λ u e. le
 
 -- ---- the tokens
 module _ {s : List ℕ} (h : Sized s) where
-  goes-on : judge s ≡ judgeScan s (scan s)
-  unfolding judge
+  goes-on : judge s ≡ judgeScan 0 s (scan s)
+  unfolding judgeFrom
   goes-on = rw (le-leb 1 (length s) (h .some), le-leb (length s) 1024 (h .short)) refl
 
   pub all-read : {table o o′ : List ℕ} {a : Coded} → Fills (scan s) table Good → ((x : List ℕ) → length x ≡ length s → Judged (judgeParse x (parse (listed table))) o o′ a) → Judged (judge s) o o′ a
   unfolding judgeScan
-  all-read i f = rw (goes-on ∙ ap (judgeScan s) (filled-good i)) (f s refl)
+  all-read i f = rw (goes-on ∙ ap (judgeScan 0 s) (filled-good i)) (f s refl)
 
   pub wrong-token : {table o o′ : List ℕ} {a p : ℕ} → Fills (scan s) table (Wrong a p) → Judged (judge s) o o′ (Refused a p)
   unfolding judgeScan
-  wrong-token i = turned-down (goes-on ∙ ap (judgeScan s) (filled-wrong i))
+  wrong-token i = turned-down (goes-on ∙ ap (judgeScan 0 s) (filled-wrong i))
 
 -- ---- the copy of the draft: a formula has at most two instructions a byte
 module _ {s o o′ : List ℕ} (h : Sized s) where
@@ -89,7 +89,7 @@ module _ (s : List ℕ) where
       record { some = leb-true 1 (length s) some; short = leb-true (length s) 1024 short }
 
   pub not-sized : {b : Bool} → b ≡ (leb 1 (length s) && leb (length s) 1024) → not b ≡ true → judge s ≡ refused 3 0
-  unfolding judge
+  unfolding judgeFrom
   not-sized {b} e h = rw (sym e ∙ not-true b h) refl
 
 -- ---- the buffer

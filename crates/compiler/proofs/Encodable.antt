@@ -23,12 +23,12 @@ use Rattle.code.specs.declared.Instr.the-variants.{Jump, JumpIf}
 use Rattle.code.specs.Encode.{Encodable, push-int, push-real, load, load-indexed, unary, binary, jump, jump-if}
 use Rattle.grammar.specs.Tree as Tree
 use Rattle.grammar.specs.Tree.{Tree, literal, cell, indexed, logic, choice, treeKind}
-use Rattle.grammar.specs.Symbols.{Arguments, argument}
+use Rattle.grammar.specs.Symbols.{Callee, of-one, of-two, of-choice, Arguments, argument, callTree}
 use Rattle.grammar.specs.Grammar.{Derives, number, name, index, parenthesis, call, prefixed, up, infixed, last, next, Formula}
 use Rattle.tree_code.specs.Code.{pushBool, truthTail, branchTail, branchTailSkip, codeOf}
 use Rattle.compiler.proofs.Each.{Each, none, some, each-append, each-first, each-rest, each-front, each-back}
 use Rattle.compiler.proofs.Scanned.{AllKnown}
-use Rattle.tree_code.proofs.Nodes.{Call, of-one, of-two, of-three, call-node, Infix, of-values, of-truths, infix-node}
+use Rattle.tree_code.proofs.Nodes.{Infix, of-values, of-truths, infix-node}
 
 -- ---- pieces of code, of which none is longer than the whole
 abbrev Short : List Instr → Type 0
@@ -101,10 +101,10 @@ on-choice p c t u f g h =
     (leap (JumpIf false) (jump-if false) 1 (omega arith) (codeOf t) _ g
     (leap Jump jump (branchTailSkip j k) (over-few j k) (codeOf u) (branchTail j k) h (tails j k)))
 
-on-call : {p m : ℕ} {ts : Arguments} {t : Tree} → Call p ts m t → ((k : ℕ) → Fits (argument k ts)) → Fits t
-on-call {p} {ts = ts} (of-one o) f = on-unary p o (argument 0 ts) (f 0)
-on-call {p} {ts = ts} (of-two o) f = on-binary p o (argument 0 ts) (argument 1 ts) (f 0) (f 1)
-on-call {p} {ts = ts} of-three f = on-choice p (argument 0 ts) (argument 1 ts) (argument 2 ts) (f 0) (f 1) (f 2)
+on-call : (c : Callee) (p : ℕ) (ts : Arguments) → ((k : ℕ) → Fits (argument k ts)) → Fits (callTree c p ts)
+on-call (of-one o) p ts f = on-unary p o (argument 0 ts) (f 0)
+on-call (of-two o) p ts f = on-binary p o (argument 0 ts) (argument 1 ts) (f 0) (f 1)
+on-call of-choice p ts f = on-choice p (argument 0 ts) (argument 1 ts) (argument 2 ts) (f 0) (f 1) (f 2)
 
 on-infix : {p b : ℕ} {t u r : Tree} → Infix p t u b r → Fits t → Fits u → Fits r
 on-infix {p} {t = t} {u = u} (of-values o) = on-binary p o t u
@@ -117,7 +117,7 @@ fits d = elim d as (λ l w t d. AllKnown w → Fits t) (λ m w ts a. AllKnown w 
   | name ↦ λ e. on-cell (each-first e)
   | index {b} r {w} {t} (d → f) ↦ λ e. on-indexed b t (f (each-front w _ (each-rest (each-rest e))))
   | parenthesis q {w} (d → f) ↦ λ e. f (each-front w _ (each-rest e))
-  | call {f} {p} {ts = ts} (a → g) ↦ λ e. on-call (call-node f p ts) (g (each-rest (each-rest e)))
+  | call {c = c} {p} {ts = ts} q (a → g) ↦ λ e. on-call c p ts (g (each-rest (each-rest e)))
   | prefixed {p = p} {o = o} {t = t} q (d → f) ↦ λ e. on-unary p o t (f (each-rest e))
   | up (d → f) ↦ f
   | infixed n p {w} {t = t} {u = u} q (d → f) (d′ → g) ↦ λ e. on-infix (infix-node n p t u) (f (each-front w _ e)) (g (each-rest (each-back w _ e)))

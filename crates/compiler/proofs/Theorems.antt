@@ -25,7 +25,7 @@ module _ (s : List ℕ) (t : Tree) (q : judge s ≡ accepted t) where
   compiled =
       let a = formula in
       let tokens = a .reads .scanned in
-      demand .compiled (a .toks) t (length s) (a .formula) (a .shallow) (a .kinds) (least s (a .toks) tokens) (a .reads .sized .short)
+      demand .compiled (a .toks) t (length s) (a .formula) (a .shallow) (a .faultless) (least s (a .toks) tokens) (a .reads .sized .short)
 
   -- two instructions a byte, of 1,024 bytes at the most: eight bytes each are the 16,384 that a buffer must have
   pub short : length (codeOf t) ≤ 2048

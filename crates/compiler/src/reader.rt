@@ -17,7 +17,7 @@ ghost use Rattle.compiler.specs.private.Reading.{Fits, ReaderAgrees, pri
 use crate::Coded;
 use draft::ahead;
 use draft::results;
-use draft::results::NOWHERE;
+use draft::results::CLEAR;
 use tokens::symbols;
 
 // "more than eight open" is refused
@@ -218,8 +218,8 @@ pub fn formula(table: &[u64], draft: &mut [u64], size: usize) -> Coded
         return Coded::Refused(7, token_table::place_of(w));
     }
     let wrong = results::wrong_of(whole);
-    if wrong < NOWHERE {
-        return Coded::Refused(9, wrong as usize);
+    if wrong < CLEAR {
+        return Coded::Refused(results::answer_part(wrong), results::place_part(wrong));
     }
     Coded::Done(results::end_of(whole))
 }

@@ -6,7 +6,7 @@ use Prim.Native.Nat.{ℕ, suc, _+_}
 use native.Mathlib.Omega.{arith}
 use Rattle.operators.specs.Kinds.{unaryKind, unaryTakes}
 use Rattle.token_table.specs.private.Table.{wordPlace, wordAt}
-use Rattle.grammar.specs.Tree.{unless, earlier}
+use Rattle.grammar.specs.Tree.{unless, earlier, wrongKindAt}
 use Rattle.code.specs.declared.Instr.the-variants.{Unary}
 use Rattle.draft.specs.private.Results.{Read, Done, isDone, readNext, readEnd, readKind, readWrong, readOf}
 use Rattle.draft.specs.private.Words.{unaryAt, prefixNumber}
@@ -27,7 +27,7 @@ module _ {s o : List ℕ} {first r : ℕ} where
   signed-none d = record { done = d; end = refl; under = none }
 
   pub signed-more : {o′ o″ : List ℕ} {i k w r′ r″ : ℕ} → i ≡ suc k → Signed s first o r i o′ r′ → w ≡ wordAt s k
-      → readOf r″ ≡ Done (readNext r′) (readEnd r′ + 1) (unaryKind (unaryAt (prefixNumber w)) (readKind r′)) (earlier (unless (unaryTakes (unaryAt (prefixNumber w)) (readKind r′)) (wordPlace w)) (readWrong r′))
+      → readOf r″ ≡ Done (readNext r′) (readEnd r′ + 1) (unaryKind (unaryAt (prefixNumber w)) (readKind r′)) (earlier (unless (unaryTakes (unaryAt (prefixNumber w)) (readKind r′)) (wrongKindAt (wordPlace w))) (readWrong r′))
       → o″ ≡ putInstr o′ (readEnd r′) (Unary (unaryAt (prefixNumber w))) → Signed s first o r k o″ r″
   signed-more {o′} {r′ = r′} {r″} e x v p q =
       let u = subst (λ n. Unaries s first o (readOf r) n o′ (readOf r′)) e (x .under) in

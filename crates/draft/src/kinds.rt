@@ -1,13 +1,15 @@
-// Kinds as numbers, 0 for an integer and 1 for a real, of operators by number; and the earlier of two places.
+// Kinds as numbers, 0 for an integer and 1 for a real, of operators by number; and the earlier of two diagnostics.
 ghost use mathlib.Core.Path.{_≡_};
 ghost use Prim.Native.Nat.{_<_};
 ghost use Rattle.operators.specs.Kinds.{join, unaryKind, unaryTakes, binaryKind, binaryTakes};
 ghost use Rattle.token_table.specs.private.Table.{wordPlace};
-ghost use Rattle.grammar.specs.Tree.{earlier, unless};
+ghost use Rattle.grammar.specs.Tree.{earlier, unless, wrongKindAt};
 ghost use Rattle.tree_code.specs.Code.{branchTailSkip};
-ghost use Rattle.draft.specs.private.Results.{kindIs, placed};
+ghost use Rattle.draft.specs.private.Results.{kindIs, diagnosed};
 ghost use Rattle.draft.specs.private.Words.{unaryAt, binaryAt};
-use crate::results::NOWHERE;
+use crate::results::CLEAR;
+
+const WRONG_KIND: u64 = 9;
 
 // Real where either is.
 pub fn joined(a: u64, b: u64) -> u64
@@ -77,20 +79,20 @@ pub fn skipped(first: u64, second: u64) -> usize
 
 pub fn earlier(a: u64, b: u64) -> u64
     requires { ⌜ (a < 536870912) × (b < 536870912) ⌝ }
-    ensures { λ r. ⌜ placed r ≡ earlier (placed a) (placed b) ⌝ }
+    ensures { λ r. ⌜ diagnosed r ≡ earlier (diagnosed a) (diagnosed b) ⌝ }
     ensures { λ r. ⌜ r < 536870912 ⌝ }
 {
     if a < b { a } else { b }
 }
 
-// The place of an operator, if its operands' kinds are wrong.
+// Answer 9 at an operator's place, if its operands' kinds are wrong.
 pub fn wrong_at(good: bool, w: u64) -> u64
-    ensures { λ r. ⌜ placed r ≡ unless good (wordPlace w) ⌝ }
+    ensures { λ r. ⌜ diagnosed r ≡ unless good (wrongKindAt (wordPlace w)) ⌝ }
     ensures { λ r. ⌜ r < 536870912 ⌝ }
 {
     if good {
-        NOWHERE
+        CLEAR
     } else {
-        token_table::place_of(w) as u64
+        16 * (token_table::place_of(w) as u64) + WRONG_KIND
     }
 }

@@ -8,13 +8,13 @@ ghost use lib.Seq.{sets};
 ghost use Rattle.operators.specs.Kinds.{join, unaryKind, unaryTakes, binaryKind};
 ghost use Rattle.memory.specs.Cells.{bankKind};
 ghost use Rattle.token_table.specs.private.Table.{packFields, wordClass, wordOperand, wordNumber, wordPlace};
-ghost use Rattle.grammar.specs.Tree.{nowhere, earlier, unless};
+ghost use Rattle.grammar.specs.Tree.{clear, earlier, unless, wrongKindAt};
 ghost use Rattle.code.specs.declared.Instr.the-variants.{LoadIndexed, Unary, Binary, JumpIf};
 ghost use Rattle.tree_code.specs.Code.{branchTail};
-ghost use Rattle.draft.specs.private.Results.{Done, kindIs, placed, readNext, readEnd, readKind, readWrong, readOf};
+ghost use Rattle.draft.specs.private.Results.{Done, kindIs, diagnosed, readNext, readEnd, readKind, readWrong, readOf};
 ghost use Rattle.draft.specs.private.Words.{unaryAt, binaryAt, bankAt, functionOp, leafKind, prefixNumber};
 ghost use Rattle.draft.specs.private.Draft.{wordBytes, putInstr, putCode, reserved, settledCode, joinedCode, joinedEnd, infixKind, infixWrong, chosenCode};
-use results::NOWHERE;
+use results::CLEAR;
 
 pub mod ahead;
 pub mod kinds;
@@ -40,7 +40,7 @@ pub fn put(draft: &mut [u64], place: usize, opcode: u8, operand: u8, word: u32)
 // One instruction behind what was read, and what it makes of that.
 fn added(draft: &mut [u64], before: u64, opcode: u8, operand: u8, kind: u64, wrong: u64) -> u64
     requires { ⌜ (readEnd before < 65535) × (kind < 2) × (wrong < 536870912) ⌝ }
-    ensures { λ r. ⌜ readOf r ≡ Done (readNext before) (readEnd before + 1) (kindIs kind) (placed wrong) ⌝ }
+    ensures { λ r. ⌜ readOf r ≡ Done (readNext before) (readEnd before + 1) (kindIs kind) (diagnosed wrong) ⌝ }
     ensures { λ r. ⌜ now (draft .exit) ≡ set (now (draft .entry)) (readEnd before) (packFields opcode operand 0 0) ⌝ }
 {
     let end = results::end_of(before);
@@ -51,13 +51,13 @@ fn added(draft: &mut [u64], before: u64, opcode: u8, operand: u8, kind: u64, wro
 // A number or a cell: its word without the place is the instruction.
 pub fn leaf(draft: &mut [u64], w: u64, at: usize, pc: usize) -> u64
     requires { ⌜ (wordOperand w < 6) × (at < 65535) × (pc < 65535) ⌝ }
-    ensures { λ r. ⌜ readOf r ≡ Done (at + 1) (pc + 1) (leafKind w) nowhere ⌝ }
+    ensures { λ r. ⌜ readOf r ≡ Done (at + 1) (pc + 1) (leafKind w) clear ⌝ }
     ensures { λ r. ⌜ now (draft .exit) ≡ set (now (draft .entry)) pc (packFields (wordClass w) (wordOperand w) (wordNumber w) 0) ⌝ }
 {
     if pc < draft.len() {
         draft[pc] = w / 4294967296 * 4294967296 + w % 65536;
     }
-    results::done(at + 1, pc + 1, ahead::leaf_kind(w), NOWHERE)
+    results::done(at + 1, pc + 1, ahead::leaf_kind(w), CLEAR)
 }
 
 // An element of a bank, behind its index.
@@ -79,7 +79,7 @@ pub fn loaded(draft: &mut [u64], bank: u8, index: u64) -> u64
 // A unary operator before an operand.
 pub fn prefixed(draft: &mut [u64], w: u64, inner: u64) -> u64
     requires { ⌜ (prefixNumber w < 3) × (readEnd inner < 65535) ⌝ }
-    ensures { λ r. ⌜ readOf r ≡ Done (readNext inner) (readEnd inner + 1) (unaryKind (unaryAt (prefixNumber w)) (readKind inner)) (earlier (unless (unaryTakes (unaryAt (prefixNumber w)) (readKind inner)) (wordPlace w)) (readWrong inner)) ⌝ }
+    ensures { λ r. ⌜ readOf r ≡ Done (readNext inner) (readEnd inner + 1) (unaryKind (unaryAt (prefixNumber w)) (readKind inner)) (earlier (unless (unaryTakes (unaryAt (prefixNumber w)) (readKind inner)) (wrongKindAt (wordPlace w))) (readWrong inner)) ⌝ }
     ensures { λ r. ⌜ now (draft .exit) ≡ putInstr (now (draft .entry)) (readEnd inner) (Unary (unaryAt (prefixNumber w))) ⌝ }
 {
     let op = ahead::sign_of(w);

@@ -1,15 +1,15 @@
 // What reading returns, in one word: structs and enums are returned through memory, which costs more than the packing. specs/Results.antt says which bits are which.
 ghost use mathlib.Core.Path.{_≡_};
 ghost use Prim.Native.Nat.{_<_};
-ghost use Rattle.draft.specs.private.Results.{Done, Bad, Deep, isDone, further, refusal, kindIs, placed, readNext, readEnd, readKind, readWrong, readOf};
+ghost use Rattle.draft.specs.private.Results.{Done, Bad, Deep, isDone, further, refusal, kindIs, placePart, answerPart, diagnosed, readNext, readEnd, readKind, readWrong, readOf};
 
-// The place of no wrong kind: every place in a text is less.
-pub const NOWHERE: u64 = 65536;
+// The number of no diagnostic: every other is less, being a place below 65,536 times 16 and an answer below 16.
+pub const CLEAR: u64 = 1048576;
 
 // Reading got to `next` in the table and to `end` in the draft.
 pub fn done(next: usize, end: usize, kind: u64, wrong: u64) -> u64
     requires { ⌜ (next < 65536) × (end < 65536) × (kind < 2) × (wrong < 536870912) ⌝ }
-    ensures { λ r. ⌜ readOf r ≡ Done next end (kindIs kind) (placed wrong) ⌝ }
+    ensures { λ r. ⌜ readOf r ≡ Done next end (kindIs kind) (diagnosed wrong) ⌝ }
 {
     (next as u64) + 65536 * (end as u64) + 4294967296 * kind + 34359738368 * wrong
 }
@@ -66,10 +66,23 @@ pub fn kind_of(r: u64) -> u64
 }
 
 pub fn wrong_of(r: u64) -> u64
-    ensures { λ p. ⌜ placed p ≡ readWrong r ⌝ }
+    ensures { λ p. ⌜ diagnosed p ≡ readWrong r ⌝ }
     ensures { λ p. ⌜ p < 536870912 ⌝ }
 {
     r / 34359738368
+}
+
+// The place of a diagnostic, and its answer.
+pub fn place_part(wrong: u64) -> usize
+    ensures { λ p. ⌜ p ≡ placePart wrong ⌝ }
+{
+    (wrong / 16) as usize
+}
+
+pub fn answer_part(wrong: u64) -> u32
+    ensures { λ a. ⌜ a ≡ answerPart wrong ⌝ }
+{
+    (wrong % 16) as u32
 }
 
 // One token further.

@@ -11,7 +11,7 @@ use Rattle.tokens.specs.declared.Function.{Function}
 use Rattle.tokens.specs.declared.Token.the-variants.{Number, Cell, Letter, Name, Symbol}
 use Rattle.tokens.specs.Scan.{Tok}
 use Rattle.grammar.specs.Tree.{Tree, literal, cell, indexed, unary}
-use Rattle.grammar.specs.Symbols.{groupNumber, loosest, openParen, closeParen, openIndex, closeIndex, comma, prefixOf, prefixSymbol, is, none, infixTree, moreArguments, Arguments, one, more, callTree}
+use Rattle.grammar.specs.Symbols.{groupNumber, loosest, openParen, closeParen, openIndex, closeIndex, comma, prefixOf, prefixSymbol, is, none, infixTree, Callee, plain, formOf, moreArguments, Arguments, one, more, callTree}
 use Rattle.grammar.specs.Grammar.{tok, Derives, number, name, index, parenthesis, call, prefixed, up, infixed, last, next}
 use Rattle.grammar.specs.Parse.{Result, ok, expect, expression, climb, operand, primary, bracket, arguments}
 use Rattle.grammar.proofs.Tests.{Follow, at-end, before, follow-less, binds-yes, binds-no}
@@ -101,9 +101,11 @@ r-parenthesis p q w t g =
     r-primary (tok (Symbol openParen) p) (w ++ tok (Symbol closeParen) q ∷ []) t refl
     (λ d rest n f c. r-bracket closeParen q w t refl g d rest n f c)
 
-r-call : (h : Function) (p q : ℕ) (w : List Tok) (ts : Arguments) → ReadsAll (moreArguments h) w ts → Reads 0 (tok (Name h) p ∷ tok (Symbol openParen) q ∷ w) (callTree h p ts)
+r-call : (h : Function) (c : Callee) (p q : ℕ) (w : List Tok) (ts : Arguments) → formOf h ≡ plain c → ReadsAll (moreArguments c) w ts
+    → Reads 0 (tok (Name h) p ∷ tok (Symbol openParen) q ∷ w) (callTree c p ts)
 unfolding primary
-r-call h p q w ts g = r-primary (tok (Name h) p) (tok (Symbol openParen) q ∷ w) (callTree h p ts) refl (λ d rest n f c. rw (g d rest (omega arith) f (omega arith)))
+r-call h c p q w ts e g =
+    r-primary (tok (Name h) p) (tok (Symbol openParen) q ∷ w) (callTree c p ts) refl (λ d rest n f le. rw (e, g d rest (omega arith) f (omega arith)))
 
 r-last : (q : ℕ) (w : List Tok) (t : Tree) → Reads loosest w t → ReadsAll 0 (w ++ tok (Symbol closeParen) q ∷ []) (one t)
 unfolding arguments groupNumber
@@ -127,7 +129,7 @@ complete a = elim a as (λ m w t a. Reads m w t) (λ m w ts a. ReadsAll m w ts) 
   | name {b} {i} {p} ↦ r-primary (tok (Cell b i) p) [] (cell b i) refl (λ d rest n f c. refl)
   | index {b} {p} {q} r {w} {t} (a → h) ↦ r-index b p q r w t h
   | parenthesis {p} q {w} {t} (a → h) ↦ r-parenthesis p q w t h
-  | call {f} {p} {q} {w} {ts} (a → h) ↦ r-call f p q w ts h
+  | call {f} {c} {p} {q} {w} {ts} e (a → h) ↦ r-call f c p q w ts e h
   | prefixed {n} {p} {o} {w} {t} e (a → h) ↦ r-prefixed n p o w t e h
   | up {l} {w} {t} (a → h) ↦ r-up l w t h
   | infixed {l} n p {w} {v} {t} {u} e (a → h) (b → h′) ↦ r-infixed l n p w v t u e h h′

@@ -10,9 +10,9 @@ use Rattle.tokens.specs.declared.Token.{Token}
 use Rattle.tokens.specs.declared.Token.the-variants.{Number, Cell, Letter, Name, Symbol}
 use Rattle.tokens.specs.Scan.{Tok}
 use Rattle.grammar.specs.Tree.{Tree}
-use Rattle.grammar.specs.Symbols.{group, isSymbol, loosest, openParen, closeParen, openIndex, closeIndex, comma, Prefix, prefixOf, is, none, moreArguments}
+use Rattle.grammar.specs.Symbols.{group, isSymbol, loosest, openParen, closeParen, openIndex, closeIndex, comma, Prefix, prefixOf, is, none, Form, plain, formOf, moreArguments, Arguments}
 use Rattle.grammar.specs.Grammar.{tok}
-use Rattle.grammar.specs.Parse.{Result, ok, bad, deep, starved, andThen, expect, enter, binds, expression, climb, operand, primary, bracket, arguments}
+use Rattle.grammar.specs.Parse.{Result, ok, bad, deep, starved, andThen, expect, enter, binds, callBody, expression, climb, operand, primary, bracket, arguments}
 
 -- not starved, and fewer than n tokens left
 pub data Fed {X : Type 0} (n : ℕ) : Result X → Type 0 where
@@ -52,6 +52,10 @@ module _ {X : Type 0} where
   fed-not at-bad e = let z : _≡_ {A = ℕ} 0 1 = cc in omega arith
   fed-not at-deep e = let z : _≡_ {A = ℕ} 0 1 = cc in omega arith
 
+fed-call : {n : ℕ} (o : Form) (p : ℕ) (ts : List Tok) (read : ℕ → List Tok → Result Arguments) → length ts ≤ n → ((m : ℕ) → Fed n (read m ts))
+    → Fed n (callBody o p read ts)
+fed-call (plain c) p ts read le h = fed-bind _ (h (moreArguments c)) (λ us r lt. left r lt)
+
 mutual
   unfolding expression
 
@@ -81,7 +85,7 @@ mutual
   fed-primary (suc f) d (Letter b) p xs le =
       fed-enter d openIndex xs _ (λ e ys lt. fed-bind _ (fed-bracket f e closeIndex ys (omega arith)) (λ t r lt′. left r (omega arith)))
   fed-primary (suc f) d (Name g) p xs le =
-      fed-enter d openParen xs _ (λ e ys lt. fed-bind _ (fed-arguments f e (moreArguments g) ys (omega arith)) (λ us r lt′. left r (omega arith)))
+      fed-enter d openParen xs _ (λ e ys lt. fed-more (omega arith) (fed-call (formOf g) p ys _ (omega arith) (λ m. fed-arguments f e m ys (omega arith))))
   fed-primary (suc f) d (Symbol n) p xs le =
       fed-enter d openParen (tok (Symbol n) p ∷ xs) _ (λ e ys lt. fed-more (omega arith) (fed-bracket f e closeParen ys (omega arith)))
 

@@ -8,9 +8,9 @@ use Rattle.tokens.specs.declared.Token.{Token}
 use Rattle.tokens.specs.declared.Token.the-variants.{Number, Cell, Letter, Name, Symbol}
 use Rattle.tokens.specs.Scan.{Tok}
 use Rattle.grammar.specs.Tree.{Tree}
-use Rattle.grammar.specs.Symbols.{group, isSymbol, loosest, openParen, closeParen, openIndex, closeIndex, comma, Prefix, prefixOf, is, none, moreArguments}
+use Rattle.grammar.specs.Symbols.{group, isSymbol, loosest, openParen, closeParen, openIndex, closeIndex, comma, Prefix, prefixOf, is, none, Form, plain, formOf, moreArguments, Arguments}
 use Rattle.grammar.specs.Grammar.{tok}
-use Rattle.grammar.specs.Parse.{Result, ok, bad, deep, starved, andThen, expect, enter, binds, expression, climb, operand, primary, bracket, arguments}
+use Rattle.grammar.specs.Parse.{Result, ok, bad, deep, starved, andThen, expect, enter, binds, callBody, expression, climb, operand, primary, bracket, arguments}
 
 -- the second result is the first, unless that is starved, or too deep where S holds
 pub data Keeps {X : Type 0} (S : Type 0) : Result X → Result X → Type 0 where
@@ -60,6 +60,10 @@ module _ {S : Type 0} where
     keep-enter n ts (some-left s) h = keep-expect n ts (λ ys. deeper s)
     keep-enter n ts (one-less m) h = keep-expect n ts (λ ys. h _ _ ys m)
 
+  keep-call : (o : Form) (p : ℕ) (ts : List Tok) (read read′ : ℕ → List Tok → Result Arguments)
+      → ((m : ℕ) → Keeps S (read m ts) (read′ m ts)) → Keeps S (callBody o p read ts) (callBody o p read′ ts)
+  keep-call (plain c) p ts read read′ h = keep-bind _ (h (moreArguments c)) (λ us r. same)
+
   mutual
     unfolding expression
 
@@ -82,7 +86,7 @@ module _ {S : Type 0} where
     keep-primary (suc f) (Number v) p xs m = same
     keep-primary (suc f) (Cell b i) p xs m = same
     keep-primary (suc f) (Letter b) p xs m = keep-enter openIndex xs m (λ d e ys m′. keep-bind _ (keep-bracket f closeIndex ys m′) (λ t r. same))
-    keep-primary (suc f) (Name g) p xs m = keep-enter openParen xs m (λ d e ys m′. keep-bind _ (keep-arguments f (moreArguments g) ys m′) (λ t r. same))
+    keep-primary (suc f) (Name g) p xs m = keep-enter openParen xs m (λ d e ys m′. keep-call (formOf g) p ys _ _ (λ n. keep-arguments f n ys m′))
     keep-primary (suc f) (Symbol n) p xs m = keep-enter openParen (tok (Symbol n) p ∷ xs) m (λ d e ys m′. keep-bracket f closeParen ys m′)
 
     pub keep-bracket : (f : ℕ) {d e : ℕ} (n : ℕ) (ts : List Tok) → Rooms S d e → Keeps S (bracket f d n ts) (bracket (suc f) e n ts)

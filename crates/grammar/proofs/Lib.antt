@@ -9,5 +9,6 @@ pub mod Enough
 pub mod Local
 pub mod Complete
 pub mod Laws
+pub mod Diagnostics
 pub mod Theorems
 pub mod Samples

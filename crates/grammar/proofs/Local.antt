@@ -9,9 +9,9 @@ use Rattle.tokens.specs.declared.Token.{Token}
 use Rattle.tokens.specs.declared.Token.the-variants.{Number, Cell, Letter, Name, Symbol}
 use Rattle.tokens.specs.Scan.{Tok}
 use Rattle.grammar.specs.Tree.{Tree, literal, cell, indexed, unary}
-use Rattle.grammar.specs.Symbols.{group, isSymbol, loosest, openParen, closeParen, openIndex, closeIndex, comma, Prefix, prefixOf, is, none, moreArguments, one, more, callTree}
+use Rattle.grammar.specs.Symbols.{group, isSymbol, loosest, openParen, closeParen, openIndex, closeIndex, comma, Prefix, prefixOf, is, none, Form, plain, formOf, moreArguments, Arguments, one, more, callTree}
 use Rattle.grammar.specs.Grammar.{tok}
-use Rattle.grammar.specs.Parse.{Result, ok, bad, deep, starved, andThen, expect, enter, binds, expression, climb, operand, primary, bracket, arguments}
+use Rattle.grammar.specs.Parse.{Result, ok, bad, deep, starved, andThen, expect, enter, binds, callBody, expression, climb, operand, primary, bracket, arguments}
 use Rattle.grammar.proofs.Levels.{joinedTree}
 
 -- two lists with one first token
@@ -113,6 +113,10 @@ local-bind {X} k (stop b) h = stop (record { read = b .read; split = b .split; a
 local-bind k at-deep h = at-deep
 local-bind k at-none h = at-none
 
+local-call : (o : Form) (p : ℕ) (read : ℕ → List Tok → Result Arguments) (ts : List Tok) → ((m : ℕ) → Local (λ ts. read m ts) ts (read m ts))
+    → Local (λ ts. callBody o p read ts) ts (callBody o p read ts)
+local-call (plain c) p read ts h = local-bind (λ us r. ok (callTree c p us) r) (h (moreArguments c)) (λ us r. kept _ r)
+
 mutual
   unfolding expression
 
@@ -145,7 +149,8 @@ mutual
   local-primary (suc f) d (Letter b) p xs F h =
       push (tok (Letter b) p) xs h (local-enter d openIndex _ xs (λ e ys. local-bind (λ t r. ok (indexed b t) r) (local-bracket f e closeIndex ys) (λ t r. kept _ r)))
   local-primary (suc f) d (Name g) p xs F h =
-      push (tok (Name g) p) xs h (local-enter d openParen _ xs (λ e ys. local-bind (λ us r. ok (callTree g p us) r) (local-arguments f e (moreArguments g) ys) (λ us r. kept _ r)))
+      push (tok (Name g) p) xs h
+      (local-enter d openParen _ xs (λ e ys. local-call (formOf g) p (λ m ts. arguments f e m ts) ys (λ m. local-arguments f e m ys)))
   local-primary (suc f) d (Symbol n) p xs F h =
       swap (tok (Symbol n) p) xs h (local-enter d openParen (λ e ys. bracket f e closeParen ys) (tok (Symbol n) p ∷ xs) (λ e ys. local-bracket f e closeParen ys))
 

@@ -8,13 +8,14 @@ use lib.Dec.{lit≤}
 use lib.IntN.{pos}
 use Rattle.values.specs.declared.Value.the-variants.{Int}
 use Rattle.memory.specs.declared.Bank.{Bank}
+use Rattle.tokens.specs.declared.Function.{Function}
 use Rattle.tokens.specs.declared.Token.{Token}
 use Rattle.tokens.specs.declared.Token.the-variants.{Number, Cell, Letter, Name, Symbol}
 use Rattle.tokens.specs.Scan.{Tok}
 use Rattle.grammar.specs.Tree.{Tree, literal, indexed, unary}
-use Rattle.grammar.specs.Symbols.{group, loosest, openParen, closeParen, openIndex, closeIndex, comma, prefixOf, moreArguments, Arguments, one, more, callTree}
+use Rattle.grammar.specs.Symbols.{group, loosest, openParen, closeParen, openIndex, closeIndex, comma, prefixOf, Form, plain as values, formOf, moreArguments, Arguments, one, more, callTree}
 use Rattle.grammar.specs.Grammar.{tok, Derives, number, name, index, parenthesis, call, DerivesArguments, last, next}
-use Rattle.grammar.specs.Parse.{binds, expression, climb, operand, primary, bracket, arguments, mostOpen}
+use Rattle.grammar.specs.Parse.{Result, binds, callBody, expression, climb, operand, primary, bracket, arguments, mostOpen}
 use Rattle.grammar.specs.Theorems.{isOpener, isCloser}
 use Rattle.grammar.proofs.Tests.{Follow, before, follow-less, follow-any, binds-true}
 use Rattle.grammar.proofs.Nesting.{Spans, nothing, passing, along, opener, operator, prefix}
@@ -50,6 +51,19 @@ in-parentheses p (closed q a) = parenthesis q a
 
 in-brackets : {w : List Tok} {t : Tree} (b : Bank) (p q : ℕ) → Closed closeIndex w t → Derives 0 (tok (Letter b) p ∷ tok (Symbol openIndex) q ∷ w) (indexed b t)
 in-brackets b p q (closed r a) = index r a
+
+-- what completes a call behind its parenthesis, by its form
+fill-call : (g : Function) (p : ℕ) (o : Form) → formOf g ≡ o
+    → (v : List Tok) × (t : Tree) × ((q : ℕ) → Derives 0 (tok (Name g) p ∷ tok (Symbol openParen) q ∷ v) t)
+fill-call g p (values c) e =
+    let h = fill (moreArguments c) in
+    (h .0, callTree c p (h .1), λ q. call e (h .2))
+
+sound-call : {d : ℕ} (g : Function) (p q : ℕ) (ys all : List Tok) (read : ℕ → List Tok → Result Arguments) (o : Form) → formOf g ≡ o
+    → Spans d (tok (Symbol openParen) q ∷ []) (suc d) → all ≡ tok (Name g) p ∷ tok (Symbol openParen) q ∷ ys
+    → ((m : ℕ) → Good (suc d) d (DerivesArguments m) ys (read m ys)) → Good d d (Derives 0) all (callBody o p read ys)
+sound-call g p q ys all read (values c) e s a h =
+    wrap (tok (Name g) p ∷ tok (Symbol openParen) q ∷ []) (λ us. callTree c p us) (h (moreArguments c)) (passing refl refl s) a (λ w us b. call e b)
 
 mutual
   unfolding expression
@@ -94,11 +108,11 @@ mutual
       (λ q room′ ys m′ e. wrap (tok (Letter b) p ∷ tok (Symbol openIndex) q ∷ []) (λ t. indexed b t) (sound-bracket f room′ d closeIndex ys m′ refl refl)
       (passing refl refl (opener openIndex q room′ refl m′)) (ap (λ (z : List Tok). tok (Letter b) p ∷ z) e) (λ w t a. in-brackets b p q a))
   sound-primary (suc f) room d (Name g) p xs m =
-      let c = fill (moreArguments g) in
-      enters room openParen xs (tok (Name g) p ∷ []) (c .0) (callTree g p (c .1)) _ refl m (passing refl refl nothing) refl
-      (λ q. call (c .2))
-      (λ q room′ ys m′ e. wrap (tok (Name g) p ∷ tok (Symbol openParen) q ∷ []) (λ us. callTree g p us) (sound-arguments f room′ d (moreArguments g) ys m′)
-      (passing refl refl (opener openParen q room′ refl m′)) (ap (λ (z : List Tok). tok (Name g) p ∷ z) e) (λ w us a. call a))
+      let c = fill-call g p (formOf g) refl in
+      enters room openParen xs (tok (Name g) p ∷ []) (c .0) (c .1) _ refl m (passing refl refl nothing) refl (c .2)
+      (λ q room′ ys m′ e. sound-call g p q ys (tok (Name g) p ∷ xs) (λ n r. arguments f room′ n r) (formOf g) refl (opener openParen q room′ refl m′)
+      (ap (λ (z : List Tok). tok (Name g) p ∷ z) e)
+      (λ n. sound-arguments f room′ d n ys m′))
   sound-primary (suc f) room d (Symbol n) p xs m =
       enters room openParen (tok (Symbol n) p ∷ xs) [] (zeroTok ∷ tok (Symbol closeParen) 0 ∷ []) zeroTree _ refl m nothing refl
       (λ q. in-parentheses q (zero-closed closeParen))

@@ -9,7 +9,7 @@ use Rattle.tokens.specs.declared.Token.{Token}
 use Rattle.tokens.specs.declared.Token.the-variants.{Number, Cell, Letter, Name, Symbol}
 use Rattle.tokens.specs.Scan.{Tok}
 use Rattle.grammar.specs.Tree.{Tree, literal, cell, indexed, unary}
-use Rattle.grammar.specs.Symbols.{group, loosest, isSymbol, openParen, closeParen, openIndex, closeIndex, comma, prefixOf, is, none, infixTree, moreArguments, Arguments, one, more, callTree}
+use Rattle.grammar.specs.Symbols.{group, loosest, isSymbol, openParen, closeParen, openIndex, closeIndex, comma, prefixOf, is, none, infixTree, Form, plain, formOf, moreArguments, Arguments, one, more, callTree}
 
 -- a tree and the tokens left; the tokens from the first that no formula has there; the tokens from an opener met with eight still open; or too little fuel
 pub data Result (X : Type 0) : Type 0 where
@@ -50,6 +50,10 @@ symbolNumber (Symbol n) = n
 abbrev pub binds : ℕ → Token → Bool
 binds l x = leb 1 (group x) && leb (group x) l
 
+-- what stands behind the opening parenthesis of a call at the place p, by its form, given how so many arguments after the first are read
+abbrev pub callBody : Form → ℕ → (ℕ → List Tok → Result Arguments) → List Tok → Result Tree
+callBody (plain c) p read ts = andThen (read (moreArguments c) ts) (λ us r. ok (callTree c p us) r)
+
 unfoldable mutual
   -- an expression of the group l at the loosest, with room for d brackets
   pub expression : ℕ → ℕ → ℕ → List Tok → Result Tree
@@ -79,7 +83,7 @@ unfoldable mutual
         | Number v ↦ ok (literal (x .place) v) xs
         | Cell b i ↦ ok (cell b i) xs
         | Letter b ↦ enter d openIndex xs (λ e r. andThen (bracket f e closeIndex r) (λ t q. ok (indexed b t) q))
-        | Name g ↦ enter d openParen xs (λ e r. andThen (arguments f e (moreArguments g) r) (λ ts q. ok (callTree g (x .place) ts) q))
+        | Name g ↦ enter d openParen xs (λ e r. callBody (formOf g) (x .place) (λ m q. arguments f e m q) r)
         | Symbol n ↦ enter d openParen (x ∷ xs) (λ e r. bracket f e closeParen r)
       ]
 
@@ -98,7 +102,11 @@ unfoldable mutual
 abbrev pub fuel : List Tok → ℕ
 fuel ts = length ts * 4 + 4
 
--- a formula, no more and no less
-unfoldable pub parse : List Tok → Result Tree
+-- an expression, no more and no less, with d brackets open before it
+unfoldable pub parseFrom : ℕ → List Tok → Result Tree
 unfolding expression
-parse ts = expression (fuel ts) mostOpen loosest ts
+parseFrom d ts = expression (fuel ts) (mostOpen - d) loosest ts
+
+-- a formula
+abbrev pub parse : List Tok → Result Tree
+parse ts = parseFrom 0 ts

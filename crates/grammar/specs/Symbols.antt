@@ -8,6 +8,7 @@ use lib.ListN.{getD}
 use Rattle.values.specs.declared.ChoiceOp.the-variants as Choose
 use Rattle.operators.specs.declared.UnaryOp.{UnaryOp}
 use Rattle.operators.specs.declared.UnaryOp.the-variants as U
+use Rattle.operators.specs.declared.BinaryOp.{BinaryOp}
 use Rattle.operators.specs.declared.BinaryOp.the-variants as B
 use Rattle.operators.specs.Tables.{binaryOps}
 use Rattle.tokens.specs.declared.Function.{Function}
@@ -85,18 +86,6 @@ prefixOf (Symbol n) = prefixSymbol n
 abbrev pub infixTree : ℕ → ℕ → Tree → Tree → Tree
 infixTree n p t u = cond (ltb n 18) (binary p (getD binaryOps n B.Power) t u) (logic p (eqb n 19) t u)
 
--- how many arguments after the first
-abbrev pub moreArguments : Function → ℕ
-moreArguments Abs = 0
-moreArguments ToReal = 0
-moreArguments ToInt = 0
-moreArguments Trunc = 0
-moreArguments Round = 0
-moreArguments Frac = 0
-moreArguments Max = 1
-moreArguments Min = 1
-moreArguments If = 2
-
 -- the arguments of a function, in order
 pub data Arguments : Type 0 where
   one : Tree → Arguments
@@ -107,14 +96,35 @@ argument k (one t) = t
 argument zero (more t ts) = t
 argument (suc k) (more t ts) = argument k ts
 
--- the node of a function's call
-abbrev pub callTree : Function → ℕ → Arguments → Tree
-callTree Abs p ts = unary p U.Abs (argument 0 ts)
-callTree ToReal p ts = unary p U.ToReal (argument 0 ts)
-callTree ToInt p ts = unary p U.Trunc (argument 0 ts)
-callTree Trunc p ts = unary p U.Trunc (argument 0 ts)
-callTree Round p ts = unary p U.Round (argument 0 ts)
-callTree Frac p ts = unary p U.Frac (argument 0 ts)
-callTree Max p ts = binary p (B.Choice Choose.Max) (argument 0 ts) (argument 1 ts)
-callTree Min p ts = binary p (B.Choice Choose.Min) (argument 0 ts) (argument 1 ts)
-callTree If p ts = choice p (argument 0 ts) (argument 1 ts) (argument 2 ts)
+-- what a function makes of arguments that are values: an operation of one, of two, or the choice of IF
+pub data Callee : Type 0 where
+  of-one : UnaryOp → Callee
+  of-two : BinaryOp → Callee
+  of-choice : Callee
+
+-- what stands between a function's parentheses: values
+pub data Form : Type 0 where
+  plain : Callee → Form
+
+abbrev pub formOf : Function → Form
+formOf Abs = plain (of-one U.Abs)
+formOf ToReal = plain (of-one U.ToReal)
+formOf ToInt = plain (of-one U.Trunc)
+formOf Trunc = plain (of-one U.Trunc)
+formOf Round = plain (of-one U.Round)
+formOf Frac = plain (of-one U.Frac)
+formOf Max = plain (of-two (B.Choice Choose.Max))
+formOf Min = plain (of-two (B.Choice Choose.Min))
+formOf If = plain of-choice
+
+-- how many arguments after the first
+abbrev pub moreArguments : Callee → ℕ
+moreArguments (of-one o) = 0
+moreArguments (of-two o) = 1
+moreArguments of-choice = 2
+
+-- the node of a call
+abbrev pub callTree : Callee → ℕ → Arguments → Tree
+callTree (of-one o) p ts = unary p o (argument 0 ts)
+callTree (of-two o) p ts = binary p o (argument 0 ts) (argument 1 ts)
+callTree of-choice p ts = choice p (argument 0 ts) (argument 1 ts) (argument 2 ts)

@@ -1,7 +1,8 @@
--- The tree of a formula (paper 01: "Its tree is what the grammar and grouping make of its tokens, parentheses that only enclose left out"), its kind, and where an operand is of the
--- wrong kind. A node that comes from a literal, an operator or a function keeps its token's place.
-use mathlib.Core.Bool.{Bool, true, false}
-use Prim.Native.Nat.{ℕ, min}
+-- The tree of a formula (paper 01: "Its tree is what the grammar and grouping make of its tokens, parentheses that only enclose left out"), its kind, and its
+-- diagnostic. A node that comes from a literal, an operator or a function keeps its token's place.
+use mathlib.Core.Bool.{Bool, true, false, _&&_, _||_, cond}
+use Prim.Native.Nat.{ℕ}
+use lib.Dec.{eqb, ltb, leb}
 use Rattle.values.specs.declared.Kind.{Kind}
 use Rattle.values.specs.declared.Kind.the-variants as K
 use Rattle.values.specs.declared.Value.{Value}
@@ -32,27 +33,34 @@ treeKind (binary p o t u) = binaryKind o (treeKind t) (treeKind u)
 treeKind (logic p d t u) = K.Int
 treeKind (choice p c t u) = join (treeKind t) (treeKind u)
 
--- a place, or none
-pub data Place : Type 0 where
-  nowhere : Place
-  at : ℕ → Place
+-- what a tree shows to be wrong with its text: nothing, or a place and the answer that refuses the text there
+pub data Diagnostic : Type 0 where
+  clear : Diagnostic
+  at : ℕ → ℕ → Diagnostic
 
-abbrev pub earlier : Place → Place → Place
-earlier nowhere q = q
-earlier (at p) nowhere = at p
-earlier (at p) (at q) = at (min p q)
+-- "smallest place", and of two at one place the smaller answer
+abbrev pub precedes : ℕ → ℕ → ℕ → ℕ → Bool
+precedes p a q b = ltb p q || eqb p q && leb a b
 
-abbrev pub unless : Bool → ℕ → Place
-unless true p = nowhere
-unless false p = at p
+abbrev pub earlier : Diagnostic → Diagnostic → Diagnostic
+earlier clear y = y
+earlier (at p a) clear = at p a
+earlier (at p a) (at q b) = cond (precedes p a q b) (at p a) (at q b)
 
--- answer 9: "an operand of the wrong kind", "placed at the operator", "smallest place"
-unfoldable pub wrongKind : Tree → Place
+abbrev pub unless : Bool → Diagnostic → Diagnostic
+unless true x = clear
+unless false x = x
+
+-- answer 9: "an operand of the wrong kind", "placed at the operator"
+abbrev pub wrongKindAt : ℕ → Diagnostic
+wrongKindAt p = at p 9
+
+unfoldable pub diagnosticOf : Tree → Diagnostic
 unfolding treeKind
-wrongKind (literal p v) = nowhere
-wrongKind (cell b i) = nowhere
-wrongKind (indexed b t) = wrongKind t
-wrongKind (unary p o t) = earlier (unless (unaryTakes o (treeKind t)) p) (wrongKind t)
-wrongKind (binary p o t u) = earlier (unless (binaryTakes o (treeKind t) (treeKind u)) p) (earlier (wrongKind t) (wrongKind u))
-wrongKind (logic p d t u) = earlier (wrongKind t) (wrongKind u)
-wrongKind (choice p c t u) = earlier (wrongKind c) (earlier (wrongKind t) (wrongKind u))
+diagnosticOf (literal p v) = clear
+diagnosticOf (cell b i) = clear
+diagnosticOf (indexed b t) = diagnosticOf t
+diagnosticOf (unary p o t) = earlier (unless (unaryTakes o (treeKind t)) (wrongKindAt p)) (diagnosticOf t)
+diagnosticOf (binary p o t u) = earlier (unless (binaryTakes o (treeKind t) (treeKind u)) (wrongKindAt p)) (earlier (diagnosticOf t) (diagnosticOf u))
+diagnosticOf (logic p d t u) = earlier (diagnosticOf t) (diagnosticOf u)
+diagnosticOf (choice p c t u) = earlier (diagnosticOf c) (earlier (diagnosticOf t) (diagnosticOf u))

@@ -28,6 +28,7 @@ use Rattle.grammar.specs.Tree.{Tree}
 use Rattle.text.specs.Judge.{Judgement, accepted, refused}
 use Rattle.text.specs.Theorems as Text
 use Rattle.text.specs.Theorems.{HasJudgement}
+use Rattle.grammar.proofs.Diagnostics.{shown-nine}
 
 -- ---- what holds of both choices holds of the one that a test makes
 pub either : {A : Type 0} (P : A → Type 0) (t : Bool) {x y : A} → P x → P y → P (cond t x y)
@@ -137,7 +138,7 @@ numbered {s} (Text.wrong-token h e) = wrong-number (scan s) (scans (suc (length 
 numbered {s} (Text.wrong-end w r v n l) = three-to-nine 7 (length s) (omega arith) (omega arith)
 numbered (Text.wrong-next p x ys r v n l) = three-to-nine 7 (x .place) (omega arith) (omega arith)
 numbered (Text.too-deep p x ys r v l o d) = three-to-nine 8 (x .place) (omega arith) (omega arith)
-numbered (Text.wrong-kind {p} w t r f l k) = three-to-nine 9 p (omega arith) (omega arith)
+numbered (Text.diagnosed {p} {a} w t r f l k) = let e = shown-nine t k in three-to-nine a p (omega arith) (omega arith)
 numbered (Text.formula a) = formula
 
 -- ---- faults

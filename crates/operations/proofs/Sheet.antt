@@ -5,14 +5,14 @@ use Rattle.memory.specs.Names.{letterBank, namedRule}
 use Rattle.tokens.specs.Words.{otherWord, wordToken}
 use Rattle.tokens.specs.Scan.{lexemeOf, scanFrom}
 use Rattle.grammar.specs.Symbols.{groupNumber}
-use Rattle.grammar.specs.Tree.{treeKind, wrongKind}
-use Rattle.grammar.specs.Parse.{expression, parse}
+use Rattle.grammar.specs.Tree.{treeKind, diagnosticOf}
+use Rattle.grammar.specs.Parse.{expression, parseFrom}
 use Rattle.grammar.specs.Eval.{eval}
-use Rattle.text.specs.Judge.{judgeParse, judgeScan, judge}
+use Rattle.text.specs.Judge.{judgeParse, judgeScan, judgeFrom}
 use Rattle.machine.specs.Machine.{exec, act}
 use Rattle.tree_code.specs.Code.{codeOf}
 use Rattle.operations.specs.Sheet.{Sums, sheet}
 
 pub sums : Sums sheet
-unfolding Ieee.ofBits Ieee.toBits Ieee.ofInt Ieee.add Ieee.div Ieee.eq letterBank namedRule otherWord wordToken lexemeOf scanFrom groupNumber treeKind wrongKind expression parse eval judgeParse judgeScan judge exec act codeOf
+unfolding Ieee.ofBits Ieee.toBits Ieee.ofInt Ieee.add Ieee.div Ieee.eq letterBank namedRule otherWord wordToken lexemeOf scanFrom groupNumber treeKind diagnosticOf expression parseFrom eval judgeParse judgeScan judgeFrom exec act codeOf
 sums = (refl, (refl, (refl, (refl, (refl, (refl, (refl, (refl, (refl, (refl, (refl, (refl, tt))))))))))))

@@ -2,23 +2,21 @@
 use mathlib.Core.Path.{subst}
 use mathlib.Core.Bool.{Bool, true, false}
 use mathlib.Core.List.{List, [], _∷_, _++_}
-use Prim.Native.Nat.{ℕ, zero, suc, _≤_, _<_, min}
+use Prim.Native.Nat.{ℕ, zero, suc, _≤_, _<_}
 use native.Mathlib.Omega.{arith}
 use lib.Dec.{ltb}
 use lib.ListN.{length}
 use Rattle.operators.specs.declared.UnaryOp.{UnaryOp}
 use Rattle.operators.specs.declared.BinaryOp.{BinaryOp}
 use Rattle.operators.specs.Kinds.{unaryTakes, binaryTakes}
-use Rattle.tokens.specs.declared.Function.{Function}
-use Rattle.tokens.specs.declared.Function.the-variants.{Abs, ToReal, ToInt, Trunc, Round, Frac, Max, Min, If}
 use Rattle.tokens.specs.Scan.{Tok}
 use Rattle.tokens.proofs.Tests.{choose}
 use Rattle.tokens.proofs.Places.{Below, nothing, more, tokens-inside, wrong-inside}
-use Rattle.grammar.specs.Tree.{Tree, unary, binary, logic, choice, Place, nowhere, at, earlier, unless, treeKind, wrongKind}
-use Rattle.grammar.specs.Symbols.{infixTree, Arguments, one, more as further, argument, callTree}
+use Rattle.grammar.specs.Tree.{Tree, unary, binary, logic, choice, Diagnostic, clear, at, precedes, earlier, unless, wrongKindAt, treeKind, diagnosticOf}
+use Rattle.grammar.specs.Symbols.{infixTree, Callee, of-one, of-two, of-choice, Arguments, one, more as further, argument, callTree}
 use Rattle.grammar.specs.Grammar.{Derives, number, name, index, parenthesis, call, prefixed, up, infixed, last, next}
 use Rattle.text.specs.Judge.{refused}
-use Rattle.text.specs.Theorems.{Sized, HasJudgement, wrong-size, wrong-token, wrong-end, wrong-next, too-deep, wrong-kind}
+use Rattle.text.specs.Theorems.{Sized, HasJudgementFrom, wrong-size, wrong-token, wrong-end, wrong-next, too-deep, diagnosed}
 
 -- ---- tokens below n
 module _ {n : ℕ} where
@@ -36,69 +34,63 @@ module _ {n : ℕ} where
   right [] v h = h
   right (x ∷ w) v (more l h) = right w v h
 
--- ---- the place of 9 is that of a token
-data Low (n : ℕ) : Place → Type 0 where
-  none : Low n nowhere
-  some : {p : ℕ} → p < n → Low n (at p)
+-- ---- the place of a tree's diagnostic is that of a token
+data Low (n : ℕ) : Diagnostic → Type 0 where
+  none : Low n clear
+  some : {p a : ℕ} → p < n → Low n (at p a)
 
 data AllLow (n : ℕ) : Arguments → Type 0 where
-  low-one : {t : Tree} → Low n (wrongKind t) → AllLow n (one t)
-  low-more : {t : Tree} {ts : Arguments} → Low n (wrongKind t) → AllLow n ts → AllLow n (further t ts)
+  low-one : {t : Tree} → Low n (diagnosticOf t) → AllLow n (one t)
+  low-more : {t : Tree} {ts : Arguments} → Low n (diagnosticOf t) → AllLow n ts → AllLow n (further t ts)
 
 module _ {n : ℕ} where
-  low-earlier : {p q : Place} → Low n p → Low n q → Low n (earlier p q)
+  low-earlier : {x y : Diagnostic} → Low n x → Low n y → Low n (earlier x y)
   low-earlier none h = h
   low-earlier (some l) none = some l
-  low-earlier (some {p = p} l) (some {p = q} m) = some {p = min p q} (omega arith)
+  low-earlier (some {p = p} {a = a} l) (some {p = q} {a = b} m) = choose (Low n) (precedes p a q b) _ _ (λ e. some l) (λ e. some m)
 
-  low-unless : (b : Bool) {p : ℕ} → p < n → Low n (unless b p)
-  low-unless true l = none
-  low-unless false l = some l
+  low-unless : (b : Bool) (x : Diagnostic) → Low n x → Low n (unless b x)
+  low-unless true x l = none
+  low-unless false x l = l
 
-  low-argument : (k : ℕ) {ts : Arguments} → AllLow n ts → Low n (wrongKind (argument k ts))
+  low-argument : (k : ℕ) {ts : Arguments} → AllLow n ts → Low n (diagnosticOf (argument k ts))
   low-argument k (low-one h) = h
   low-argument zero (low-more h hs) = h
   low-argument (suc k) (low-more h hs) = low-argument k hs
 
-  low-unary : {p : ℕ} (o : UnaryOp) (t : Tree) → p < n → Low n (wrongKind t) → Low n (wrongKind (unary p o t))
-  unfolding wrongKind
-  low-unary o t l h = low-earlier (low-unless (unaryTakes o (treeKind t)) l) h
+  low-unary : {p : ℕ} (o : UnaryOp) (t : Tree) → p < n → Low n (diagnosticOf t) → Low n (diagnosticOf (unary p o t))
+  unfolding diagnosticOf
+  low-unary {p} o t l h = low-earlier (low-unless (unaryTakes o (treeKind t)) (wrongKindAt p) (some l)) h
 
-  low-binary : {p : ℕ} (o : BinaryOp) (t u : Tree) → p < n → Low n (wrongKind t) → Low n (wrongKind u) → Low n (wrongKind (binary p o t u))
-  unfolding wrongKind
-  low-binary o t u l h k = low-earlier (low-unless (binaryTakes o (treeKind t) (treeKind u)) l) (low-earlier h k)
+  low-binary : {p : ℕ} (o : BinaryOp) (t u : Tree) → p < n → Low n (diagnosticOf t) → Low n (diagnosticOf u) → Low n (diagnosticOf (binary p o t u))
+  unfolding diagnosticOf
+  low-binary {p} o t u l h k = low-earlier (low-unless (binaryTakes o (treeKind t) (treeKind u)) (wrongKindAt p) (some l)) (low-earlier h k)
 
-  low-logic : (p : ℕ) (d : Bool) (t u : Tree) → Low n (wrongKind t) → Low n (wrongKind u) → Low n (wrongKind (logic p d t u))
-  unfolding wrongKind
+  low-logic : (p : ℕ) (d : Bool) (t u : Tree) → Low n (diagnosticOf t) → Low n (diagnosticOf u) → Low n (diagnosticOf (logic p d t u))
+  unfolding diagnosticOf
   low-logic p d t u h k = low-earlier h k
 
-  low-choice : (p : ℕ) (c t u : Tree) → Low n (wrongKind c) → Low n (wrongKind t) → Low n (wrongKind u) → Low n (wrongKind (choice p c t u))
-  unfolding wrongKind
+  low-choice : (p : ℕ) (c t u : Tree) → Low n (diagnosticOf c) → Low n (diagnosticOf t) → Low n (diagnosticOf u) → Low n (diagnosticOf (choice p c t u))
+  unfolding diagnosticOf
   low-choice p c t u g h k = low-earlier g (low-earlier h k)
 
-  low-infix : (o p : ℕ) (t u : Tree) → p < n → Low n (wrongKind t) → Low n (wrongKind u) → Low n (wrongKind (infixTree o p t u))
+  low-infix : (o p : ℕ) (t u : Tree) → p < n → Low n (diagnosticOf t) → Low n (diagnosticOf u) → Low n (diagnosticOf (infixTree o p t u))
   low-infix o p t u l h k =
-      choose (λ (v : Tree). Low n (wrongKind v)) (ltb o 18) _ _ (λ e. low-binary _ t u l h k) (λ e. low-logic p _ t u h k)
+      choose (λ (v : Tree). Low n (diagnosticOf v)) (ltb o 18) _ _ (λ e. low-binary _ t u l h k) (λ e. low-logic p _ t u h k)
 
-  low-call : (f : Function) (p : ℕ) (ts : Arguments) → p < n → AllLow n ts → Low n (wrongKind (callTree f p ts))
-  low-call Abs p ts l h = low-unary _ _ l (low-argument 0 h)
-  low-call ToReal p ts l h = low-unary _ _ l (low-argument 0 h)
-  low-call ToInt p ts l h = low-unary _ _ l (low-argument 0 h)
-  low-call Trunc p ts l h = low-unary _ _ l (low-argument 0 h)
-  low-call Round p ts l h = low-unary _ _ l (low-argument 0 h)
-  low-call Frac p ts l h = low-unary _ _ l (low-argument 0 h)
-  low-call Max p ts l h = low-binary _ _ _ l (low-argument 0 h) (low-argument 1 h)
-  low-call Min p ts l h = low-binary _ _ _ l (low-argument 0 h) (low-argument 1 h)
-  low-call If p ts l h = low-choice p _ _ _ (low-argument 0 h) (low-argument 1 h) (low-argument 2 h)
+  low-call : (c : Callee) (p : ℕ) (ts : Arguments) → p < n → AllLow n ts → Low n (diagnosticOf (callTree c p ts))
+  low-call (of-one o) p ts l h = low-unary o _ l (low-argument 0 h)
+  low-call (of-two o) p ts l h = low-binary o _ _ l (low-argument 0 h) (low-argument 1 h)
+  low-call of-choice p ts l h = low-choice p _ _ _ (low-argument 0 h) (low-argument 1 h) (low-argument 2 h)
 
-  low : {l : ℕ} {w : List Tok} {t : Tree} → Derives l w t → Below n w → Low n (wrongKind t)
-  unfolding wrongKind
-  low d = elim d as (λ l w t d. Below n w → Low n (wrongKind t)) (λ m w ts a. Below n w → AllLow n ts) [
+  low : {l : ℕ} {w : List Tok} {t : Tree} → Derives l w t → Below n w → Low n (diagnosticOf t)
+  unfolding diagnosticOf
+  low d = elim d as (λ l w t d. Below n w → Low n (diagnosticOf t)) (λ m w ts a. Below n w → AllLow n ts) [
     | number ↦ λ h. none
     | name ↦ λ h. none
     | index r (d → f) ↦ λ h. f (left _ _ (tail (tail h)))
     | parenthesis q (d → f) ↦ λ h. f (left _ _ (tail h))
-    | call {f} {p} {ts = ts} (a → g) ↦ λ h. low-call f p ts (head h) (g (tail (tail h)))
+    | call {c = c} {p} {ts = ts} e (a → g) ↦ λ h. low-call c p ts (head h) (g (tail (tail h)))
     | prefixed {o = o} {t = t} e (d → f) ↦ λ h. low-unary o t (head h) (f (tail h))
     | up (d → f) ↦ f
     | infixed o p {w} {v} {t} {u} e (d → f) (d′ → g) ↦ λ h. let r = right w _ h in low-infix o p t u (head r) (f (left w _ h)) (g (tail r))
@@ -106,17 +98,17 @@ module _ {n : ℕ} where
     | next q {w} (d → f) (a → g) ↦ λ h. low-more (f (left w _ h)) (g (tail (right w _ h)))
   ]
 
-low-at : {n p : ℕ} → Low n (at p) → p < n
+low-at : {n p a : ℕ} → Low n (at p a) → p < n
 low-at (some l) = l
 
 -- ---- a refusal
 bounded : {s : List ℕ} {p : ℕ} → Sized s → p ≤ length s → (p ≤ length s) × (p ≤ 1024)
 bounded h le = (le, omega (arith, h .short))
 
-pub placed : {s : List ℕ} {a p : ℕ} → HasJudgement s (refused a p) → (p ≤ length s) × (p ≤ 1024)
+pub placed : {d : ℕ} {s : List ℕ} {a p : ℕ} → HasJudgementFrom d s (refused a p) → (p ≤ length s) × (p ≤ 1024)
 placed (wrong-size n) = (omega arith, omega arith)
-placed {s} (wrong-token h e) = bounded h (omega (arith, wrong-inside s e))
+placed {s = s} (wrong-token h e) = bounded h (omega (arith, wrong-inside s e))
 placed (wrong-end w h v n sh) = bounded (h .sized) (omega arith)
-placed {s} (wrong-next p x ys h v n sh) = bounded (h .sized) (omega (arith, head (right p _ (tokens-inside s (h .scanned)))))
-placed {s} (too-deep p x ys h v sh o le) = bounded (h .sized) (omega (arith, head (right p _ (tokens-inside s (h .scanned)))))
-placed {s} (wrong-kind w t h a sh e) = bounded (h .sized) (omega (arith, low-at (subst (Low _) e (low a (tokens-inside s (h .scanned))))))
+placed {s = s} (wrong-next p x ys h v n sh) = bounded (h .sized) (omega (arith, head (right p _ (tokens-inside s (h .scanned)))))
+placed {s = s} (too-deep p x ys h v sh o le) = bounded (h .sized) (omega (arith, head (right p _ (tokens-inside s (h .scanned)))))
+placed {s = s} (diagnosed w t h a sh e) = bounded (h .sized) (omega (arith, low-at (subst (Low _) e (low a (tokens-inside s (h .scanned))))))

@@ -6,8 +6,8 @@ use Prim.Native.Nat.{ℕ}
 use lib.Dec.{leb}
 use lib.ListN.{length}
 use Rattle.tokens.specs.Scan.{Tok, Scan, tokens, wrong, scan}
-use Rattle.grammar.specs.Tree.{Tree, Place, nowhere, at, wrongKind}
-use Rattle.grammar.specs.Parse.{Result, ok, bad, deep, starved, parse}
+use Rattle.grammar.specs.Tree.{Tree, Diagnostic, clear, at, diagnosticOf}
+use Rattle.grammar.specs.Parse.{Result, ok, bad, deep, starved, parseFrom}
 
 pub data Judgement : Type 0 where
   accepted : Tree → Judgement
@@ -18,24 +18,28 @@ abbrev pub placeOf : List ℕ → List Tok → ℕ
 placeOf s [] = length s
 placeOf s (x ∷ xs) = x .place
 
-abbrev pub judgeKinds : Tree → Place → Judgement
-judgeKinds t nowhere = accepted t
-judgeKinds t (at p) = refused 9 p
+abbrev pub judgeTree : Tree → Diagnostic → Judgement
+judgeTree t clear = accepted t
+judgeTree t (at p a) = refused a p
 
 unfoldable pub judgeParse : List ℕ → Result Tree → Judgement
-unfolding wrongKind
-judgeParse s (ok t []) = judgeKinds t (wrongKind t)
+unfolding diagnosticOf
+judgeParse s (ok t []) = judgeTree t (diagnosticOf t)
 judgeParse s (ok t (x ∷ xs)) = refused 7 (x .place)
 judgeParse s (bad r) = refused 7 (placeOf s r)
 judgeParse s (deep r) = refused 8 (placeOf s r)
 judgeParse s starved = refused 7 0
 
-unfoldable pub judgeScan : List ℕ → Scan → Judgement
-unfolding judgeParse parse
-judgeScan s (tokens ts) = judgeParse s (parse ts)
-judgeScan s (wrong a p) = refused a p
+unfoldable pub judgeScan : ℕ → List ℕ → Scan → Judgement
+unfolding judgeParse parseFrom
+judgeScan d s (tokens ts) = judgeParse s (parseFrom d ts)
+judgeScan d s (wrong a p) = refused a p
 
--- "expression empty or over 1,024 bytes"
-unfoldable pub judge : List ℕ → Judgement
+-- "expression empty or over 1,024 bytes", with d brackets open before the text
+unfoldable pub judgeFrom : ℕ → List ℕ → Judgement
 unfolding judgeScan
-judge s = cond (leb 1 (length s) && leb (length s) 1024) (judgeScan s (scan s)) (refused 3 0)
+judgeFrom d s = cond (leb 1 (length s) && leb (length s) 1024) (judgeScan d s (scan s)) (refused 3 0)
+
+-- the expression that an operation is given
+abbrev pub judge : List ℕ → Judgement
+judge s = judgeFrom 0 s

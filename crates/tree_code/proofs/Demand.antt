@@ -4,7 +4,7 @@ use mathlib.Core.Path.{_≡_}
 use mathlib.Core.List.{List, []}
 use native.Mathlib.Omega.{arith}
 use Rattle.tokens.specs.Scan.{Tok}
-use Rattle.grammar.specs.Tree.{Tree, treeKind, nowhere, wrongKind}
+use Rattle.grammar.specs.Tree.{Tree, treeKind, clear, diagnosticOf}
 use Rattle.grammar.specs.Grammar.{Formula}
 use Rattle.grammar.specs.Theorems.{Shallow}
 use Rattle.machine.specs.Machine.{maxHeight}
@@ -21,7 +21,7 @@ use Rattle.tree_code.proofs.Laws.{code-some, worth-of-kind}
 use Rattle.tree_code.proofs.Size.{small}
 use Rattle.tree_code.proofs.Height.{height}
 
-compiled : (w : List Tok) (t : Tree) (n : ℕ) → Formula w t → Shallow 0 w → wrongKind t ≡ nowhere → leastBytes w ≤ n → n ≤ 1024 → Compiled t n
+compiled : (w : List Tok) (t : Tree) (n : ℕ) → Formula w t → Shallow 0 w → diagnosticOf t ≡ clear → leastBytes w ≤ n → n ≤ 1024 → Compiled t n
 compiled w t n formula shallow right long short =
     let low : need t ≤ maxHeight = omega (arith, height formula shallow) in
     let taken : Accepts (codeOf t) (treeKind t) = accepted (well t right) low (code-some t) (omega (arith, small formula)) in

@@ -9,12 +9,12 @@ use borrow.Author.Tests.{ne-eqb}
 use Rattle.tokens.specs.declared.Token.the-variants.{Symbol}
 use Rattle.tokens.specs.Scan.{Tok}
 use Rattle.grammar.specs.Tree.{Tree}
-use Rattle.grammar.specs.Symbols.{openParen, closeParen, openIndex, closeIndex, loosest, Arguments, argument}
+use Rattle.grammar.specs.Symbols.{openParen, closeParen, openIndex, closeIndex, loosest, Callee, of-one, of-two, of-choice, moreArguments, callTree, Arguments, argument}
 use Rattle.grammar.specs.Grammar.{tok, Derives, number, name, index, parenthesis, call, prefixed, up, infixed, last, next, Formula}
 use Rattle.grammar.specs.Parse.{mostOpen}
 use Rattle.grammar.specs.Theorems.{isOpener, isCloser, Shallow, opens, goes-on}
 use Rattle.tree_code.proofs.Need.{need}
-use Rattle.tree_code.proofs.Nodes.{Call, of-one, of-two, of-three, call-node, Infix, of-values, of-truths, infix-node, infix-plain, prefix-plain}
+use Rattle.tree_code.proofs.Nodes.{Infix, of-values, of-truths, infix-node, infix-plain, prefix-plain}
 
 -- ---- one token
 opened : {o : ℕ} {x : Tok} {w : List Tok} → isOpener x ≡ true → Shallow o (x ∷ w) → (o < mostOpen) × Shallow (suc o) w
@@ -49,11 +49,11 @@ Lows m w ts = (o : ℕ) (v : List Tok) → o < mostOpen → Shallow (suc o) (w +
 within : (w : List Tok) (t : Tree) → Low loosest w t → (o : ℕ) (x : Tok) (y v : List Tok) → o < mostOpen → Shallow (suc o) ((w ++ x ∷ y) ++ v) → (need t ≤ 12 * (mostOpen - o)) × Shallow (suc o) (x ∷ (y ++ v))
 within w t h o x y v lt s = let r = h (suc o) (x ∷ (y ++ v)) (rw append-assoc at s) in (omega (arith, r .0), r .1)
 
-call-need : {p m : ℕ} {ts : Arguments} {t : Tree} (n : ℕ) → Call p ts m t → ((k : ℕ) → k ≤ m → need (argument k ts) ≤ n) → need t ≤ n + 1
+call-need : (n : ℕ) (c : Callee) (p : ℕ) (ts : Arguments) → ((k : ℕ) → k ≤ moreArguments c → need (argument k ts) ≤ n) → need (callTree c p ts) ≤ n + 1
 unfolding need
-call-need n (of-one o) h = omega (arith, h 0 (omega arith))
-call-need n (of-two o) h = omega (arith, h 0 (omega arith), h 1 (omega arith))
-call-need n of-three h = omega (arith, h 0 (omega arith), h 1 (omega arith), h 2 (omega arith))
+call-need n (of-one o) p ts h = omega (arith, h 0 (omega arith))
+call-need n (of-two o) p ts h = omega (arith, h 0 (omega arith), h 1 (omega arith))
+call-need n of-choice p ts h = omega (arith, h 0 (omega arith), h 1 (omega arith), h 2 (omega arith))
 
 infix-need : {p b : ℕ} {t u r : Tree} (n : ℕ) → Infix p t u b r → need t ≤ suc n → need u ≤ n → need r ≤ suc n
 unfolding need
@@ -73,10 +73,10 @@ low d = elim d as (λ l w t d. Low l w t) (λ m w ts a. Lows m w ts) [
       let a = opened refl s in
       let b = within w t h o _ [] v (a .0) (a .1) in
       (omega (arith, b .0), closed o refl refl (b .1))
-  | call {f} {p} {ts = ts} (a → h) ↦ λ o v s.
+  | call {c = c} {p} {ts = ts} e (a → h) ↦ λ o v s.
       let a = opened refl (passed refl s) in
       let b = h o v (a .0) (a .1) in
-      (omega (arith, call-need _ (call-node f p ts) (b .0)), b .1)
+      (omega (arith, call-need _ c p ts (b .0)), b .1)
   | prefixed {n} {p} {o = u} {w} e (d → h) ↦ λ o v s. h o v (over-plain n p o (w ++ v) (prefix-plain n u e .low) s)
   | up (d → h) ↦ λ o v s. let a = h o v s in (omega (arith, a .0), a .1)
   | infixed {l} n p {v = x} {t = t} {u = u} e (d → h) (d′ → h′) ↦ λ o v s.

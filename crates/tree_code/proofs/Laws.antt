@@ -12,7 +12,7 @@ use Rattle.operators.specs.declared.BinaryOp.{BinaryOp}
 use Rattle.operators.specs.Laws.{OfKind}
 use Rattle.memory.specs.declared.Bank.{Bank}
 use Rattle.memory.specs.Environment.{Environment}
-use Rattle.grammar.specs.Tree.{Tree, literal, cell, indexed, unary, binary, logic, choice, treeKind, nowhere, wrongKind}
+use Rattle.grammar.specs.Tree.{Tree, literal, cell, indexed, unary, binary, logic, choice, treeKind, clear, diagnosticOf}
 use Rattle.grammar.specs.Eval.{eval}
 use Rattle.verifier.specs.Safety.{Kinded}
 use Rattle.tree_code.specs.Code.{branchTail, codeOf}
@@ -61,5 +61,5 @@ code-some (binary p o t u) = omega (arith, length-binary p o t u)
 code-some (logic p d t u) = omega (arith, length-logic p d t u)
 code-some (choice p c t u) = omega (arith, length-choice p c t u)
 
-pub worth-of-kind : (E : Environment) → Kinded E → (t : Tree) → wrongKind t ≡ nowhere → OfKind (treeKind t) (eval E t)
+pub worth-of-kind : (E : Environment) → Kinded E → (t : Tree) → diagnosticOf t ≡ clear → OfKind (treeKind t) (eval E t)
 worth-of-kind E kinded t e = worth-kind E kinded (well t e)

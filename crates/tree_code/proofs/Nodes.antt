@@ -1,4 +1,4 @@
--- What a function's call and an operator make of their operands, by class, and what kind of symbol an operator is.
+-- What an operator makes of its operands, by class, and what kind of symbol it is.
 use mathlib.Core.Path.{_≡_, refl, sym}
 use mathlib.Core.Bool.{Bool, true, false, cond, _&&_, _||_, false≢true}
 use Prim.Native.Nat.{ℕ, zero, suc, _≤_, _<_}
@@ -6,34 +6,14 @@ use native.Mathlib.Omega.{arith}
 use lib.Dec.{eqb, ltb, leb}
 use lib.ListN.{length, getD, List·getD-eq-default}
 use borrow.Author.Tests.{ltb-true, ltb-false, leb-true, eqb-true, ne-eqb}
-use Rattle.values.specs.declared.ChoiceOp.the-variants as Choose
 use Rattle.operators.specs.declared.UnaryOp.{UnaryOp}
 use Rattle.operators.specs.declared.UnaryOp.the-variants as U
 use Rattle.operators.specs.declared.BinaryOp.{BinaryOp}
 use Rattle.operators.specs.declared.BinaryOp.the-variants as B
 use Rattle.operators.specs.Tables.{binaryOps}
-use Rattle.tokens.specs.declared.Function.{Function}
-use Rattle.tokens.specs.declared.Function.the-variants.{Abs, ToReal, ToInt, Trunc, Round, Frac, Max, Min, If}
 use Rattle.tokens.specs.Symbols.{symbolCount, symbolBytes}
-use Rattle.grammar.specs.Tree.{Tree, unary, binary, logic, choice}
-use Rattle.grammar.specs.Symbols.{minus, tilde, bang, openParen, groups, groupNumber, prefixSymbol, is, none, infixTree, moreArguments, Arguments, argument, callTree}
-
--- the node of a call with so many arguments after the first
-pub data Call (p : ℕ) (ts : Arguments) : ℕ → Tree → Type 0 where
-  of-one : (o : UnaryOp) → Call p ts 0 (unary p o (argument 0 ts))
-  of-two : (o : BinaryOp) → Call p ts 1 (binary p o (argument 0 ts) (argument 1 ts))
-  of-three : Call p ts 2 (choice p (argument 0 ts) (argument 1 ts) (argument 2 ts))
-
-pub call-node : (f : Function) (p : ℕ) (ts : Arguments) → Call p ts (moreArguments f) (callTree f p ts)
-call-node Abs p ts = of-one U.Abs
-call-node ToReal p ts = of-one U.ToReal
-call-node ToInt p ts = of-one U.Trunc
-call-node Trunc p ts = of-one U.Trunc
-call-node Round p ts = of-one U.Round
-call-node Frac p ts = of-one U.Frac
-call-node Max p ts = of-two (B.Choice Choose.Max)
-call-node Min p ts = of-two (B.Choice Choose.Min)
-call-node If p ts = of-three
+use Rattle.grammar.specs.Tree.{Tree, binary, logic}
+use Rattle.grammar.specs.Symbols.{minus, tilde, bang, openParen, groups, groupNumber, prefixSymbol, is, none, infixTree}
 
 -- the node of an operator whose symbol has so many bytes at the least
 pub data Infix (p : ℕ) (t u : Tree) : ℕ → Tree → Type 0 where

@@ -6,12 +6,12 @@ use native.Mathlib.Omega.{arith}
 use lib.ListN.{length}
 use Rattle.tokens.specs.Scan.{Tok}
 use Rattle.grammar.specs.Tree.{Tree, treeKind}
-use Rattle.grammar.specs.Symbols.{Arguments, more, argument}
+use Rattle.grammar.specs.Symbols.{Callee, of-one, of-two, of-choice, moreArguments, callTree, Arguments, more, argument}
 use Rattle.grammar.specs.Grammar.{Derives, number, name, index, parenthesis, call, prefixed, up, infixed, last, next}
 use Rattle.tree_code.specs.Code.{codeOf}
 use Rattle.tree_code.specs.Demand.{leastBytes}
 use Rattle.tree_code.proofs.Laws.{length-literal, length-cell, length-indexed, length-unary, length-binary, length-logic, length-choice, tail-short}
-use Rattle.tree_code.proofs.Nodes.{Call, of-one, of-two, of-three, call-node, Infix, of-values, of-truths, infix-node, infix-plain, prefix-plain}
+use Rattle.tree_code.proofs.Nodes.{Infix, of-values, of-truths, infix-node, infix-plain, prefix-plain}
 
 least-append : (w v : List Tok) → leastBytes (w ++ v) ≡ leastBytes w + leastBytes v
 unfolding leastBytes
@@ -30,10 +30,10 @@ total-more : (m : ℕ) (t : Tree) (ts : Arguments) → total (suc m) (more t ts)
 total-more zero t ts = refl
 total-more (suc m) t ts = omega (arith, total-more m t ts)
 
-call-size : {p m : ℕ} {ts : Arguments} {t : Tree} → Call p ts m t → size t + 1 ≤ total m ts
-call-size {p} {ts = ts} (of-one o) = omega (arith, length-unary p o (argument 0 ts))
-call-size {p} {ts = ts} (of-two o) = omega (arith, length-binary p o (argument 0 ts) (argument 1 ts))
-call-size {p} {ts = ts} of-three =
+call-size : (c : Callee) (p : ℕ) (ts : Arguments) → size (callTree c p ts) + 1 ≤ total (moreArguments c) ts
+call-size (of-one o) p ts = omega (arith, length-unary p o (argument 0 ts))
+call-size (of-two o) p ts = omega (arith, length-binary p o (argument 0 ts) (argument 1 ts))
+call-size of-choice p ts =
     omega (arith, length-choice p (argument 0 ts) (argument 1 ts) (argument 2 ts), tail-short (treeKind (argument 1 ts)) (treeKind (argument 2 ts)))
 
 infix-size : {p b : ℕ} {t u r : Tree} → Infix p t u b r → size r ≤ size t + size u + 2 * b + 1
@@ -48,7 +48,7 @@ small d = elim d as (λ l w t d. size t + 1 ≤ 2 * leastBytes w) (λ m w ts a. 
   | name {b} {i} ↦ omega (arith, length-cell b i)
   | index {b} r {t = t} (d → h) ↦ simp least-append (omega (arith, length-indexed b t))
   | parenthesis q (d → h) ↦ simp least-append (omega arith)
-  | call {f} {p} {ts = ts} (a → h) ↦ omega (arith, call-size (call-node f p ts))
+  | call {c = c} {p} {ts = ts} e (a → h) ↦ omega (arith, call-size c p ts)
   | prefixed {n} {p} {o} {t = t} e (d → h) ↦ omega (arith, length-unary p o t, prefix-plain n o e .long)
   | up (d → h) ↦ h
   | infixed {l} n p {t = t} {u = u} e (d → h) (d′ → h′) ↦ simp least-append (omega (arith, infix-size (infix-node n p t u), infix-plain n l e .long))

@@ -17,7 +17,7 @@ use Rattle.operators.specs.Laws.{OfKind, done, stopped}
 use Rattle.operators.proofs.Laws.{rule-laws}
 use Rattle.memory.specs.declared.Bank.{Bank}
 use Rattle.memory.specs.Environment.{Environment}
-use Rattle.grammar.specs.Tree.{Tree, literal, cell, indexed, unary, binary, logic, choice, treeKind, Place, nowhere, at, earlier, unless, wrongKind}
+use Rattle.grammar.specs.Tree.{Tree, literal, cell, indexed, unary, binary, logic, choice, treeKind, Diagnostic, clear, at, precedes, earlier, unless, wrongKindAt, diagnosticOf}
 use Rattle.grammar.specs.Eval.{then, shortCircuit, eval}
 use Rattle.verifier.specs.Safety.{Kinded}
 
@@ -31,18 +31,22 @@ pub data Well : Tree → Type 0 where
   on-logic : {p : ℕ} {d : Bool} {t u : Tree} → Well t → Well u → Well (logic p d t u)
   on-choice : {p : ℕ} {c t u : Tree} → Well c → Well t → Well u → Well (choice p c t u)
 
--- ---- no place is wrong
-neither : (p q : Place) → earlier p q ≡ nowhere → (p ≡ nowhere) × (q ≡ nowhere)
-neither nowhere q e = (refl, e)
-neither (at p) nowhere e = let z : _≡_ {A = ℕ} 0 1 = cc in absurd (omega arith)
-neither (at p) (at q) e = let z : _≡_ {A = ℕ} 0 1 = cc in absurd (omega arith)
+-- ---- a tree without a diagnostic
+neither : (x y : Diagnostic) → earlier x y ≡ clear → (x ≡ clear) × (y ≡ clear)
+neither clear y e = (refl, e)
+neither (at p a) clear e = let z : _≡_ {A = ℕ} 0 1 = cc in absurd (omega arith)
+neither (at p a) (at q b) e = absurd (go (precedes p a q b) e)
+  where
+    go : (x : Bool) → cond x (at p a) (at q b) ≡ clear → ⊥
+    go true i = let z : _≡_ {A = ℕ} 0 1 = cc in omega arith
+    go false i = let z : _≡_ {A = ℕ} 0 1 = cc in omega arith
 
-taken : (b : Bool) (p : ℕ) → unless b p ≡ nowhere → b ≡ true
+taken : (b : Bool) (p : ℕ) → unless b (wrongKindAt p) ≡ clear → b ≡ true
 taken true p e = refl
 taken false p e = let z : _≡_ {A = ℕ} 0 1 = cc in absurd (omega arith)
 
-pub well : (t : Tree) → wrongKind t ≡ nowhere → Well t
-unfolding wrongKind
+pub well : (t : Tree) → diagnosticOf t ≡ clear → Well t
+unfolding diagnosticOf
 well (literal p v) e = on-literal
 well (cell b i) e = on-cell
 well (indexed b t) e = on-indexed (well t e)

@@ -11,7 +11,7 @@ use Rattle.tokens.specs.declared.Token.the-variants.{Number, Cell, Letter, Name
 use Rattle.tokens.specs.Symbols.{symbolBytes}
 use Rattle.tokens.specs.Words.{nameOf}
 use Rattle.tokens.specs.Scan.{Tok}
-use Rattle.grammar.specs.Tree.{Tree, Place, nowhere, treeKind, wrongKind}
+use Rattle.grammar.specs.Tree.{Tree, clear, treeKind, diagnosticOf}
 use Rattle.grammar.specs.Eval.{eval}
 use Rattle.grammar.specs.Grammar.{Formula}
 use Rattle.grammar.specs.Theorems.{Shallow}
@@ -46,4 +46,4 @@ pub record Compiled (t : Tree) (n : ℕ) : Type 0 where
   pub quick : (E : Environment) → exec E (codeOf t) 0 [] .count ≤ 2 * n
 
 pub record Demand : Type 0 where
-  pub compiled : (w : List Tok) (t : Tree) (n : ℕ) → Formula w t → Shallow 0 w → wrongKind t ≡ nowhere → leastBytes w ≤ n → n ≤ 1024 → Compiled t n
+  pub compiled : (w : List Tok) (t : Tree) (n : ℕ) → Formula w t → Shallow 0 w → diagnosticOf t ≡ clear → leastBytes w ≤ n → n ≤ 1024 → Compiled t n

@@ -8,7 +8,7 @@ use borrow.Author.Tests.{eq-eqb}
 use Rattle.values.specs.declared.Kind.{Kind}
 use Rattle.tokens.specs.Scan.{Tok}
 use Rattle.token_table.specs.private.Table.{tokensFrom}
-use Rattle.grammar.specs.Tree.{Tree, Place}
+use Rattle.grammar.specs.Tree.{Tree, Diagnostic}
 use Rattle.grammar.specs.Symbols.{isSymbol}
 use Rattle.grammar.specs.Parse.{Result, ok, bad, deep, starved, andThen, expect, enter}
 use Rattle.grammar.proofs.Laws.{enter-some}
@@ -49,7 +49,7 @@ span-stopped at-deep (span-deep h) = span-deep h
 
 -- ---- what was read, and then more
 module _ {s : List ℕ} {pc pc′ : ℕ} {o o₁ o′ o₂ : List ℕ} where
-  pub bind-done : {j e : ℕ} {k : Kind} {w : Place} {r : Read} {q : Result Tree} (c : Tree → List Tok → Result Tree) → SameResult pc o o₁ s (Done j e k w) q → ((t : Tree) → DraftHolds pc o o₁ e k w t → SameResult pc′ o′ o₂ s r (c t (tokensFrom s j)))
+  pub bind-done : {j e : ℕ} {k : Kind} {w : Diagnostic} {r : Read} {q : Result Tree} (c : Tree → List Tok → Result Tree) → SameResult pc o o₁ s (Done j e k w) q → ((t : Tree) → DraftHolds pc o o₁ e k w t → SameResult pc′ o′ o₂ s r (c t (tokensFrom s j)))
       → SameResult pc′ o′ o₂ s r (andThen q c)
   bind-done {r = r} c (same-done {t = t} m e) h = subst (λ (ts : List Tok). SameResult pc′ o′ o₂ s r (c t ts)) (sym e) (h t m)
 

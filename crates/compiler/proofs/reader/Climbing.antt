@@ -10,7 +10,7 @@ use borrow.Author.Tests.{le-leb}
 use Rattle.values.specs.declared.Kind.{Kind}
 use Rattle.tokens.specs.Scan.{Tok}
 use Rattle.token_table.specs.private.Table.{wordOperand, wordPlace, wordAt, tokensFrom, TokenWords}
-use Rattle.grammar.specs.Tree.{Tree, Place, earlier}
+use Rattle.grammar.specs.Tree.{Tree, Diagnostic, earlier}
 use Rattle.grammar.specs.Symbols.{groupNumber, infixTree}
 use Rattle.grammar.specs.Parse.{Result, ok, andThen, expression, climb}
 use Rattle.draft.specs.private.Results.{Read, Done, isDone, readNext, readEnd, readKind, readWrong, readOf}
@@ -28,14 +28,14 @@ abbrev pub Climbed : ℕ → ℕ → List ℕ → ℕ → ℕ → List ℕ → L
 Climbed d l s at pc o o′ r = ReaderAgrees (λ f ts. expression f d l ts) 3 s at pc o o′ r
 
 -- the result q is what climbing on from a tree gives, which was read up to j and written up to e
-pub record Onward (d l : ℕ) (s : List ℕ) (pc : ℕ) (o o′ : List ℕ) (j e : ℕ) (k : Kind) (w : Place) (q : Result Tree) : Type 0 where
+pub record Onward (d l : ℕ) (s : List ℕ) (pc : ℕ) (o o′ : List ℕ) (j e : ℕ) (k : Kind) (w : Diagnostic) (q : Result Tree) : Type 0 where
   pub fuel : ℕ
   pub enough : (length s - j) * 8 + 1 ≤ fuel
   pub tree : Tree
   pub means : DraftHolds pc o o′ e k w tree
   pub climbs : q ≡ climb fuel d l tree (tokensFrom s j)
 
-pub record Climbing (d l : ℕ) (s : List ℕ) (at pc : ℕ) (o o′ : List ℕ) (j e : ℕ) (k : Kind) (w : Place) : Type 0 where
+pub record Climbing (d l : ℕ) (s : List ℕ) (at pc : ℕ) (o o′ : List ℕ) (j e : ℕ) (k : Kind) (w : Diagnostic) : Type 0 where
   pub span : Bounds s at pc j e
   pub onward : (f : ℕ) → (length s - at) * 8 + 3 ≤ f → Onward d l s pc o o′ j e k w (expression f d l (tokensFrom s at))
 
@@ -49,7 +49,7 @@ module _ (d l : ℕ) {s : List ℕ} {at pc : ℕ} {o o′ : List ℕ} where
       go zero le = absurd (omega arith)
       go (suc f) le = bind-stopped (λ t z. climb f d l t z) h (x .same f (omega arith))
 
-  pub climb-starts : {j e : ℕ} {k : Kind} {w : Place} → Operand d s at pc o o′ (Done j e k w) → Climbing d l s at pc o o′ j e k w
+  pub climb-starts : {j e : ℕ} {k : Kind} {w : Diagnostic} → Operand d s at pc o o′ (Done j e k w) → Climbing d l s at pc o o′ j e k w
   unfolding expression
   climb-starts {j} {e} {k} {w} x = record { span = bounds (x .span); onward = go }
     where
@@ -84,7 +84,7 @@ step d l {s} {j} {n} {g} {p} a group low high f t =
     rw (a .split, climb, le-leb 1 (groupNumber n) low′, le-leb (groupNumber n) l high′)
     (ap (λ (i : ℕ). andThen (expression f d (i - 1) (tokensFrom s (j + 1))) (λ u z. climb f d l (infixTree n p t u) z)) group)
 
-module _ (d l : ℕ) {s : List ℕ} {at pc : ℕ} {o o₁ : List ℕ} {j e : ℕ} {k : Kind} {w : Place} (h : Climbing d l s at pc o o₁ j e k w)
+module _ (d l : ℕ) {s : List ℕ} {at pc : ℕ} {o o₁ : List ℕ} {j e : ℕ} {k : Kind} {w : Diagnostic} (h : Climbing d l s at pc o o₁ j e k w)
     {n g p : ℕ} (a : Splits s j (symbolAt n p)) (group : groupNumber n ≡ g) (low : 1 ≤ g) (high : g ≤ l) where
   pub climb-right-stopped : {o₂ : List ℕ} {r : Read} → Climbed d (g - 1) s (j + 1) (e + reserved n) o₁ o₂ r → Stopped r → Climbed d l s at pc o o₂ r
   climb-right-stopped {o₂} {r} x stop = record { span = span-stopped stop (x .span); same = λ f le. let y = h .onward f le in go (y .fuel) (y .enough) (y .tree) (y .climbs) }
@@ -95,7 +95,7 @@ module _ (d l : ℕ) {s : List ℕ} {at pc : ℕ} {o o₁ : List ℕ} {j e : ℕ
           subst (SameResult pc o o₂ s r) (sym (c ∙ step d l a group low high f t))
           (bind-stopped (λ u z. climb f d l (infixTree n p t u) z) stop (x .same f (omega (arith, a .within))))
 
-  pub climb-goes-on : {o₂ o₃ : List ℕ} {j′ e′ : ℕ} {k′ : Kind} {w′ : Place} → Climbed d (g - 1) s (j + 1) (e + reserved n) o₁ o₂ (Done j′ e′ k′ w′) → o₃ ≡ joinedCode o₂ n e e′
+  pub climb-goes-on : {o₂ o₃ : List ℕ} {j′ e′ : ℕ} {k′ : Kind} {w′ : Diagnostic} → Climbed d (g - 1) s (j + 1) (e + reserved n) o₁ o₂ (Done j′ e′ k′ w′) → o₃ ≡ joinedCode o₂ n e e′
       → Climbing d l s at pc o o₃ j′ (joinedEnd n e′) (infixKind n k k′) (earlier (infixWrong n p k k′) (earlier w w′))
   climb-goes-on {o₂} {o₃} {j′} {e′} {k′} {w′} x q = record { span = reach (h .span) (bounds (x .span)); onward = λ f le. let y = h .onward f le in go (y .fuel) (y .enough) (y .tree) (y .means) (y .climbs) }
     where
@@ -120,7 +120,7 @@ unfolding climb
 halts f d l t [] e = refl
 halts f d l t (x ∷ xs) e = rw (climb, e) refl
 
-pub climb-stops : (d l : ℕ) {s : List ℕ} {at pc : ℕ} {o o′ : List ℕ} {j e : ℕ} {k : Kind} {w : Place} → Climbing d l s at pc o o′ j e k w → headBinds l (tokensFrom s j) ≡ false → Climbed d l s at pc o o′ (Done j e k w)
+pub climb-stops : (d l : ℕ) {s : List ℕ} {at pc : ℕ} {o o′ : List ℕ} {j e : ℕ} {k : Kind} {w : Diagnostic} → Climbing d l s at pc o o′ j e k w → headBinds l (tokensFrom s j) ≡ false → Climbed d l s at pc o o′ (Done j e k w)
 climb-stops d l {s} {at} {pc} {o} {o′} {j} {e} {k} {w} h b = record { span = reach (h .span); same = λ f le. let y = h .onward f le in go (y .fuel) (y .enough) (y .tree) (y .means) (y .climbs) }
   where
     reach : Bounds s at pc j e → Span s at pc (Done j e k w)

@@ -24,7 +24,7 @@ use Rattle.tokens.specs.Scan.{Tok}
 use Rattle.token_table.specs.private.Table.{packFields, packToken, functionNumber, wordClass, wordOperand, wordNumber, wordPlace, entryOf, wordAt, tokensFrom, Sound, TokenWord, blank, token, TokenWords}
 use Rattle.token_table.specs.private.Table as Sound
 use Rattle.token_table.proofs.Laws.{tok, tokenClass, tokenOperand, tokenNumber, class-packed, operand-packed, number-packed, place-packed, unpacked, blank-end, from-is, from-end}
-use Rattle.grammar.specs.Tree.{Tree, literal, cell, nowhere, treeKind, wrongKind}
+use Rattle.grammar.specs.Tree.{Tree, literal, cell, clear, treeKind, diagnosticOf}
 use Rattle.grammar.specs.Symbols.{groups, groupNumber, group, isSymbol, Prefix, is, none, prefixOf}
 use Rattle.grammar.specs.Parse.{ok, binds, primary}
 use Rattle.tree_code.specs.Code.{codeOf}
@@ -241,7 +241,7 @@ pub record Leaf (s : List ℕ) (at c n x p : ℕ) : Type 0 where
   pub few : n < 6
   pub tree : Tree
   pub reads : (f d : ℕ) (xs : List Tok) → primary (suc f) d (tok token p) xs ≡ ok tree xs
-  pub means : (pc : ℕ) (o : List ℕ) → DraftHolds pc o (set o pc (packFields c n x 0)) (pc + 1) (cond (eqb c 1) Int (cond (eqb c 2) Real (bankKind (bankAt n)))) nowhere tree
+  pub means : (pc : ℕ) (o : List ℕ) → DraftHolds pc o (set o pc (packFields c n x 0)) (pc + 1) (cond (eqb c 1) Int (cond (eqb c 2) Real (bankKind (bankAt n)))) clear tree
 
 -- what stands there, sorted by the class
 pub data Primary (s : List ℕ) (at n x p : ℕ) : ℕ → Type 0 where
@@ -252,7 +252,7 @@ pub data Primary (s : List ℕ) (at n x p : ℕ) : ℕ → Type 0 where
   symbol : Splits s at (tok (Symbol n) p) → Primary s at n x p 6
 
 sorted : {s : List ℕ} {at p : ℕ} {t : Token} → Sound t → Splits s at (tok t p) → Primary s at (tokenOperand t) (tokenNumber t) p (tokenClass t)
-unfolding codeOf treeKind wrongKind primary putCode
+unfolding codeOf treeKind diagnosticOf primary putCode
 sorted {p = p} (Sound.int z h) x =
     leaf {c = 1} (lit< tt) (λ e. omega arith) (record { token = Number (Value.Int z); splits = x; plain = refl; few = lit< tt; tree = literal p (Value.Int z); reads = λ f d xs. refl; means = λ pc o. record { kind = refl; wrong = refl; ends = refl; code = refl } })
 sorted {p = p} (Sound.real y h) x =

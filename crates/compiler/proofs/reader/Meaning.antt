@@ -15,7 +15,7 @@ use Rattle.operators.specs.declared.BinaryOp.{BinaryOp}
 use Rattle.operators.specs.Kinds.{join, unaryKind, unaryTakes, binaryKind, binaryTakes}
 use Rattle.memory.specs.declared.Bank.{Bank}
 use Rattle.memory.specs.Cells.{bankKind}
-use Rattle.grammar.specs.Tree.{Tree, indexed, unary, binary, logic, choice, treeKind, wrongKind, Place, nowhere, earlier, unless}
+use Rattle.grammar.specs.Tree.{Tree, indexed, unary, binary, logic, choice, treeKind, diagnosticOf, Diagnostic, clear, earlier, unless, wrongKindAt}
 use Rattle.grammar.specs.Symbols.{infixTree}
 use Rattle.code.specs.declared.Instr.{Instr}
 use Rattle.code.specs.declared.Instr.the-variants.{LoadIndexed, Unary, Binary, Jump, JumpIf}
@@ -25,35 +25,35 @@ use Rattle.draft.specs.private.Draft.{putInstr, putCode, reserved, settledCode,
 use Rattle.compiler.specs.private.Reading.{DraftHolds}
 use Rattle.draft.proofs.Putting.{Lies, lies-add, lies-then, lies-filled}
 
-lies : {pc : ℕ} {o o′ : List ℕ} {e : ℕ} {k : Kind} {w : Place} {t : Tree} → DraftHolds pc o o′ e k w t → Lies (codeOf t) pc e o o′
+lies : {pc : ℕ} {o o′ : List ℕ} {e : ℕ} {k : Kind} {w : Diagnostic} {t : Tree} → DraftHolds pc o o′ e k w t → Lies (codeOf t) pc e o o′
 lies m = record { ends = m .ends; code = m .code }
 
-made : {pc : ℕ} {o o′ : List ℕ} {e : ℕ} {k : Kind} {w : Place} {t : Tree} → treeKind t ≡ k → wrongKind t ≡ w → Lies (codeOf t) pc e o o′ → DraftHolds pc o o′ e k w t
+made : {pc : ℕ} {o o′ : List ℕ} {e : ℕ} {k : Kind} {w : Diagnostic} {t : Tree} → treeKind t ≡ k → diagnosticOf t ≡ w → Lies (codeOf t) pc e o o′ → DraftHolds pc o o′ e k w t
 made k w l = record { kind = k; wrong = w; ends = l .ends; code = l .code }
 
 -- ---- one instruction more
-module _ {pc : ℕ} {o o₁ o₂ : List ℕ} {e : ℕ} {k : Kind} {w : Place} {t : Tree} (m : DraftHolds pc o o₁ e k w t) where
+module _ {pc : ℕ} {o o₁ o₂ : List ℕ} {e : ℕ} {k : Kind} {w : Diagnostic} {t : Tree} (m : DraftHolds pc o o₁ e k w t) where
   pub means-indexed : (b : Bank) → o₂ ≡ putInstr o₁ e (LoadIndexed b) → DraftHolds pc o o₂ (e + 1) (bankKind b) w (indexed b t)
-  unfolding codeOf treeKind wrongKind
+  unfolding codeOf treeKind diagnosticOf
   means-indexed b q = made refl (m .wrong) (lies-then (lies m) (lies-add (LoadIndexed b) q))
 
-  pub means-unary : (p : ℕ) (a : UnaryOp) → o₂ ≡ putInstr o₁ e (Unary a) → DraftHolds pc o o₂ (e + 1) (unaryKind a k) (earlier (unless (unaryTakes a k) p) w) (unary p a t)
-  unfolding codeOf treeKind wrongKind
+  pub means-unary : (p : ℕ) (a : UnaryOp) → o₂ ≡ putInstr o₁ e (Unary a) → DraftHolds pc o o₂ (e + 1) (unaryKind a k) (earlier (unless (unaryTakes a k) (wrongKindAt p)) w) (unary p a t)
+  unfolding codeOf treeKind diagnosticOf
   means-unary p a q =
-      made (ap (unaryKind a) (m .kind)) (ap₂ (λ (x : Kind) (y : Place). earlier (unless (unaryTakes a x) p) y) (m .kind) (m .wrong)) (lies-then (lies m) (lies-add (Unary a) q))
+      made (ap (unaryKind a) (m .kind)) (ap₂ (λ (x : Kind) (y : Diagnostic). earlier (unless (unaryTakes a x) (wrongKindAt p)) y) (m .kind) (m .wrong)) (lies-then (lies m) (lies-add (Unary a) q))
 
 -- ---- two sides
-module _ {pc : ℕ} {o o₁ o₂ o₃ : List ℕ} {e e′ : ℕ} {k k′ : Kind} {w w′ : Place} {t u : Tree} (m : DraftHolds pc o o₁ e k w t) where
+module _ {pc : ℕ} {o o₁ o₂ o₃ : List ℕ} {e e′ : ℕ} {k k′ : Kind} {w w′ : Diagnostic} {t u : Tree} (m : DraftHolds pc o o₁ e k w t) where
   pub means-binary : (p : ℕ) (a : BinaryOp) → DraftHolds e o₁ o₂ e′ k′ w′ u → o₃ ≡ putInstr o₂ e′ (Binary a)
-      → DraftHolds pc o o₃ (e′ + 1) (binaryKind a k k′) (earlier (unless (binaryTakes a k k′) p) (earlier w w′)) (binary p a t u)
-  unfolding codeOf treeKind wrongKind
+      → DraftHolds pc o o₃ (e′ + 1) (binaryKind a k k′) (earlier (unless (binaryTakes a k k′) (wrongKindAt p)) (earlier w w′)) (binary p a t u)
+  unfolding codeOf treeKind diagnosticOf
   means-binary p a n q =
       made (ap₂ (binaryKind a) (m .kind) (n .kind))
-      (ap₂ earlier (ap₂ (λ (x : Kind) (y : Kind). unless (binaryTakes a x y) p) (m .kind) (n .kind)) (ap₂ earlier (m .wrong) (n .wrong)))
+      (ap₂ earlier (ap₂ (λ (x : Kind) (y : Kind). unless (binaryTakes a x y) (wrongKindAt p)) (m .kind) (n .kind)) (ap₂ earlier (m .wrong) (n .wrong)))
       (lies-then (lies m) (lies-then (lies n) (lies-add (Binary a) q)))
 
   means-logic : (p : ℕ) (d : Bool) → DraftHolds (suc e) o₁ o₂ e′ k′ w′ u → o₃ ≡ settledCode o₂ e e′ d → DraftHolds pc o o₃ (e′ + 4) K.Int (earlier w w′) (logic p d t u)
-  unfolding codeOf treeKind wrongKind
+  unfolding codeOf treeKind diagnosticOf
   means-logic p d n q =
       let c : e′ - suc e ≡ length (codeOf u) = omega (arith, n .ends) in
       let b : Lies (truthTail d) e′ (e′ + 4) (putInstr o₂ e (JumpIf d (length (codeOf u) + 3))) o₃ = record { ends = refl; code = q ∙ ap (λ x. putCode (putInstr o₂ e (JumpIf d (x + 3))) e′ (truthTail d)) c } in
@@ -67,14 +67,14 @@ module _ {pc : ℕ} {o o₁ o₂ o₃ : List ℕ} {e e′ : ℕ} {k k′ : Kind}
       op = binaryAt n
 
       by : (b : Bool) → DraftHolds (e + cond b 0 1) o₁ o₂ e′ k′ w′ u → o₃ ≡ cond b (putInstr o₂ e′ (Binary op)) (settledCode o₂ e e′ (eqb n 19))
-          → DraftHolds pc o o₃ (e′ + cond b 1 4) (cond b (binaryKind op k k′) K.Int) (earlier (cond b (unless (binaryTakes op k k′) p) nowhere) (earlier w w′)) (cond b (binary p op t u) (logic p (eqb n 19) t u))
+          → DraftHolds pc o o₃ (e′ + cond b 1 4) (cond b (binaryKind op k k′) K.Int) (earlier (cond b (unless (binaryTakes op k k′) (wrongKindAt p)) clear) (earlier w w′)) (cond b (binary p op t u) (logic p (eqb n 19) t u))
       by true h q = means-binary p op (rw add-zero at h) q
       by false h q = means-logic p (eqb n 19) (rw add-one at h) q
 
 -- ---- the branches of IF: c ends at i, t at j and u at e
-pub means-choice : {pc : ℕ} {o o₁ o₂ o₃ o₄ o₅ : List ℕ} {i j e : ℕ} {a b k : Kind} {w v x : Place} {c t u : Tree} (p : ℕ) → DraftHolds pc o o₁ i k w c → DraftHolds (i + 1) o₁ o₂ j a v t
+pub means-choice : {pc : ℕ} {o o₁ o₂ o₃ o₄ o₅ : List ℕ} {i j e : ℕ} {a b k : Kind} {w v x : Diagnostic} {c t u : Tree} (p : ℕ) → DraftHolds pc o o₁ i k w c → DraftHolds (i + 1) o₁ o₂ j a v t
     → o₃ ≡ putInstr o₂ i (JumpIf false (j - i)) → DraftHolds (j + 1) o₃ o₄ e b x u → o₅ ≡ chosenCode o₄ j e a b → DraftHolds pc o o₅ (e + length (branchTail a b)) (join a b) (earlier w (earlier v x)) (choice p c t u)
-unfolding codeOf treeKind wrongKind
+unfolding codeOf treeKind diagnosticOf
 means-choice {o₄ = o₄} {o₅ = o₅} {i = i} {j = j} {e = e} {a = a} {b = b} {t = t} {u = u} p hc ht q hu r =
     let n : j - i ≡ length (codeOf t) + 1 = omega (arith, ht .ends) in
     let m : e - suc j ≡ length (codeOf u) = omega (arith, hu .ends) in

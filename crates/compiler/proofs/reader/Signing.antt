@@ -14,7 +14,7 @@ use Rattle.operators.specs.Kinds.{unaryKind, unaryTakes}
 use Rattle.memory.specs.Cells.{bankKind}
 use Rattle.tokens.specs.Scan.{Tok}
 use Rattle.token_table.specs.private.Table.{packFields, wordPlace, wordAt, tokensFrom, TokenWords}
-use Rattle.grammar.specs.Tree.{unary, Place, nowhere, earlier, unless}
+use Rattle.grammar.specs.Tree.{unary, Diagnostic, clear, earlier, unless, wrongKindAt}
 use Rattle.grammar.specs.Symbols.{none}
 use Rattle.grammar.specs.Parse.{ok, andThen, operand}
 use Rattle.code.specs.declared.Instr.the-variants.{Unary}
@@ -45,7 +45,7 @@ operand-plain d {s} {at} {pc} {o} {o′} {r} h x = record { span = x .span; same
     go (suc f) le = rw (plain f d (tokensFrom s at) h) (x .same f (omega arith))
 
 pub operand-leaf : (d : ℕ) {s : List ℕ} {at pc c n x p : ℕ} {o o′ : List ℕ} (l : Leaf s at c n x p) → o′ ≡ set o pc (packFields c n x 0)
-    → Operand d s at pc o o′ (Done (at + 1) (pc + 1) (cond (eqb c 1) Int (cond (eqb c 2) Real (bankKind (bankAt n)))) nowhere)
+    → Operand d s at pc o o′ (Done (at + 1) (pc + 1) (cond (eqb c 1) Int (cond (eqb c 2) Real (bankKind (bankAt n)))) clear)
 operand-leaf d {pc = pc} {o = o} l e = operand-plain d (ap headSign (l .splits .split) ∙ l .plain) (leaf-reads d l e)
 
 -- ---- one unary operator
@@ -64,17 +64,17 @@ module _ (d : ℕ) {s : List ℕ} {at p pc : ℕ} {o o₁ : List ℕ} {a : Unary
       go zero le = absurd (omega arith)
       go (suc f) le = rw (sign-step d z f) (bind-stopped (λ t r. ok (unary p a t) r) h (x .same f (omega (arith, z .splits .within))))
 
-  sign-done : {j e : ℕ} {k : Kind} {w : Place} → Operand d s (suc at) pc o o₁ (Done j e k w)
-      → Operand d s at pc o (putInstr o₁ e (Unary a)) (Done j (e + 1) (unaryKind a k) (earlier (unless (unaryTakes a k) p) w))
+  sign-done : {j e : ℕ} {k : Kind} {w : Diagnostic} → Operand d s (suc at) pc o o₁ (Done j e k w)
+      → Operand d s at pc o (putInstr o₁ e (Unary a)) (Done j (e + 1) (unaryKind a k) (earlier (unless (unaryTakes a k) (wrongKindAt p)) w))
   sign-done {j} {e} {k} {w} y = record { span = reach (bounds (y .span)); same = go }
     where
       x : Operand d s (at + 1) pc o o₁ (Done j e k w)
       x = rw add-one y
 
-      reach : Bounds s (suc at) pc j e → Span s at pc (Done j (e + 1) (unaryKind a k) (earlier (unless (unaryTakes a k) p) w))
+      reach : Bounds s (suc at) pc j e → Span s at pc (Done j (e + 1) (unaryKind a k) (earlier (unless (unaryTakes a k) (wrongKindAt p)) w))
       reach b = span-done {j = j} {e = e + 1} (omega arith) (b .within) (omega arith) (omega arith)
 
-      go : (f : ℕ) → (length s - at) * 8 + 2 ≤ f → SameResult pc o (putInstr o₁ e (Unary a)) s (Done j (e + 1) (unaryKind a k) (earlier (unless (unaryTakes a k) p) w)) (operand f d (tokensFrom s at))
+      go : (f : ℕ) → (length s - at) * 8 + 2 ≤ f → SameResult pc o (putInstr o₁ e (Unary a)) s (Done j (e + 1) (unaryKind a k) (earlier (unless (unaryTakes a k) (wrongKindAt p)) w)) (operand f d (tokensFrom s at))
       go zero le = absurd (omega arith)
       go (suc f) le =
           rw (sign-step d z f) (bind-done (λ t r. ok (unary p a t) r) (x .same f (omega (arith, z .splits .within))) (λ t m. same-done (means-unary m p a refl) refl))

@@ -15,7 +15,7 @@ use Rattle.tokens.specs.declared.Token.the-variants.{Letter, Name, Symbol}
 use Rattle.tokens.specs.Scan.{Tok}
 use Rattle.token_table.specs.private.Table.{packFields, wordAt, tokensFrom, TokenWords}
 use Rattle.token_table.proofs.Laws.{tok}
-use Rattle.grammar.specs.Tree.{Tree, Place, nowhere, indexed}
+use Rattle.grammar.specs.Tree.{Tree, Diagnostic, clear, indexed}
 use Rattle.grammar.specs.Symbols.{loosest, openParen, closeParen, openIndex, closeIndex}
 use Rattle.grammar.specs.Parse.{Result, ok, andThen, expect, enter, expression, primary, bracket}
 use Rattle.code.specs.declared.Instr.the-variants.{LoadIndexed}
@@ -48,7 +48,7 @@ pub record Bounds (s : List ℕ) (at pc j e : ℕ) : Type 0 where
   pub rises : pc ≤ e
   pub slack : e + 8 * at ≤ pc + 8 * j
 
-pub bounds : {s : List ℕ} {at pc j e : ℕ} {k : Kind} {w : Place} → Span s at pc (Done j e k w) → Bounds s at pc j e
+pub bounds : {s : List ℕ} {at pc j e : ℕ} {k : Kind} {w : Diagnostic} → Span s at pc (Done j e k w) → Bounds s at pc j e
 bounds (span-done a b c d) = record { ahead = a; within = b; rises = c; slack = d }
 
 pub reached : {s : List ℕ} {at pc : ℕ} (r : ℕ) → isDone (readOf r) ≡ true → Span s at pc (readOf r) → Bounds s at pc (readNext r) (readEnd r)
@@ -65,7 +65,7 @@ module _ (d n : ℕ) {s : List ℕ} {at pc : ℕ} {o o′ : List ℕ} where
   pub enclosed-stopped : {r : Read} → Expression d s at pc o o′ r → Stopped r → Enclosed n d s at pc o o′ r
   enclosed-stopped x h = record { span = x .span; same = λ f le. bind-stopped (λ t q. expect n q (λ z. ok t z)) h (x .same f le) }
 
-  module _ {j e : ℕ} {k : Kind} {w : Place} (x : Expression d s at pc o o′ (Done j e k w)) (t : TokenWords s) where
+  module _ {j e : ℕ} {k : Kind} {w : Diagnostic} (x : Expression d s at pc o o′ (Done j e k w)) (t : TokenWords s) where
     pub enclosed-past : isMark n (wordAt s j) ≡ true → Enclosed n d s at pc o o′ (Done (j + 1) e k w)
     enclosed-past m =
         let h = there n s j t m in
@@ -126,7 +126,7 @@ unfolding primary
 letter-step d {s} {at} {b = b} h f = rw (h .split) (sym (enter-then d openIndex (tokensFrom s (at + 1)) (λ e q. bracket f e closeIndex q) (λ t q. ok (indexed b t) q)))
 
 module _ (d : ℕ) {s : List ℕ} {at pc : ℕ} {o : List ℕ} where
-  primary-leaf : {x : Tok} {k : Kind} {w : Place} {o′ : List ℕ} (t : Tree) → Splits s at x → ((f : ℕ) (xs : List Tok) → primary (suc f) d x xs ≡ ok t xs) → DraftHolds pc o o′ (pc + 1) k w t → Reading d s at pc o o′ (Done (at + 1) (pc + 1) k w)
+  primary-leaf : {x : Tok} {k : Kind} {w : Diagnostic} {o′ : List ℕ} (t : Tree) → Splits s at x → ((f : ℕ) (xs : List Tok) → primary (suc f) d x xs ≡ ok t xs) → DraftHolds pc o o′ (pc + 1) k w t → Reading d s at pc o o′ (Done (at + 1) (pc + 1) k w)
   primary-leaf {x} {k} {w} {o′} t h q m = record { span = span-done {j = at + 1} {e = pc + 1} (omega arith) (omega (arith, h .within)) (omega arith) (omega arith); same = go }
     where
       go : (f : ℕ) → (length s - at) * 8 + 1 ≤ f → SameResult pc o o′ s (Done (at + 1) (pc + 1) k w) (primaryOf f d (tokensFrom s at))
@@ -144,7 +144,7 @@ module _ (d : ℕ) {s : List ℕ} {at pc : ℕ} {o : List ℕ} where
         go zero le = absurd (omega arith)
         go (suc f) le = rw (letter-step d h f) (bind-stopped (λ t q. ok (indexed b t) q) stop (x .same f (omega (arith, h .within))))
 
-    pub letter-done : {o₁ o₂ : List ℕ} {j e : ℕ} {k : Kind} {w : Place} → Index d s (at + 1) pc o o₁ (Done j e k w) → o₂ ≡ putInstr o₁ e (LoadIndexed b) → Reading d s at pc o o₂ (Done j (e + 1) (bankKind b) w)
+    pub letter-done : {o₁ o₂ : List ℕ} {j e : ℕ} {k : Kind} {w : Diagnostic} → Index d s (at + 1) pc o o₁ (Done j e k w) → o₂ ≡ putInstr o₁ e (LoadIndexed b) → Reading d s at pc o o₂ (Done j (e + 1) (bankKind b) w)
     letter-done {o₁} {o₂} {j} {e} {k} {w} x q = record { span = reach (bounds (x .span)); same = go }
       where
         reach : Bounds s (at + 1) pc j e → Span s at pc (Done j (e + 1) (bankKind b) w)
@@ -172,5 +172,5 @@ module _ (d : ℕ) {s : List ℕ} {at pc : ℕ} {o : List ℕ} where
         go (suc f) le = rw (h .split) (rw (h .split) at (x .same f (omega arith)))
 
 pub leaf-reads : (d : ℕ) {s : List ℕ} {at pc c n x p : ℕ} {o o′ : List ℕ} (l : Leaf s at c n x p) → o′ ≡ set o pc (packFields c n x 0)
-    → Reading d s at pc o o′ (Done (at + 1) (pc + 1) (cond (eqb c 1) Int (cond (eqb c 2) Real (bankKind (bankAt n)))) nowhere)
+    → Reading d s at pc o o′ (Done (at + 1) (pc + 1) (cond (eqb c 1) Int (cond (eqb c 2) Real (bankKind (bankAt n)))) clear)
 leaf-reads d {pc = pc} {o = o} l e = primary-leaf d (l .tree) (l .splits) (λ f xs. l .reads f d xs) (rw e (l .means pc o))

@@ -9,7 +9,7 @@ use borrow.Author.Tests.{lt-ltb, le-ltb}
 use Rattle.tokens.specs.declared.Token.{Token}
 use Rattle.tokens.specs.Scan.{Tok}
 use Rattle.token_table.specs.private.Table.{wordClass, wordPlace, wordAt, listed, tokensFrom, TokenWords}
-use Rattle.grammar.specs.Tree.{Tree, nowhere, at, wrongKind}
+use Rattle.grammar.specs.Tree.{Tree, clear, at, diagnosticOf}
 use Rattle.grammar.specs.Symbols.{loosest}
 use Rattle.grammar.specs.Parse.{Result, ok, bad, deep, mostOpen, parse}
 use Rattle.grammar.proofs.Laws.{parse-is}
@@ -17,7 +17,7 @@ use Rattle.token_table.proofs.Laws.{tok}
 use Rattle.text.specs.Judge.{placeOf, judgeParse}
 use Rattle.compiler.specs.declared.Coded.the-variants as Coded
 use Rattle.tree_code.specs.Code.{codeOf}
-use Rattle.draft.specs.private.Results.{Read, Done, Bad, Deep, isDone, refusal, placed, readNext, readEnd, readKind, readWrong, readOf}
+use Rattle.draft.specs.private.Results.{Read, Done, Bad, Deep, isDone, refusal, placePart, answerPart, diagnosed, readNext, readEnd, readKind, readWrong, readOf}
 use Rattle.draft.specs.private.Words.{placeAt}
 use Rattle.draft.specs.private.Draft.{putCode}
 use Rattle.compiler.specs.private.Reading.{SameResult, same-done, same-bad, same-deep, Judged}
@@ -30,7 +30,7 @@ same : {table o o′ : List ℕ} {r : Read} → Climbed mostOpen loosest table 0
 same {table} {o} {o′} {r} x =
     let w = listed table in
     let f = length w * 4 + 2 + ((length table - 0) * 8 + 3) in
-    subst (SameResult 0 o o′ table r) (parse-is f w (omega arith)) (x .same f (omega arith))
+    subst (SameResult 0 o o′ table r) (parse-is 0 f w (omega arith)) (x .same f (omega arith))
 
 placed-at : (size p : ℕ) (s : List ℕ) (ts : List Tok) {z : List Tok} → length s ≡ size → p ≡ placeIn size ts → z ≡ ts → p ≡ placeOf s z
 placed-at size p s ts e h z = h ∙ go ts ∙ ap (placeOf s) (sym z)
@@ -53,11 +53,11 @@ module _ (s : List ℕ) {o o′ : List ℕ} where
   unfolding judgeParse
   told-more u e d = turned-down (rw (e, d) refl)
 
-  told-wrong : {p : ℕ} (u : Tree) {z : List Tok} → z ≡ [] → wrongKind u ≡ at p → Judged (judgeParse s (ok u z)) o o′ (Coded.Refused 9 p)
+  told-wrong : {p a : ℕ} (u : Tree) {z : List Tok} → z ≡ [] → diagnosticOf u ≡ at p a → Judged (judgeParse s (ok u z)) o o′ (Coded.Refused a p)
   unfolding judgeParse
   told-wrong u e d = turned-down (rw (e, d) refl)
 
-  told-done : {n : ℕ} (u : Tree) {z : List Tok} → z ≡ [] → wrongKind u ≡ nowhere → n ≡ length (codeOf u) → o′ ≡ putCode o 0 (codeOf u) → Judged (judgeParse s (ok u z)) o o′ (Coded.Done n)
+  told-done : {n : ℕ} (u : Tree) {z : List Tok} → z ≡ [] → diagnosticOf u ≡ clear → n ≡ length (codeOf u) → o′ ≡ putCode o 0 (codeOf u) → Judged (judgeParse s (ok u z)) o o′ (Coded.Done n)
   unfolding judgeParse
   told-done u e d l c = taken-up u (rw (e, d) refl) l c
 
@@ -94,14 +94,14 @@ module _ (table : List ℕ) {o o′ : List ℕ} (r : ℕ) (t : TokenWords table)
       ended : tokensFrom table (readNext r) ≡ []
       ended = ap (tokensFrom table) (sym n) ∙ none-there (look {s = table} {at = i} t word) z
 
-      pub wrong-way : {p : ℕ} → placed p ≡ readWrong r → p < 65536 → (s : List ℕ) → Judged (judgeParse s (parse (listed table))) o o′ (Coded.Refused 9 p)
-      wrong-way {p} q lt s = go (whole done)
+      pub wrong-way : {n p a : ℕ} → diagnosed n ≡ readWrong r → n < 1048576 → p ≡ placePart n → a ≡ answerPart n → (s : List ℕ) → Judged (judgeParse s (parse (listed table))) o o′ (Coded.Refused a p)
+      wrong-way {n} {p} {a} q lt e f s = go (whole done)
         where
-          go : {q : Result Tree} → Whole q → Judged (judgeParse s q) o o′ (Coded.Refused 9 p)
-          go (same-done {t = v} m c) = told-wrong s v (c ∙ ended) (m .wrong ∙ sym q ∙ rw (lt-ltb p 65536 lt))
+          go : {q : Result Tree} → Whole q → Judged (judgeParse s q) o o′ (Coded.Refused a p)
+          go (same-done {t = v} m c) = told-wrong s v (c ∙ ended) (m .wrong ∙ sym q ∙ rw (lt-ltb n 1048576 lt, e, f))
 
-      pub done-way : {p e : ℕ} → placed p ≡ readWrong r → 65536 ≤ p → e ≡ readEnd r → (s : List ℕ) → Judged (judgeParse s (parse (listed table))) o o′ (Coded.Done e)
-      done-way {p} {e} q le ends s = go (whole done)
+      pub done-way : {n e : ℕ} → diagnosed n ≡ readWrong r → 1048576 ≤ n → e ≡ readEnd r → (s : List ℕ) → Judged (judgeParse s (parse (listed table))) o o′ (Coded.Done e)
+      done-way {n} {e} q le ends s = go (whole done)
         where
           go : {q : Result Tree} → Whole q → Judged (judgeParse s q) o o′ (Coded.Done e)
-          go (same-done {t = v} m c) = told-done s v (c ∙ ended) (m .wrong ∙ sym q ∙ rw (le-ltb p 65536 le)) (omega (arith, m .ends)) (m .code)
+          go (same-done {t = v} m c) = told-done s v (c ∙ ended) (m .wrong ∙ sym q ∙ rw (le-ltb n 1048576 le)) (omega (arith, m .ends)) (m .code)

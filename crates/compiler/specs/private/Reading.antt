@@ -1,5 +1,5 @@
 -- For the contracts of private functions: what the reader, which walks a table of tokens, writes a draft and builds no tree, has to do with the parser on tokens. A result `Done j e k w` stands for a
--- tree of kind k, with its first wrong kind at w, whose code ends at e in the draft, and for the tokens from the position j on.
+-- tree of kind k, with the diagnostic w, whose code ends at e in the draft, and for the tokens from the position j on.
 use mathlib.Core.Path.{_≡_}
 use mathlib.Core.List.{List, [], _∷_}
 use Prim.Native.Nat.{ℕ, _+_, _-_, _*_, _≤_}
@@ -8,9 +8,9 @@ use Rattle.values.specs.declared.Kind.{Kind}
 use Rattle.tokens.specs.declared.Function.{Function}
 use Rattle.tokens.specs.Scan.{Tok}
 use Rattle.token_table.specs.private.Table.{tokensFrom, TokenWords}
-use Rattle.grammar.specs.Tree.{Tree, Place, treeKind, wrongKind, choice}
-use Rattle.grammar.specs.Symbols.{openParen, moreArguments, argument, callTree}
-use Rattle.grammar.specs.Parse.{Result, ok, bad, deep, andThen, expect, enter, primary, arguments}
+use Rattle.grammar.specs.Tree.{Tree, Diagnostic, treeKind, diagnosticOf, choice}
+use Rattle.grammar.specs.Symbols.{openParen, formOf, argument}
+use Rattle.grammar.specs.Parse.{Result, ok, bad, deep, andThen, expect, enter, callBody, primary, arguments}
 use Rattle.text.specs.Judge.{Judgement, accepted}
 use Rattle.tree_code.specs.Code.{codeOf}
 use Rattle.draft.specs.private.Results.{Read, Done, Bad, Deep, readNext, readEnd, readKind, readWrong}
@@ -18,22 +18,22 @@ use Rattle.draft.specs.private.Draft.{putCode}
 use Rattle.compiler.specs.declared.Coded.{Coded}
 use Rattle.compiler.specs.Compile.{codedAnswer}
 
--- the tree's kind and first wrong kind are these, and its code was put into the draft from pc up to e
-pub record DraftHolds (pc : ℕ) (o o′ : List ℕ) (e : ℕ) (k : Kind) (w : Place) (t : Tree) : Type 0 where
+-- the tree's kind and diagnostic are these, and its code was put into the draft from pc up to e
+pub record DraftHolds (pc : ℕ) (o o′ : List ℕ) (e : ℕ) (k : Kind) (w : Diagnostic) (t : Tree) : Type 0 where
   pub kind : treeKind t ≡ k
-  pub wrong : wrongKind t ≡ w
+  pub wrong : diagnosticOf t ≡ w
   pub ends : e ≡ pc + length (codeOf t)
   pub code : o′ ≡ putCode o pc (codeOf t)
 
 -- the reader's result stands for the parser's
 pub data SameResult (pc : ℕ) (o o′ s : List ℕ) : Read → Result Tree → Type 0 where
-  same-done : {j e : ℕ} {k : Kind} {w : Place} {t : Tree} {r : List Tok} → DraftHolds pc o o′ e k w t → r ≡ tokensFrom s j → SameResult pc o o′ s (Done j e k w) (ok t r)
+  same-done : {j e : ℕ} {k : Kind} {w : Diagnostic} {t : Tree} {r : List Tok} → DraftHolds pc o o′ e k w t → r ≡ tokensFrom s j → SameResult pc o o′ s (Done j e k w) (ok t r)
   same-bad : {j : ℕ} {r : List Tok} → r ≡ tokensFrom s j → SameResult pc o o′ s (Bad j) (bad r)
   same-deep : {j : ℕ} {r : List Tok} → r ≡ tokensFrom s j → SameResult pc o o′ s (Deep j) (deep r)
 
 -- reading got on from `at` and writing from pc, by at most eight instructions a token
 pub data Span (s : List ℕ) (at pc : ℕ) : Read → Type 0 where
-  span-done : {j e : ℕ} {k : Kind} {w : Place} → at + 1 ≤ j → j ≤ length s → pc ≤ e → e + 8 * at ≤ pc + 8 * j → Span s at pc (Done j e k w)
+  span-done : {j e : ℕ} {k : Kind} {w : Diagnostic} → at + 1 ≤ j → j ≤ length s → pc ≤ e → e + 8 * at ≤ pc + 8 * j → Span s at pc (Done j e k w)
   span-bad : {j : ℕ} → j ≤ length s → Span s at pc (Bad j)
   span-deep : {j : ℕ} → j ≤ length s → Span s at pc (Deep j)
 
@@ -60,7 +60,7 @@ thenSymbol n q = andThen q (λ t r. expect n r (λ z. ok t z))
 
 -- the call of g at p, from its parenthesis on
 abbrev pub callOf : Function → ℕ → ℕ → ℕ → List Tok → Result Tree
-callOf g p d f ts = enter d openParen ts (λ e r. andThen (arguments f e (moreArguments g) r) (λ us q. ok (callTree g p us) q))
+callOf g p d f ts = enter d openParen ts (λ e r. callBody (formOf g) p (λ m q. arguments f e m q) r)
 
 -- the branches of IF behind the condition c
 abbrev pub branchesOf : Tree → ℕ → ℕ → ℕ → List Tok → Result Tree

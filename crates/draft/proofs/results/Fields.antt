@@ -6,14 +6,14 @@ use native.Mathlib.Omega.{arith}
 use lib.Dec.{eqb}
 use borrow.Author.Tests.{eqb-true, eqb-false, eq-eqb, ne-eqb}
 use Rattle.values.specs.declared.Kind.{Kind}
-use Rattle.grammar.specs.Tree.{Place}
-use Rattle.draft.specs.private.Results.{Read, Done, Bad, Deep, isDone, further, refusal, kindIs, placed, readNext, readEnd, readKind, readWrong, readOf}
+use Rattle.grammar.specs.Tree.{Diagnostic}
+use Rattle.draft.specs.private.Results.{Read, Done, Bad, Deep, isDone, further, refusal, kindIs, diagnosed, readNext, readEnd, readKind, readWrong, readOf}
 
 abbrev pub status : ℕ → ℕ
 status r = r / 2 ^ 33 % 4
 
 -- ---- the result of a status
-pub made-done : (r : ℕ) {j e : ℕ} {k : Kind} {w : Place} → status r ≡ 0
+pub made-done : (r : ℕ) {j e : ℕ} {k : Kind} {w : Diagnostic} → status r ≡ 0
     → readNext r ≡ j → readEnd r ≡ e → readKind r ≡ k → readWrong r ≡ w → readOf r ≡ Done j e k w
 unfolding readOf
 made-done r s a b c d = rw (eq-eqb _ 0 s, a, b, c, d)
@@ -85,7 +85,7 @@ next-is r q = next-field (means r) ∙ ap nextOf q
 pub deep-is : (r : ℕ) {i : ℕ} → readOf r ≡ Deep i → readNext r ≡ i
 deep-is r q = next-field (means r) ∙ ap nextOf q
 
-pub done-next : (r : ℕ) {j e : ℕ} {k : Kind} {w : Place} → readOf r ≡ Done j e k w → (readNext r ≡ j) × (readEnd r ≡ e) × (readKind r ≡ k) × (readWrong r ≡ w)
+pub done-next : (r : ℕ) {j e : ℕ} {k : Kind} {w : Diagnostic} → readOf r ≡ Done j e k w → (readNext r ≡ j) × (readEnd r ≡ e) × (readKind r ≡ k) × (readWrong r ≡ w)
 done-next r q = let h = done-is r (ap isDone q) in (cc, cc, cc, cc)
 
 -- ---- one token further
@@ -108,7 +108,7 @@ module _ (r : ℕ) (h : readNext r < 65535) where
 
   further-wrong : readWrong (r + 1) ≡ readWrong r
   unfolding readNext readWrong
-  further-wrong = let e : (r + 1) / 2 ^ 35 ≡ r / 2 ^ 35 = omega arith in ap placed e
+  further-wrong = let e : (r + 1) / 2 ^ 35 ≡ r / 2 ^ 35 = omega arith in ap diagnosed e
 
   pub further-is : readOf (r + 1) ≡ further (readOf r)
   further-is = by (means r)
@@ -135,11 +135,11 @@ module _ (next end kind wrong : ℕ) (h : next < 65536) (l : end < 65536) (m : k
   unfolding readKind
   packed-kind = let e : packed / 2 ^ 32 % 2 ≡ kind = omega arith in ap kindIs e
 
-  packed-wrong : readWrong packed ≡ placed wrong
+  packed-wrong : readWrong packed ≡ diagnosed wrong
   unfolding readWrong
-  packed-wrong = let e : packed / 2 ^ 35 ≡ wrong = omega arith in ap placed e
+  packed-wrong = let e : packed / 2 ^ 35 ≡ wrong = omega arith in ap diagnosed e
 
-  pub packed-is : readOf packed ≡ Done next end (kindIs kind) (placed wrong)
+  pub packed-is : readOf packed ≡ Done next end (kindIs kind) (diagnosed wrong)
   packed-is = let s : status packed ≡ 0 = omega arith in made-done packed s packed-next packed-end packed-kind packed-wrong
 
 module _ (at : ℕ) (h : at < 65536) where

@@ -16,7 +16,7 @@ use Rattle.memory.specs.Numbers.{bankNumber}
 use Rattle.token_table.specs.private.Table.{packFields, wordPlace, wordAt}
 use Rattle.code.specs.declared.Instr.{Instr}
 use Rattle.code.specs.declared.Instr.the-variants.{PushInt, PushReal, Load, LoadIndexed, Unary, Binary, Jump, JumpIf, Unknown}
-use Rattle.grammar.specs.Tree.{Place, nowhere, unless, earlier}
+use Rattle.grammar.specs.Tree.{Diagnostic, clear, unless, earlier, wrongKindAt}
 use Rattle.tree_code.specs.Code.{truthTail, branchTailSkip, branchTail}
 use Rattle.draft.specs.private.Results.{Read, Done}
 use Rattle.draft.specs.private.Words.{unaryAt, binaryAt, prefixNumber}
@@ -69,8 +69,8 @@ joinedEnd n k = k + cond (ltb n 18) 1 4
 abbrev pub infixKind : ℕ → Kind → Kind → Kind
 infixKind n a b = cond (ltb n 18) (binaryKind (binaryAt n) a b) Int
 
-abbrev pub infixWrong : ℕ → ℕ → Kind → Kind → Place
-infixWrong n p a b = cond (ltb n 18) (unless (binaryTakes (binaryAt n) a b) p) nowhere
+abbrev pub infixWrong : ℕ → ℕ → Kind → Kind → Diagnostic
+infixWrong n p a b = cond (ltb n 18) (unless (binaryTakes (binaryAt n) a b) (wrongKindAt p)) clear
 
 -- after both branches of IF, which end at j and k and are of the kinds a and b
 abbrev pub chosenCode : List ℕ → ℕ → ℕ → Kind → Kind → List ℕ
@@ -79,6 +79,6 @@ chosenCode s j k a b = putCode (putInstr s j (Jump (k - suc j + branchTailSkip a
 -- under the unary operators from a position up to `first`, the last of them first, what was read becomes this, and the draft this
 pub data Unaries (s : List ℕ) (first : ℕ) (o : List ℕ) (r : Read) : ℕ → List ℕ → Read → Type 0 where
   none : Unaries s first o r first o r
-  more : {i j e : ℕ} {k : Kind} {w : Place} {o′ : List ℕ} → Unaries s first o r (suc i) o′ (Done j e k w)
+  more : {i j e : ℕ} {k : Kind} {w : Diagnostic} {o′ : List ℕ} → Unaries s first o r (suc i) o′ (Done j e k w)
       → Unaries s first o r i (putInstr o′ e (Unary (unaryAt (prefixNumber (wordAt s i)))))
-      (Done j (e + 1) (unaryKind (unaryAt (prefixNumber (wordAt s i))) k) (earlier (unless (unaryTakes (unaryAt (prefixNumber (wordAt s i))) k) (wordPlace (wordAt s i))) w))
+      (Done j (e + 1) (unaryKind (unaryAt (prefixNumber (wordAt s i))) k) (earlier (unless (unaryTakes (unaryAt (prefixNumber (wordAt s i))) k) (wrongKindAt (wordPlace (wordAt s i)))) w))

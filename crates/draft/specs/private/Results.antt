@@ -4,11 +4,12 @@ use Prim.Native.Nat.{ℕ, _+_, _/_, _%_, _^_}
 use lib.Dec.{eqb, ltb}
 use Rattle.values.specs.declared.Kind.{Kind}
 use Rattle.values.specs.declared.Kind.the-variants.{Int, Real}
-use Rattle.grammar.specs.Tree.{Place, nowhere, at}
+use Rattle.grammar.specs.Tree.{Diagnostic, clear, at}
 
--- where in the table and in the draft reading got to, the kind of what was read and its first wrong kind; where the first token is that no formula has there; or an opener met with eight still open
+-- where in the table and in the draft reading got to, the kind of what was read and what is wrong with it;
+-- where the first token is that no formula has there; or an opener met with eight still open
 pub data Read : Type 0 where
-  Done : ℕ → ℕ → Kind → Place → Read
+  Done : ℕ → ℕ → Kind → Diagnostic → Read
   Bad : ℕ → Read
   Deep : ℕ → Read
 
@@ -29,14 +30,20 @@ refusal (Done j e k w) = 7
 refusal (Bad i) = 7
 refusal (Deep i) = 8
 
--- a kind and a place as numbers: every number of 16 bits is a place, and any other is none, so the earlier place is the lesser number
+-- a kind and a diagnostic as numbers: place times 16 plus answer, so the earlier diagnostic is the lesser number; from 2^20 on there is none
 abbrev pub kindIs : ℕ → Kind
 kindIs n = cond (eqb n 0) Int Real
 
-abbrev pub placed : ℕ → Place
-placed n = cond (ltb n 65536) (at n) nowhere
+abbrev pub placePart : ℕ → ℕ
+placePart n = n / 16
 
--- 16 bits of a position, 16 of an end, 1 of a kind, 2 of a status, 29 of a place
+abbrev pub answerPart : ℕ → ℕ
+answerPart n = n % 16
+
+abbrev pub diagnosed : ℕ → Diagnostic
+diagnosed n = cond (ltb n 1048576) (at (placePart n) (answerPart n)) clear
+
+-- 16 bits of a position, 16 of an end, 1 of a kind, 2 of a status, 29 of a diagnostic
 unfoldable pub readNext : ℕ → ℕ
 readNext r = r % 65536
 
@@ -46,8 +53,8 @@ readEnd r = r / 65536 % 65536
 unfoldable pub readKind : ℕ → Kind
 readKind r = kindIs (r / 2 ^ 32 % 2)
 
-unfoldable pub readWrong : ℕ → Place
-readWrong r = placed (r / 2 ^ 35)
+unfoldable pub readWrong : ℕ → Diagnostic
+readWrong r = diagnosed (r / 2 ^ 35)
 
 unfoldable pub readOf : ℕ → Read
 unfolding readNext readEnd readKind readWrong

@@ -15,7 +15,7 @@ use Rattle.memory.specs.Layout.{imageSize}
 use Rattle.memory.specs.Names.{namedRule, targetRule}
 use Rattle.tokens.specs.Bytes.{runLen}
 use Rattle.tokens.specs.Symbols.{equalBytes}
-use Rattle.text.specs.Judge.{refused, judge}
+use Rattle.text.specs.Judge.{refused, judgeFrom, judge}
 use Rattle.operations.specs.Operations.{reportOf, Request, stops, ofText, ofTarget, requestAnswer, requestMemory}
 use Rattle.lines.specs.Forms.{cellPattern}
 use Rattle.lines.specs.Lines.{except, keyLength}
@@ -56,7 +56,7 @@ same-reply s t a =
 
 -- ---- a long expression is refused whatever it says
 no-formula : (s : List ℕ) → 1024 < length s → judge s ≡ refused 3 0
-unfolding judge
+unfolding judgeFrom
 no-formula s h = rw (lt-leb (length s) 1024 h, and-false)
 
 -- ---- lists

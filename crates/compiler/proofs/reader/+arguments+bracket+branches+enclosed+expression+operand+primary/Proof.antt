@@ -7,8 +7,8 @@ use Prim.Native.Nat.{ℕ, _+_, _-_, _*_, _<_}
 use native.Mathlib.Omega.{arith}
 use borrow.Author.Needs.{needs}
 use lib.ListN.{length}
-use Rattle.grammar.specs.Symbols.{openParen, moreArguments, callTree}
-use Rattle.grammar.specs.Parse.{ok, andThen, bracket as bracketOf, arguments as argumentsOf}
+use Rattle.grammar.specs.Symbols.{openParen, formOf}
+use Rattle.grammar.specs.Parse.{bracket as bracketOf, callBody, arguments as argumentsOf}
 use Rattle.draft.specs.private.Results.{isDone, readNext, readOf}
 use Rattle.draft.specs.private.Words.{functionAt}
 use Rattle.draft.specs.private.Draft.{reserved}
@@ -176,7 +176,7 @@ arguments-bad-requires t c κs = search needs
 arguments-returns : (t : ℕ) → arguments-lts.Need-returns (arguments-calls t) (arguments-at t) arguments.Post
 arguments-returns t c =
     let s = c .before .before .before .before .before in
-    λ p. being (c .bad .ensures) (shut-reads (s .args .room) openParen (λ n e q. andThen (argumentsOf n e (moreArguments (functionAt (s .args .f))) q) (λ us z. ok (callTree (functionAt (s .args .f)) p us) z)) (s .pre .1 .0 .tokens) (s .pre .1 .0 .within) (unmet (c .before .before .expected .ensures) (c .before .if1 .taken)))
+    λ p. being (c .bad .ensures) (shut-reads (s .args .room) openParen (λ n e q. callBody (formOf (functionAt (s .args .f))) p (λ m z. argumentsOf n e m z) q) (s .pre .1 .0 .tokens) (s .pre .1 .0 .within) (unmet (c .before .before .expected .ensures) (c .before .if1 .taken)))
 
 arguments-deep-requires : (t : ℕ) → arguments-lts.Need-deep-requires (arguments-calls t) (arguments-at t) arguments.Post
 arguments-deep-requires t c κs = search needs
@@ -184,7 +184,7 @@ arguments-deep-requires t c κs = search needs
 arguments-returns-2 : (t : ℕ) → arguments-lts.Need-returns-2 (arguments-calls t) (arguments-at t) arguments.Post
 arguments-returns-2 t c =
     let s = c .before .before .before .before .before .before in
-    λ p. being (c .deep .ensures) (full-reads (s .args .room) openParen (λ n e q. andThen (argumentsOf n e (moreArguments (functionAt (s .args .f))) q) (λ us z. ok (callTree (functionAt (s .args .f)) p us) z)) (s .pre .1 .0 .tokens) (s .pre .1 .0 .within) (met (c .before .before .before .expected .ensures) (c .before .before .if1 .left)) (c .before .if2 .taken))
+    λ p. being (c .deep .ensures) (full-reads (s .args .room) openParen (λ n e q. callBody (formOf (functionAt (s .args .f))) p (λ m z. argumentsOf n e m z) q) (s .pre .1 .0 .tokens) (s .pre .1 .0 .within) (met (c .before .before .before .expected .ensures) (c .before .before .if1 .left)) (c .before .if2 .taken))
 
 arguments-add-enclosed : (t : ℕ) → arguments-lts.Need-add-enclosed (arguments-calls t) (arguments-at t) arguments.Post
 arguments-add-enclosed t c = search needs

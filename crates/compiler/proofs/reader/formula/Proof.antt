@@ -45,11 +45,17 @@ returns-2 c = λ x l. more-way (c .before .before .before .before .before .befor
 wrong-of-requires : tie.Need-wrong-of-requires
 wrong-of-requires c κs = search needs
 
+answer-part-requires : tie.Need-answer-part-requires
+answer-part-requires c κs = search needs
+
+place-part-requires : tie.Need-place-part-requires
+place-part-requires c κs = search needs
+
 same-length-3 : tie.Need-same-length-3
 same-length-3 c = search needs
 
 returns-3 : tie.Need-returns-3
-returns-3 c = λ x l. wrong-way (c .before .before .before .before .before .before .before .before .before .before .before .before .before .before .args .table .now) (c .before .before .before .before .before .before .before .before .before .before .expression .result) (c .before .before .before .before .before .before .before .before .before .before .before .before .before .before .pre .tokens) (c .before .before .before .before .before .before .before .before .before .before .expression .ensures) (met (c .before .before .before .before .before .before .is-done .ensures) (c .before .before .before .before .before .if1 .left)) (c .before .before .before .before .before .before .before .next-of .ensures .0) (c .before .before .before .before .word-at .ensures) (sym (c .before .before .before .class-of .ensures) ∙ c .before .before .if2 .left) (c .before .wrong-of .ensures .0) (c .if3 .taken) x
+returns-3 c = λ x l. wrong-way (c .before .before .before .before .before .before .before .before .before .before .before .before .before .before .before .before .args .table .now) (c .before .before .before .before .before .before .before .before .before .before .before .before .expression .result) (c .before .before .before .before .before .before .before .before .before .before .before .before .before .before .before .before .pre .tokens) (c .before .before .before .before .before .before .before .before .before .before .before .before .expression .ensures) (met (c .before .before .before .before .before .before .before .before .is-done .ensures) (c .before .before .before .before .before .before .before .if1 .left)) (c .before .before .before .before .before .before .before .before .before .next-of .ensures .0) (c .before .before .before .before .before .before .word-at .ensures) (sym (c .before .before .before .before .before .class-of .ensures) ∙ c .before .before .before .before .if2 .left) (c .before .before .before .wrong-of .ensures .0) (c .before .before .if3 .taken) (c .place-part .ensures) (c .before .answer-part .ensures) x
 
 end-of-requires : tie.Need-end-of-requires
 end-of-requires c κs = search needs
@@ -77,6 +83,8 @@ formula-spec =
     same-length-2
     returns-2
     wrong-of-requires
+    answer-part-requires
+    place-part-requires
     same-length-3
     returns-3
     end-of-requires

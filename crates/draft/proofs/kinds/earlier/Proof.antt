@@ -1,7 +1,7 @@
 -- `kinds::earlier` meets its contract.
 use native.Mathlib.Nat.{le-of-lt}
 use borrow.Author.Needs.{needs}
-use Rattle.draft.proofs.kinds.Places.{earlier-first, earlier-second}
+use Rattle.draft.proofs.kinds.Diagnostics.{earlier-first, earlier-second}
 use Rattle.draft.proofs.kinds.earlier.Statement.{statement}
 use Rattle.draft.proofs.kinds.earlier.Tie as tie
 
