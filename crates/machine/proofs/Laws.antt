@@ -1,36 +1,40 @@
--- Runs of any code: no more instructions are begun than there are, and a skip over a part goes on with what follows it.
+-- Runs of any code: they count no more than its bound, which is how many instructions there are, and a skip over a part goes on with what follows it.
 use mathlib.Core.Path.{_≡_, refl}
 use mathlib.Core.List.{List, [], _∷_, _++_}
-use Prim.Native.Nat.{ℕ, zero, suc, _≤_}
+use Prim.Native.Nat.{ℕ, zero, suc, _+_, _≤_}
 use native.Mathlib.Omega.{arith}
 use lib.ListN.{length}
 use Rattle.values.specs.declared.Value.{Value}
 use Rattle.memory.specs.Environment.{Environment}
 use Rattle.code.specs.declared.Instr.{Instr}
 use Rattle.machine.specs.declared.Ran.{Ran}
-use Rattle.machine.specs.Machine.{Next, goes, halts, act, countOne, exec}
+use Rattle.machine.specs.Machine.{Next, goes, halts, act, cost, costAtMost, costBound, counting, exec}
 
 module _ (E : Environment) where
-  -- what an instruction leads to, with the code c after it
-  abbrev pub onward : List Instr → Next → Ran
-  onward c x = elim x as (λ x. Ran) [ goes k st ↦ countOne (exec E c k st) | halts e ↦ record { end = e; count = 1 } ]
+  -- what an instruction that adds n leads to, with the code c after it
+  abbrev pub onward : ℕ → List Instr → Next → Ran
+  onward n c x = elim x as (λ x. Ran) [ goes k st ↦ counting n (exec E c k st) | halts e ↦ record { end = e; count = n } ]
 
   -- the run of an instruction that is not skipped
-  pub exec-next : (i : Instr) (c : List Instr) (st : List Value) → exec E (i ∷ c) 0 st ≡ onward c (act E i st)
+  pub exec-next : (i : Instr) (c : List Instr) (st : List Value) → exec E (i ∷ c) 0 st ≡ onward (cost E i st) c (act E i st)
   unfolding exec
   exec-next i c st = refl
 
-  onward-most : (c : List Instr) (x : Next) → ((k : ℕ) (st : List Value) → exec E c k st .count ≤ length c)
-      → onward c x .count ≤ suc (length c)
-  onward-most c (goes k st) h = omega (arith, h k st)
-  onward-most c (halts e) h = omega arith
+  pub cost-is-one : (i : Instr) (st : List Value) → cost E i st ≡ 1
+  unfolding cost
+  cost-is-one i st = refl
 
-  pub count-most : (c : List Instr) (k : ℕ) (st : List Value) → exec E c k st .count ≤ length c
+  onward-most : (n m : ℕ) (c : List Instr) (x : Next) → n ≤ m → ((k : ℕ) (st : List Value) → exec E c k st .count ≤ costBound c)
+      → onward n c x .count ≤ m + costBound c
+  onward-most n m c (goes k st) l h = omega (arith, h k st)
+  onward-most n m c (halts e) l h = omega arith
+
+  pub count-most : (c : List Instr) (k : ℕ) (st : List Value) → exec E c k st .count ≤ costBound c
   unfolding exec
   count-most [] zero st = omega arith
   count-most [] (suc k) st = omega arith
   count-most (i ∷ c) (suc k) st = omega (arith, count-most c k st)
-  count-most (i ∷ c) zero st = onward-most c (act E i st) (count-most c)
+  count-most (i ∷ c) zero st = onward-most (cost E i st) (costAtMost i) c (act E i st) (omega (arith, cost-is-one i st)) (count-most c)
 
   pub exec-skip : (c d : List Instr) (k : ℕ) (st : List Value) → k ≡ length c → exec E (c ++ d) k st ≡ exec E d 0 st
   unfolding exec
@@ -38,3 +42,8 @@ module _ (E : Environment) where
   exec-skip [] d (suc k) st h = absurd (omega arith)
   exec-skip (i ∷ c) d zero st h = absurd (omega arith)
   exec-skip (i ∷ c) d (suc k) st h = exec-skip c d k st (omega arith)
+
+-- today's bound
+pub bound-length : (c : List Instr) → costBound c ≡ length c
+bound-length [] = refl
+bound-length (i ∷ c) = omega (arith, bound-length c)

@@ -24,7 +24,7 @@ use Rattle.code.specs.Encode.{Encodable, push-int, push-real, load, load-indexe
 use Rattle.code.proofs.Laws.{decode-encodable}
 use Rattle.machine.specs.declared.Ended.{Ended}
 use Rattle.machine.specs.declared.Ended.the-variants.{Done, Stopped, Stuck}
-use Rattle.machine.specs.Machine.{maxHeight, Next, goes, halts, pushValue, pushOutcome, act, finish, exec, runs}
+use Rattle.machine.specs.Machine.{maxHeight, Next, goes, halts, pushValue, pushOutcome, act, cost, finish, exec, runs}
 use Rattle.machine.proofs.Laws.{onward}
 
 data AllHeld : List Value → Type 0 where
@@ -85,10 +85,10 @@ module _ (m : List ℕ) (bytes : Bytes m) where
 
   -- ---- a run
 
-  goes-on : (c : List Instr) (x : Next) → ((k : ℕ) (st : List Value) → AllHeld st → ProperEnd (exec (memoryOf m) c k st .end))
-      → ProperNext x → ProperEnd (onward (memoryOf m) c x .end)
-  goes-on c (goes k st) h (on s) = h k st s
-  goes-on c (halts _) h (end e) = e
+  goes-on : (n : ℕ) (c : List Instr) (x : Next) → ((k : ℕ) (st : List Value) → AllHeld st → ProperEnd (exec (memoryOf m) c k st .end))
+      → ProperNext x → ProperEnd (onward (memoryOf m) n c x .end)
+  goes-on n c (goes k st) h (on s) = h k st s
+  goes-on n c (halts _) h (end e) = e
 
   last : {st : List Value} → AllHeld st → ProperEnd (finish st)
   last none = stuck
@@ -101,7 +101,7 @@ module _ (m : List ℕ) (bytes : Bytes m) where
   from code b p zero (suc k) st s = stuck
   from code b p (suc n) (suc k) st s = from code b (suc p) n k st s
   from code b p (suc n) zero st s =
-      goes-on (decodeFrom code (suc p) n) (act (memoryOf m) (decodeAt code p) st) (from code b (suc p) n)
+      goes-on (cost (memoryOf m) (decodeAt code p) st) (decodeFrom code (suc p) n) (act (memoryOf m) (decodeAt code p) st) (from code b (suc p) n)
       (decoded (decodeAt code p) (decode-encodable code p b) s)
 
 pub runs-proper : (code : List ℕ) (n : ℕ) (m : List ℕ) → Bytes code → Bytes m → ProperEnd (runs code n m .end)

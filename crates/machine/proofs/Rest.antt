@@ -17,20 +17,20 @@ use Rattle.code.proofs.Parts.{decode-beyond}
 use Rattle.machine.specs.declared.Ended.{Ended}
 use Rattle.machine.specs.declared.Ended.the-variants.{Stuck}
 use Rattle.machine.specs.declared.Ran.{Ran}
-use Rattle.machine.specs.Machine.{Next, goes, halts, act, finish, countOne, exec}
+use Rattle.machine.specs.Machine.{Next, goes, halts, act, cost, finish, counting, exec}
 use Rattle.machine.specs.private.Steps.{lesserOf, endedAt, stuckAt, finishOf, finishedAt}
-use Rattle.machine.proofs.Laws.{onward, exec-next}
+use Rattle.machine.proofs.Laws.{onward, exec-next, cost-is-one}
 
--- k instructions begun before
+-- k counted before
 abbrev pub adding : ℕ → Ran → Ran
 adding k r = endedAt (k + r .count) (r .end)
 
 adding-none : (r : Ran) → adding 0 r ≡ r
 adding-none r = ap (λ (x : ℕ). endedAt x (r .end)) (zero-add (r .count))
 
-adding-one : (k : ℕ) (r : Ran) → adding (k + 1) r ≡ adding k (countOne r)
-adding-one k r =
-    let e : k + 1 + r .count ≡ k + suc (r .count) = omega arith in
+adding-more : (k n : ℕ) (r : Ran) → adding (k + n) r ≡ adding k (counting n r)
+adding-more k n r =
+    let e : k + n + r .count ≡ k + (n + r .count) = omega arith in
     ap (λ (x : ℕ). endedAt x (r .end)) e
 
 decode-next : (code : List ℕ) (p q : ℕ) → decodeFrom code p (suc q) ≡ decodeAt code p ∷ decodeFrom code (suc p) q
@@ -57,7 +57,7 @@ module _ (E : Environment) (code : List ℕ) where
   abbrev pub wholeRun : ℕ → Ran
   wholeRun n = exec E (decodeFrom code 0 n) 0 []
 
-  -- from the place p on, with the values st held and k instructions begun
+  -- from the place p on, with the values st held and k counted
   pub record Left (n p : ℕ) (st : List Value) (k : ℕ) : Type 0 where
     pub same : adding k (exec E (decodeFrom code p (n - p)) 0 st) ≡ wholeRun n
 
@@ -65,26 +65,27 @@ module _ (E : Environment) (code : List ℕ) where
   begin n = record { same = rw sub-zero (adding-none (wholeRun n)) }
 
 module _ {E : Environment} {code : List ℕ} {n p : ℕ} {st : List Value} {k : ℕ} where
-  module _ (h : p < n) (L : Left E code n p st k) where
+  -- an instruction that adds m
+  module _ (h : p < n) (L : Left E code n p st k) (m : ℕ) (z : cost E (decodeAt code p) st ≡ m) where
     stepped : {x : Next} → act E (decodeAt code p) st ≡ x
-        → adding k (onward E (decodeFrom code (p + 1) (n - (p + 1))) x) ≡ wholeRun E code n
+        → adding k (onward E m (decodeFrom code (p + 1) (n - (p + 1))) x) ≡ wholeRun E code n
     stepped a =
         let u : n - p ≡ suc (n - (p + 1)) = omega arith in
-        rw (← a, ← exec-next) (rw (u, decode-next, ← (add-one p)) at (L .same))
+        rw (← a, ← z, ← exec-next) (rw (u, decode-next, ← (add-one p)) at (L .same))
 
     pub goes-on : {d : ℕ} {st′ : List Value} → act E (decodeAt code p) st ≡ goes d st′ → d ≤ n - (p + 1)
-        → Left E code n (p + 1 + d) st′ (k + 1)
+        → Left E code n (p + 1 + d) st′ (k + m)
     goes-on {d} {st′} a l =
         let q : n - (p + 1 + d) ≡ n - (p + 1) - d = omega arith in
-        record { same = rw (q, adding-one, ← (skip E code d (p + 1) (n - (p + 1)) st′ l)) (stepped a) }
+        record { same = rw (q, adding-more, ← (skip E code d (p + 1) (n - (p + 1)) st′ l)) (stepped a) }
 
-    pub stops : {e : Ended} → act E (decodeAt code p) st ≡ halts e → endedAt (k + 1) e ≡ wholeRun E code n
+    pub stops : {e : Ended} → act E (decodeAt code p) st ≡ halts e → endedAt (k + m) e ≡ wholeRun E code n
     stops a = stepped a
 
     -- a jump past the end
     pub strays : {d : ℕ} {st′ : List Value} → act E (decodeAt code p) st ≡ goes d st′ → n - (p + 1) < d
-        → stuckAt (k + 1) ≡ wholeRun E code n
-    strays {d} {st′} a l = rw (lost E code d (p + 1) (n - (p + 1)) st′ l) at (stepped a)
+        → stuckAt (k + m) ≡ wholeRun E code n
+    strays {d} {st′} a l = rw (lost E code d (p + 1) (n - (p + 1)) st′ l, add-zero) at (stepped a)
 
   pub ends : {e : Ended} → n ≤ p → Left E code n p st k → finish st ≡ e → endedAt k e ≡ wholeRun E code n
   unfolding exec decodeFrom
@@ -127,12 +128,13 @@ pub starts : (E : Environment) (code : List ℕ) (n : ℕ) → Stands E code n 0
 starts E code n = record { within = λ q. begin E code n; beyond = λ q. absurd (omega arith) }
 
 module _ {E : Environment} {code : List ℕ} {n p : ℕ} {st : List Value} {k : ℕ} where
-  pub advances : p < n → Left E code n p st k → {d : ℕ} {st′ : List Value} → act E (decodeAt code p) st ≡ goes d st′ → Stands E code n (p + (1 + d)) st′ (k + 1)
-  advances h L {d} a =
+  pub advances : p < n → Left E code n p st k → (m : ℕ) → cost E (decodeAt code p) st ≡ m → {d : ℕ} {st′ : List Value} → act E (decodeAt code p) st ≡ goes d st′
+      → Stands E code n (p + (1 + d)) st′ (k + m)
+  advances h L m z {d} a =
       let next : p + (1 + d) ≡ p + 1 + d = omega arith in
       record {
-        within = λ q. rw next (goes-on h L a (omega arith));
-        beyond = λ q. strays h L a (omega arith);
+        within = λ q. rw next (goes-on h L m z a (omega arith));
+        beyond = λ q. strays h L m z a (omega arith);
       }
 
   -- where the code has no instruction
@@ -143,7 +145,7 @@ module _ {E : Environment} {code : List ℕ} {n p : ℕ} {st : List Value} {k : 
       beneath true e r =
           let more : p < n = ltb-true p n e in
           let none : decodeAt code p ≡ Unknown = decode-beyond code p (no-more n (length code / 8) p more q) in
-          stops more (S .within r) (rw none (unknown-stuck E st))
+          stops more (S .within r) 1 (cost-is-one E (decodeAt code p) st) (rw none (unknown-stuck E st))
       beneath false e r = ends (ltb-false p n e) (S .within r) f
 
       over : (t : Bool) → ltb n p ≡ t → cond t (stuckAt k) (cond (ltb p n) (stuckAt (k + 1)) (endedAt k (finishOf h v))) ≡ wholeRun E code n

@@ -23,9 +23,10 @@ use Rattle.machine.specs.private.Steps.{wordOf, stepOf, failedAt}
 use Rattle.machine.proofs.How.{the-type}
 use Rattle.machine.proofs.Held.{none, held, held-push}
 use Rattle.machine.proofs.Acts.{Leads, push, skip, stop, stick, decoded-near, leads}
+use Rattle.machine.proofs.Laws.{cost-is-one}
 use Rattle.machine.proofs.Rest.{wholeRun, Left, stops, Stands, advances}
 
--- at the place p, with h values of the array s held and k instructions begun: the instruction leads to y, and makes the step x
+-- at the place p, with h values of the array s held and k counted: the instruction leads to y, and makes the step x
 pub record Turn (E : Environment) (code : List ℕ) (n p h : ℕ) (s : List Value) (k : ℕ) (x : Step) : Type 0 where
   pub in-code : p < n
   pub rest : Left E code n p (held h s) k
@@ -78,10 +79,10 @@ module _ (E : Environment) (code : List ℕ) (n p : ℕ) (s : List Value) (k : �
 
 module _ {E : Environment} {code : List ℕ} {n p h : ℕ} {s : List Value} {k : ℕ} where
   leads-on : {y : Next} {x : Step} → p < n → Left E code n p (held h s) k → act E (decodeAt code p) (held h s) ≡ y → Leads s h y x → Onward E code n p s k x (x .how)
-  leads-on c L a (push m v q r) = (r, λ l. rw (held-push m s v (omega arith)) (advances c L a))
-  leads-on c L a (skip m d q r) = advances c L a
-  leads-on c L a (stop f) = stops c L a
-  leads-on c L a stick = stops c L a
+  leads-on c L a (push m v q r) = (r, λ l. rw (held-push m s v (omega arith)) (advances c L 1 (cost-is-one E (decodeAt code p) (held h s)) a))
+  leads-on c L a (skip m d q r) = advances c L 1 (cost-is-one E (decodeAt code p) (held h s)) a
+  leads-on c L a (stop f) = stops c L 1 (cost-is-one E (decodeAt code p) (held h s)) a
+  leads-on c L a stick = stops c L 1 (cost-is-one E (decodeAt code p) (held h s)) a
 
   module _ {x : Step} (t : Turn E code n p h s k x) where
     pub onward : {w : How} → x .how ≡ w → Onward E code n p s k x w

@@ -3,7 +3,7 @@
 -- "Instructions executed are those begun, the faulting one included". Total for any bytes: `Stuck` is what the verifier rules out.
 use mathlib.Core.Bool.{cond, Bool·beq}
 use mathlib.Core.List.{List, [], _∷_}
-use Prim.Native.Nat.{ℕ, zero, suc}
+use Prim.Native.Nat.{ℕ, zero, suc, _+_}
 use lib.Dec.{ltb}
 use lib.ListN.{length}
 use Rattle.values.specs.declared.Value.{Value}
@@ -52,6 +52,18 @@ act E (JumpIf t d) [] = halts Stuck
 act E (JumpIf t d) (v ∷ st) = cond (Bool·beq (truthRule v) t) (goes d st) (goes 0 st)
 act E Unknown st = halts Stuck
 
+-- what an instruction that is begun adds to the count
+unfoldable pub cost : Environment → Instr → List Value → ℕ
+cost E i st = 1
+
+-- the most that it adds, whatever the memory and the values held, and the most that the instructions of some code add
+abbrev pub costAtMost : Instr → ℕ
+costAtMost i = 1
+
+abbrev pub costBound : List Instr → ℕ
+costBound [] = 0
+costBound (i ∷ c) = costAtMost i + costBound c
+
 -- how a run ends that gives an outcome
 abbrev pub endOf : Outcome → Ended
 endOf (Outcome.Done v) = Done v
@@ -64,16 +76,16 @@ finish [] = Stuck
 finish (v ∷ []) = Done v
 finish (v ∷ (w ∷ st)) = Stuck
 
-abbrev pub countOne : Ran → Ran
-countOne r = record { end = r .end; count = suc (r .count) }
+abbrev pub counting : ℕ → Ran → Ran
+counting n r = record { end = r .end; count = n + r .count }
 
 -- the instructions left, how many of them to skip, the values held
 unfoldable pub exec : Environment → List Instr → ℕ → List Value → Ran
-unfolding act
+unfolding act cost
 exec E [] zero st = record { end = finish st; count = 0 }
 exec E [] (suc k) st = record { end = Stuck; count = 0 }
 exec E (i ∷ c) (suc k) st = exec E c k st
-exec E (i ∷ c) zero st = elim (act E i st) [ goes k st′ ↦ countOne (exec E c k st′) | halts e ↦ record { end = e; count = 1 } ]
+exec E (i ∷ c) zero st = elim (act E i st) [ goes k st′ ↦ counting (cost E i st) (exec E c k st′) | halts e ↦ record { end = e; count = cost E i st } ]
 
 -- the first n instructions of the code, from no values held
 abbrev pub runs : List ℕ → ℕ → List ℕ → Ran

@@ -14,6 +14,7 @@ use Rattle.text.specs.Theorems.{AcceptedFormula}
 use Rattle.code.specs.Instructions.{instructions}
 use Rattle.code.proofs.Parts.{decode-length}
 use Rattle.machine.specs.Machine.{runs}
+use Rattle.machine.proofs.Laws.{bound-length}
 use Rattle.verifier.specs.Accepts as Verifier
 use Rattle.verifier.proofs.Safe.{safe, memory-kinded}
 use Rattle.tree_code.specs.Code.{codeOf}
@@ -51,7 +52,7 @@ module _ (code : List ℕ) (n : ℕ) where
   pub ends : checkAnswer code n ≡ doneWith 0 → (k : Kind) × Ends code n n k
   ends e =
       let a = accepted-by code n e in
-      (a .0, well (a .1) n (λ m. omega (arith, safe .counts (memoryOf m) (instructions code n), decode-length code 0 n)))
+      (a .0, well (a .1) n (λ m. omega (arith, safe .counts (memoryOf m) (instructions code n), bound-length (instructions code n), decode-length code 0 n)))
 
 -- ---- compiled code
 

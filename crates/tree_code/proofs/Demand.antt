@@ -8,13 +8,13 @@ use Rattle.grammar.specs.Tree.{Tree, treeKind, clear, diagnosticOf}
 use Rattle.grammar.specs.Grammar.{Formula}
 use Rattle.grammar.specs.Theorems.{Shallow}
 use Rattle.machine.specs.Machine.{maxHeight}
+use Rattle.machine.proofs.Laws.{count-most, bound-length}
 use Rattle.verifier.specs.Accepts.{Accepts}
 use Rattle.verifier.proofs.Safe.{safe}
 use Rattle.tree_code.specs.Code.{codeOf}
 use Rattle.tree_code.specs.Demand.{leastBytes, Compiled, Demand}
 use Rattle.tree_code.proofs.Well.{well}
 use Rattle.tree_code.proofs.Need.{need}
-use Rattle.tree_code.proofs.Gives.{begun}
 use Rattle.tree_code.proofs.Correct.{whole}
 use Rattle.tree_code.proofs.Accepted.{accepted}
 use Rattle.tree_code.proofs.Laws.{code-some, worth-of-kind}
@@ -31,7 +31,7 @@ compiled w t n formula shallow right long short =
       accepted = taken;
       stack = λ E kinded. safe .stack E (codeOf t) (treeKind t) kinded taken;
       short = omega (arith, small formula);
-      quick = λ E. omega (arith, small formula, begun E (codeOf t) 0 []);
+      quick = λ E. omega (arith, small formula, count-most E (codeOf t) 0 [], bound-length (codeOf t));
     }
 
 pub demand : Demand

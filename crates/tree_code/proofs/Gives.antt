@@ -2,7 +2,7 @@
 use mathlib.Core.Path.{_≡_, refl, ap, _∙_}
 use mathlib.Core.Bool.{Bool, true, false, cond, Bool·beq}
 use mathlib.Core.List.{List, [], _∷_, _++_, append-assoc}
-use Prim.Native.Nat.{ℕ, zero, suc, _+_, _≤_, _<_}
+use Prim.Native.Nat.{ℕ, zero, suc, _+_, _<_}
 use native.Mathlib.Omega.{arith}
 use lib.ListN.{length}
 use borrow.Author.Tests.{lt-ltb}
@@ -15,8 +15,8 @@ use Rattle.code.specs.declared.Instr.{Instr}
 use Rattle.code.specs.declared.Instr.the-variants.{Jump, JumpIf}
 use Rattle.machine.specs.declared.Ended.{Ended}
 use Rattle.machine.specs.declared.Ended.the-variants as Ended
-use Rattle.machine.specs.declared.Ran.{Ran}
-use Rattle.machine.specs.Machine.{maxHeight, Next, goes, halts, pushOutcome, act, countOne, exec}
+use Rattle.machine.specs.Machine.{maxHeight, Next, goes, halts, pushOutcome, act, cost, exec}
+use Rattle.machine.proofs.Laws.{onward}
 use Rattle.grammar.specs.Eval.{then}
 
 -- how a run of c ends that skips k instructions and holds the values st
@@ -43,7 +43,7 @@ module _ (E : Environment) where
   unfolding exec after
   step i c st = go (act E i st)
     where
-      go : (x : Next) → (elim x as (λ x. Ran) [ goes k st′ ↦ countOne (exec E c k st′) | halts e ↦ record { end = e; count = 1 } ]) .end ≡ after E x c
+      go : (x : Next) → onward E (cost E i st) c x .end ≡ after E x c
       go (goes k st′) = refl
       go (halts e) = refl
 
@@ -58,18 +58,6 @@ module _ (E : Environment) where
   skips [] c k n st e = ap (λ (m : ℕ). ends E c m st) (e ∙ omega arith)
   skips (i ∷ a) c k zero st e = absurd (omega arith)
   skips (i ∷ a) c k (suc n) st e = skips a c k n st (omega arith)
-
-  -- a run begins at most as many instructions as there are
-  pub begun : (c : List Instr) (k : ℕ) (st : List Value) → exec E c k st .count ≤ length c
-  unfolding exec
-  begun [] zero st = omega arith
-  begun [] (suc k) st = omega arith
-  begun (i ∷ c) (suc k) st = omega (arith, begun c k st)
-  begun (i ∷ c) zero st = go (act E i st) (begun c)
-    where
-      go : (x : Next) → ((k : ℕ) (st : List Value) → exec E c k st .count ≤ length c) → (elim x as (λ x. Ran) [ goes k st′ ↦ countOne (exec E c k st′) | halts e ↦ record { end = e; count = 1 } ]) .count ≤ suc (length c)
-      go (goes k st′) h = omega (arith, h k st′)
-      go (halts e) h = omega arith
 
 module _ {E : Environment} where
   -- ---- one instruction

@@ -23,7 +23,7 @@ use Rattle.memory.proofs.Laws.{memory-laws}
 use Rattle.code.specs.declared.Instr.{Instr}
 use Rattle.code.specs.declared.Instr.the-variants.{PushInt, PushReal, Load, LoadIndexed, Unary, Binary, Jump, JumpIf, Unknown}
 use Rattle.machine.specs.declared.Ended.the-variants.{Stopped}
-use Rattle.machine.specs.Machine.{maxHeight, Next, goes, halts, pushValue, pushOutcome, act, finish, exec}
+use Rattle.machine.specs.Machine.{maxHeight, Next, goes, halts, pushValue, pushOutcome, act, cost, finish, exec}
 use Rattle.machine.specs.Configurations.{Configuration, first, skip, step, Finishes}
 use Rattle.machine.proofs.Laws.{onward as after, count-most}
 use Rattle.verifier.specs.Typing.{Shape, Move, illTyped, next, fork, pushKind, moveOf}
@@ -185,9 +185,9 @@ module _ (E : Environment) (K : Kinded E) (c : List Instr) (k : Kind) (acc : Acc
 
   goes-on : {i : Instr} {left : List Instr} {st : List Value} → Configuration E c (i ∷ left) 0 st
       → ((d : ℕ) (st′ : List Value) → Configuration E c left d st′ → EndsWell k (exec E left d st′ .end))
-      → (x : Next) → act E i st ≡ x → {p : ℕ} {m : Move} → Follows p m x → EndsWell k (after E left x .end)
-  goes-on C ih (halts _) e (ends f) = fault f
-  goes-on C ih (goes d st′) e (leads w h) = ih d st′ (step C e)
+      → (n : ℕ) (x : Next) → act E i st ≡ x → {p : ℕ} {m : Move} → Follows p m x → EndsWell k (after E n left x .end)
+  goes-on C ih n (halts _) e (ends f) = fault f
+  goes-on C ih n (goes d st′) e (leads w h) = ih d st′ (step C e)
 
   runs : (left : List Instr) (d : ℕ) (st : List Value) → Configuration E c left d st → EndsWell k (exec E left d st .end)
   unfolding exec
@@ -196,7 +196,7 @@ module _ (E : Environment) (K : Kinded E) (c : List Instr) (k : Kind) (acc : Acc
       let a = place C in
       absurd (omega (arith, ap length (a .1 .rest), length-drop (a .0) c, a .1 .in-code))
   runs (i ∷ left) (suc d) st C = runs left d st (skip C)
-  runs (i ∷ left) zero st C = goes-on C (runs left) (act E i st) refl (after-it (place C .1) refl)
+  runs (i ∷ left) zero st C = goes-on C (runs left) (cost E i st) (act E i st) refl (after-it (place C .1) refl)
 
 pub safe : Safe
 safe = record {

@@ -15,7 +15,7 @@ use Rattle.code.specs.declared.Instr.{Instr}
 use Rattle.machine.specs.declared.Ended.{Ended}
 use Rattle.machine.specs.declared.Ended.the-variants.{Done, Stopped}
 use Rattle.memory.specs.Environment.{Environment}
-use Rattle.machine.specs.Machine.{exec}
+use Rattle.machine.specs.Machine.{costBound, exec}
 use Rattle.verifier.specs.Accepts.{Accepts}
 use Rattle.verifier.specs.Stack.{StackSafe}
 
@@ -31,5 +31,5 @@ pub data EndsWell (k : Kind) : Ended → Type 0 where
 
 pub record Safe : Type 0 where
   pub ends : (E : Environment) (c : List Instr) (k : Kind) → Kinded E → Accepts c k → EndsWell k (exec E c 0 [] .end)
-  pub counts : (E : Environment) (c : List Instr) → exec E c 0 [] .count ≤ length c
+  pub counts : (E : Environment) (c : List Instr) → exec E c 0 [] .count ≤ costBound c
   pub stack : (E : Environment) (c : List Instr) (k : Kind) → Kinded E → Accepts c k → StackSafe E c k
