@@ -17,9 +17,9 @@ use Rattle.tokens.specs.declared.Token.{Token}
 use Rattle.tokens.specs.declared.Token.the-variants.{Number}
 use Rattle.tokens.specs.declared.Scanned.{Scanned}
 use Rattle.tokens.specs.declared.Scanned.the-variants.{Good, Bad}
-use Rattle.tokens.specs.Bytes.{all, isLetter, isWord, isRun, runLen}
+use Rattle.tokens.specs.Bytes.{all, isLetter, isWord, isRun, runLen, isHex}
 use Rattle.tokens.specs.Symbols.{equalBytes, symbolCount, longest}
-use Rattle.tokens.specs.Numerals.{nonEmpty, decimalDigits, isHex, hexOf, isHexRun, notDot, realOf, numeralOf}
+use Rattle.tokens.specs.Numerals.{nonEmpty, decimalDigits, hexOf, isHexRun, notDot, realOf, numeralOf}
 use Rattle.tokens.specs.Words.{nameOf, functionNamed, functions, letterWord, cellWord, otherWord, wordToken}
 use Rattle.tokens.specs.Scan.{Lexeme, Found, Wrong, End, lexeme, runLexeme, lexemeOf, blanks, lexemeAt}
 use Rattle.tokens.proofs.Laws.{found}

@@ -15,8 +15,8 @@ use Rattle.memory.specs.declared.names.Named.{Named}
 use Rattle.memory.specs.declared.names.Named.the-variants.{Cell, Other}
 use Rattle.memory.specs.Layout.{layoutOf}
 use Rattle.memory.specs.Names.{letterBank, noLeadingZero, allDigits, decimalValue, numberBelow, cellAfterLetter, namedRule, storable, targetRule}
-use Rattle.tokens.specs.Bytes.{all}
-use Rattle.tokens.specs.Numerals.{isHex, hexFrom, isHexRun}
+use Rattle.tokens.specs.Bytes.{all, isHex}
+use Rattle.tokens.specs.Numerals.{hexFrom, isHexRun}
 use Rattle.lines.specs.declared.forms.Form.the-variants as Form
 use Rattle.lines.specs.Forms.{naturalForm, negativeForm, signedForm, hexForm, cellPattern}
 use Rattle.lines.specs.Printing.{widthOf}

@@ -8,8 +8,8 @@ use native.Mathlib.Omega.{arith}
 use lib.Dec.{ltb}
 use lib.ListN.{length}
 use borrow.Author.Tests.{ltb-true, ltb-false, le-leb, lt-leb}
-use Rattle.tokens.specs.Bytes.{all}
-use Rattle.tokens.specs.Numerals.{isHex, hexDigit, hexFrom}
+use Rattle.tokens.specs.Bytes.{all, isHex}
+use Rattle.tokens.specs.Numerals.{hexDigit, hexFrom}
 use Rattle.lines.specs.declared.forms.Form.the-variants.{Pattern}
 use Rattle.lines.specs.Forms.{hexForm}
 use Rattle.lines.specs.Printing.{numeralByte, digitsOf}

@@ -8,8 +8,8 @@ use lib.ListN.{length, drop}
 use Rattle.memory.specs.declared.Bank.{Bank}
 use Rattle.memory.specs.declared.Bank.the-variants.{X, C, «V», N, D, R}
 use Rattle.memory.specs.Names.{decimalValue, numberBelow}
-use Rattle.tokens.specs.Bytes.{all}
-use Rattle.tokens.specs.Numerals.{isHex, hexFrom, isHexRun}
+use Rattle.tokens.specs.Bytes.{all, isHex}
+use Rattle.tokens.specs.Numerals.{hexFrom, isHexRun}
 use Rattle.lines.specs.declared.forms.Form.{Form}
 use Rattle.lines.specs.declared.forms.Form.the-variants.{Pattern, Other}
 use Rattle.words.specs.Ascii.{byte}

@@ -1,9 +1,10 @@
 // The value of a cell in text: the pattern to write, for a value of the bank's form and range.
 ghost use mathlib.Core.Path.{_≡_};
-ghost use Prim.Native.Nat.{_≤_, _<_};
+ghost use Prim.Native.Nat.{_≤_};
 ghost use Rattle.lines.specs.Forms.{naturalForm, negativeForm, signedForm, hexForm, cellPattern};
 ghost use Rattle.lines.specs.private.Steps.{valueForm, tokenForm, scannedForm};
 use memory::Bank;
+use memory::names::Number;
 use tokens::Scanned;
 use tokens::Token;
 use values::Value;
@@ -13,36 +14,20 @@ pub enum Form {
     Other,
 }
 
-// A decimal number without a leading zero, below a bound. It is left early at the bound: more digits make no number smaller.
+// A decimal number without a leading zero, below a bound.
 fn natural(digits: &[u8], bound: u64) -> Form
-    requires { ⌜ (0 < bound) × (bound ≤ 4294967296) ⌝ }
+    requires { ⌜ bound ≤ 4294967296 ⌝ }
     ensures { λ r. ⌜ r ≡ naturalForm bound (now (digits .entry)) ⌝ }
 {
-    if digits.len() == 0 {
-        return Form::Other;
+    match memory::names::number_below(digits, bound) {
+        Number::Is(n) => Form::Pattern(n),
+        Number::Other => Form::Other,
     }
-    if digits[0] == 48 && digits.len() != 1 {
-        return Form::Other;
-    }
-    let mut n: u64 = 0;
-    let mut i = 0;
-    while i < digits.len() {
-        let b = digits[i];
-        if !memory::names::is_digit(b) {
-            return Form::Other;
-        }
-        n = n * 10 + ((b - 48) as u64);
-        if bound <= n {
-            return Form::Other;
-        }
-        i += 1;
-    }
-    Form::Pattern(n as u32)
 }
 
 // The digits after a `-`.
 fn negative(digits: &[u8], half: u64) -> Form
-    requires { ⌜ (0 < half) × (half ≤ 2147483648) ⌝ }
+    requires { ⌜ half ≤ 2147483648 ⌝ }
     ensures { λ r. ⌜ r ≡ negativeForm half (now (digits .entry)) ⌝ }
 {
     match natural(digits, half + 1) {
@@ -57,7 +42,7 @@ fn negative(digits: &[u8], half: u64) -> Form
 }
 
 fn signed(text: &[u8], half: u64) -> Form
-    requires { ⌜ (0 < half) × (half ≤ 2147483648) ⌝ }
+    requires { ⌜ half ≤ 2147483648 ⌝ }
     ensures { λ r. ⌜ r ≡ signedForm half (now (text .entry)) ⌝ }
 {
     if text.len() == 0 {

@@ -2,14 +2,14 @@
 -- one word that is a C, V, N, D or R cell, no spaces".
 use mathlib.Core.Bool.{Bool, true, false, _&&_, cond}
 use mathlib.Core.List.{List, [], _∷_}
-use Prim.Native.Nat.{ℕ, _+_, _-_, _*_}
+use Prim.Native.Nat.{ℕ, _+_, _-_, _*_, _^_}
 use lib.Dec.{eqb, leb, ltb}
 use Rattle.memory.specs.declared.Bank.{Bank}
 use Rattle.memory.specs.declared.Bank.the-variants.{X, C, «V», N, D, R}
 use Rattle.memory.specs.declared.names.Letter.{Letter}
 use Rattle.memory.specs.declared.names.Letter.the-variants as L
-use Rattle.memory.specs.declared.names.Element.{Element}
-use Rattle.memory.specs.declared.names.Element.the-variants as E
+use Rattle.memory.specs.declared.names.Number.{Number}
+use Rattle.memory.specs.declared.names.Number.the-variants as Number
 use Rattle.memory.specs.declared.names.Named.{Named}
 use Rattle.memory.specs.declared.names.Named.the-variants as A
 use Rattle.memory.specs.Layout.{layoutOf}
@@ -33,6 +33,11 @@ abbrev pub allDigits : List ℕ → Bool
 allDigits [] = true
 allDigits (c ∷ cs) = isDigit c && allDigits cs
 
+-- the digits that some bytes begin with
+abbrev pub digitsOf : List ℕ → List ℕ
+digitsOf [] = []
+digitsOf (c ∷ cs) = cond (isDigit c) (c ∷ digitsOf cs) []
+
 -- there is a digit, and no leading zero but in `0` itself
 abbrev pub noLeadingZero : List ℕ → Bool
 noLeadingZero [] = false
@@ -47,12 +52,16 @@ decimalFrom n (c ∷ cs) = decimalFrom (n * 10 + (c - byte "0")) cs
 abbrev pub decimalValue : List ℕ → ℕ
 decimalValue cs = decimalFrom 0 cs
 
+-- more than any decimal that is asked for: a reader need not tell larger ones apart
+abbrev pub decimalLimit : ℕ
+decimalLimit = 2 ^ 32
+
 -- a decimal number without a leading zero, below n
 abbrev pub numberBelow : ℕ → List ℕ → Bool
 numberBelow n cs = noLeadingZero cs && allDigits cs && ltb (decimalValue cs) n
 
-abbrev pub elementRule : List ℕ → Element
-elementRule cs = cond (numberBelow 256 cs) (E.At (decimalValue cs)) E.Other
+abbrev pub numberRule : ℕ → List ℕ → Number
+numberRule n cs = cond (numberBelow n cs) (Number.Is (decimalValue cs)) Number.Other
 
 -- the digits cs after a bank letter
 abbrev pub cellAfterLetter : List ℕ → Letter → Named

@@ -1,6 +1,8 @@
 // Names of cells: a bank letter and an element's number (paper 01, "Tokens" and answer 2).
 ghost use mathlib.Core.Path.{_≡_};
-ghost use Rattle.memory.specs.Names.{letterBank, isDigit, elementRule, namedRule, targetRule};
+ghost use Prim.Native.Nat.{_+_, _≤_, min};
+ghost use lib.ListN.{length, drop};
+ghost use Rattle.memory.specs.Names.{letterBank, isDigit, digitsOf, decimalFrom, decimalLimit, numberRule, namedRule, targetRule};
 use crate::Bank;
 
 pub enum Letter {
@@ -8,8 +10,14 @@ pub enum Letter {
     Other,
 }
 
-pub enum Element {
-    At(u32),
+// Digits that were read: their number, at most LIMIT, and where they end.
+pub struct Reading {
+    pub value: u64,
+    pub end: usize,
+}
+
+pub enum Number {
+    Is(u32),
     Other,
 }
 
@@ -41,30 +49,54 @@ pub fn is_digit(b: u8) -> bool
     b <= 57
 }
 
-// A decimal number below 256 without a leading zero. It is left early above that: more digits make no number smaller.
-pub fn element_of(digits: &[u8]) -> Element
-    ensures { λ r. ⌜ r ≡ elementRule (now (digits .entry)) ⌝ }
+// No number that is asked for is larger, so larger ones need not be told apart.
+const LIMIT: u64 = 4294967296;
+
+fn at_most_limit(n: u64) -> u64
+    ensures { λ r. ⌜ r ≡ min n decimalLimit ⌝ }
 {
-    if digits.len() == 0 {
-        return Element::Other;
-    }
-    if digits[0] == 48 && digits.len() != 1 {
-        return Element::Other;
-    }
-    let mut n: u32 = 0;
-    let mut i = 0;
-    while i < digits.len() {
-        let b = digits[i];
+    if n < LIMIT { n } else { LIMIT }
+}
+
+// The digits that stand at a position, after those that make n.
+pub fn digits(text: &[u8], at: usize, n: u64) -> Reading
+    requires { ⌜ (at ≤ length (now text)) × (n ≤ decimalLimit) ⌝ }
+    ensures { λ r. ⌜ r .value ≡ min (decimalFrom n (digitsOf (drop at (now (text .entry))))) decimalLimit ⌝ }
+    ensures { λ r. ⌜ (r .end ≡ at + length (digitsOf (drop at (now (text .entry))))) × (r .end ≤ length (now (text .entry))) ⌝ }
+{
+    let mut value = n;
+    let mut i = at;
+    while i < text.len() {
+        let b = text[i];
         if !is_digit(b) {
-            return Element::Other;
+            return Reading { value, end: i };
         }
-        n = n * 10 + ((b - 48) as u32);
-        if 255 < n {
-            return Element::Other;
-        }
+        value = at_most_limit(value * 10 + ((b - 48) as u64));
         i += 1;
     }
-    Element::At(n)
+    Reading { value, end: i }
+}
+
+// A decimal number without a leading zero, below a bound.
+pub fn number_below(text: &[u8], bound: u64) -> Number
+    requires { ⌜ bound ≤ decimalLimit ⌝ }
+    ensures { λ r. ⌜ r ≡ numberRule bound (now (text .entry)) ⌝ }
+{
+    if text.len() == 0 {
+        return Number::Other;
+    }
+    if text[0] == b'0' && text.len() != 1 {
+        return Number::Other;
+    }
+    let d = digits(text, 0, 0);
+    let n = d.value;
+    if d.end != text.len() {
+        return Number::Other;
+    }
+    if bound <= n {
+        return Number::Other;
+    }
+    Number::Is(n as u32)
 }
 
 pub fn cell_named(word: &[u8]) -> Named
@@ -76,13 +108,9 @@ pub fn cell_named(word: &[u8]) -> Named
     let Letter::Of(bank) = bank_of(word[0]) else {
         return Named::Other;
     };
-    let Element::At(n) = element_of(&word[1..]) else {
-        return Named::Other;
-    };
-    if n < crate::layout_of(bank).elements {
-        Named::Cell(bank, n)
-    } else {
-        Named::Other
+    match number_below(&word[1..], crate::layout_of(bank).elements as u64) {
+        Number::Is(n) => Named::Cell(bank, n),
+        Number::Other => Named::Other,
     }
 }
 

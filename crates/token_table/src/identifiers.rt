@@ -1,59 +1,61 @@
-// Words: a cell is read in one go; any other run is judged as a whole.
+// Words: what has a digit in the second place can only be a cell, and is read in one go.
 ghost use mathlib.Core.Path.{_≡_};
-ghost use mathlib.Core.Bool.{true};
-ghost use Prim.Native.Nat.{_<_, _≤_};
+ghost use mathlib.Core.Bool.{true, false};
+ghost use Prim.Native.Nat.{_+_, _<_, _≤_};
 ghost use lib.ListN.{length, getD, drop};
 ghost use Rattle.memory.specs.declared.names.Letter.the-variants.{Of};
-ghost use Rattle.memory.specs.Names.{letterBank};
+ghost use Rattle.memory.specs.Names.{isDigit, letterBank};
 ghost use Rattle.tokens.specs.Bytes.{isLetter, isWord};
 ghost use Rattle.tokens.specs.Words.{wordToken};
 ghost use Rattle.tokens.specs.Scan.{runLexeme};
 ghost use Rattle.token_table.specs.private.Lexing.{Lexes};
 use crate::Lex;
-use crate::numerals;
 use crate::packing;
 use memory::Bank;
+use memory::names;
 use memory::names::Letter;
 use tokens::bytes;
+use tokens::bytes::Class;
 
-// Any run that starts with a letter.
+// A word without a digit in the second place: it is judged as a whole.
 fn judged(text: &[u8], at: usize) -> Lex
-    requires { ⌜ at ≤ length (now text) ⌝ }
+    requires { ⌜ (at ≤ length (now text)) × (isDigit (getD (now text) (at + 1) 0) ≡ false) ⌝ }
     ensures { λ r. ⌜ Lexes (runLexeme isWord wordToken (drop at (now (text .entry))) at) (r .word) (r .end) ⌝ }
 {
-    let end = bytes::word_end(text, at);
+    let end = bytes::run_end(text, at, Class::Word);
     Lex {
         word: packing::pack_scanned(tokens::identifiers::word(&text[at..end])),
         end,
     }
 }
 
-// A cell, from its bank's letter on.
+// A bank's letter and a digit: a cell, or nothing.
 fn cell_at(text: &[u8], at: usize, bank: Bank) -> Lex
     requires { ⌜ (at < length (now text)) × ((isLetter (getD (now text) at 0) ≡ true) × (letterBank (getD (now text) at 0) ≡ Of bank)) ⌝ }
+    requires { ⌜ isDigit (getD (now text) (at + 1) 0) ≡ true ⌝ }
     ensures { λ r. ⌜ Lexes (runLexeme isWord wordToken (drop at (now (text .entry))) at) (r .word) (r .end) ⌝ }
 {
-    let first = bytes::byte_at(text, at + 1);
-    if !memory::names::is_digit(first) {
-        return judged(text, at);
-    }
-    let d = numerals::digits(text, at + 2, (first - 48) as u64, 255);
+    let d = names::digits(text, at + 1, 0);
     let end = d.end;
-    let e = d.value;
-    if bytes::is_word(d.next) {
-        return judged(text, at);
+    let element = d.value;
+    if bytes::is_word(bytes::byte_at(text, end)) {
+        return crate::refused(6);
     }
-    if (memory::layout_of(bank).elements as u64) <= e {
-        return judged(text, at);
+    if (memory::layout_of(bank).elements as u64) <= element {
+        return crate::refused(6);
     }
     // a leading zero
-    if first == 48 {
+    if bytes::byte_at(text, at + 1) == b'0' {
         if end != at + 2 {
-            return judged(text, at);
+            return crate::refused(6);
         }
     }
     Lex {
-        word: packing::word(3, memory::numbers::bank_number(bank), e as u32),
+        word: packing::word(
+            packing::CELL,
+            memory::numbers::bank_number(bank),
+            element as u32,
+        ),
         end,
     }
 }
@@ -62,8 +64,11 @@ pub fn word_at(text: &[u8], at: usize) -> Lex
     requires { ⌜ (at < length (now text)) × (isLetter (getD (now text) at 0) ≡ true) ⌝ }
     ensures { λ r. ⌜ Lexes (runLexeme isWord wordToken (drop at (now (text .entry))) at) (r .word) (r .end) ⌝ }
 {
-    match memory::names::bank_of(text[at]) {
+    if !names::is_digit(bytes::byte_at(text, at + 1)) {
+        return judged(text, at);
+    }
+    match names::bank_of(text[at]) {
         Letter::Of(bank) => cell_at(text, at, bank),
-        Letter::Other => judged(text, at),
+        Letter::Other => crate::refused(6),
     }
 }

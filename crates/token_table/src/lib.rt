@@ -1,11 +1,12 @@
 // The tokens of a text, one to a word: the text is scanned once, and the reader and the compiler walk over the words.
 ghost use mathlib.Core.Path.{_≡_};
-ghost use Prim.Native.Nat.{_<_, _≤_};
+ghost use Prim.Native.Nat.{ℕ, _<_, _≤_};
 ghost use lib.ListN.{length, drop};
-ghost use Rattle.tokens.specs.Scan.{lexemeOf, scan};
+ghost use Rattle.tokens.specs.Scan.{Wrong, lexemeOf, scan};
 ghost use Rattle.token_table.specs.private.Table.{wordClass, wordOperand, wordPlace, wordNumber, wordAt, Fills, TokenWords};
 ghost use Rattle.token_table.specs.private.Lexing.{Lexes};
 use tokens::bytes;
+use tokens::bytes::Class;
 
 mod identifiers;
 mod numerals;
@@ -56,6 +57,16 @@ pub fn number_of(w: u64) -> u32
     (w / 4294967296) as u32
 }
 
+// Bytes that are no token. Where they end is not asked for.
+fn refused(answer: u32) -> Lex
+    ensures { λ r. ⌜ ((p : ℕ) → Lexes (Wrong answer p) (r .word) (r .end)) ⌝ }
+{
+    Lex {
+        word: packing::word(packing::NONE, 0, answer),
+        end: 0,
+    }
+}
+
 // The token at a byte that is not blank.
 fn token_at(text: &[u8], at: usize) -> Lex
     requires { ⌜ (at < length (now text)) × (length (now text) ≤ 1024) ⌝ }
@@ -81,14 +92,14 @@ pub fn fill(text: &[u8], table: &mut [u64]) -> Filled
     let mut at: usize = 0;
     let mut n: usize = 0;
     loop {
-        let start = bytes::space_end(text, at);
+        let start = bytes::run_end(text, at, Class::Blank);
         if text.len() <= start {
             table[n] = 0;
             return Filled::Good;
         }
         let lex = token_at(text, start);
         let w = lex.word;
-        if class_of(w) == 0 {
+        if class_of(w) == packing::NONE {
             return Filled::Wrong(number_of(w), start);
         }
         table[n] = w + 65536 * (start as u64);

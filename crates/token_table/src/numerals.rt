@@ -11,6 +11,7 @@ ghost use Rattle.token_table.specs.private.Lexing.{Lexes, DigitsAt};
 use crate::Lex;
 use crate::packing;
 use tokens::bytes;
+use tokens::bytes::Class;
 
 // The number of some digits, where they end, and the byte there.
 pub struct Reading {
@@ -50,7 +51,7 @@ fn judged(text: &[u8], at: usize) -> Lex
     requires { ⌜ at ≤ length (now text) ⌝ }
     ensures { λ r. ⌜ Lexes (runLexeme isRun numeralOf (drop at (now (text .entry))) at) (r .word) (r .end) ⌝ }
 {
-    let end = bytes::numeral_end(text, at);
+    let end = bytes::run_end(text, at, Class::Numeral);
     Lex {
         word: packing::pack_scanned(tokens::numerals::numeral(&text[at..end])),
         end,
@@ -76,7 +77,7 @@ fn real_at(text: &[u8], at: usize, dot: usize, whole: u64) -> Lex
     }
     let x = tokens::numerals::quotient(d.value as u32, end - dot - 1);
     Lex {
-        word: packing::word(2, 0, f32::to_bits(x)),
+        word: packing::word(packing::REAL, 0, f32::to_bits(x)),
         end,
     }
 }
@@ -97,7 +98,7 @@ pub fn numeral_at(text: &[u8], at: usize) -> Lex
         return judged(text, at);
     }
     Lex {
-        word: packing::word(1, 0, n as u32),
+        word: packing::word(packing::INTEGER, 0, n as u32),
         end: d.end,
     }
 }

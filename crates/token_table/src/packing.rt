@@ -10,6 +10,21 @@ use tokens::Scanned;
 use tokens::Token;
 use values::Value;
 
+// The classes of words; of class NONE is the end of the tokens, and an answer.
+pub const NONE: u8 = 0;
+
+pub const INTEGER: u8 = 1;
+
+pub const REAL: u8 = 2;
+
+pub const CELL: u8 = 3;
+
+const LETTER: u8 = 4;
+
+const NAME: u8 = 5;
+
+pub const SYMBOL: u8 = 6;
+
 fn function_number(f: Function) -> u8
     ensures { λ r. ⌜ r ≡ functionNumber f ⌝ }
 {
@@ -40,13 +55,13 @@ fn pack(t: Token) -> u64
 {
     match t {
         Token::Number(v) => match v {
-            Value::Int(z) => word(1, 0, values::patterns::pattern(z)),
-            Value::Real(x) => word(2, 0, f32::to_bits(x)),
+            Value::Int(z) => word(INTEGER, 0, values::patterns::pattern(z)),
+            Value::Real(x) => word(REAL, 0, f32::to_bits(x)),
         },
-        Token::Cell(b, e) => word(3, numbers::bank_number(b), e),
-        Token::Letter(b) => word(4, numbers::bank_number(b), 0),
-        Token::Name(f) => word(5, function_number(f), 0),
-        Token::Symbol(n) => word(6, n, 0),
+        Token::Cell(b, e) => word(CELL, numbers::bank_number(b), e),
+        Token::Letter(b) => word(LETTER, numbers::bank_number(b), 0),
+        Token::Name(f) => word(NAME, function_number(f), 0),
+        Token::Symbol(n) => word(SYMBOL, n, 0),
     }
 }
 
@@ -57,6 +72,6 @@ pub fn pack_scanned(s: Scanned) -> u64
 {
     match s {
         Scanned::Good(t) => pack(t),
-        Scanned::Bad(a) => word(0, 0, a),
+        Scanned::Bad(a) => word(NONE, 0, a),
     }
 }

@@ -4,7 +4,7 @@ ghost use mathlib.Core.List.{[], _∷_};
 ghost use Prim.Native.Nat.{ℕ, _<_, _≤_};
 ghost use lib.Dec.{eqb};
 ghost use lib.ListN.{length, drop};
-ghost use Rattle.tokens.specs.Symbols.{symbolCount, longest};
+ghost use Rattle.tokens.specs.Symbols.{longest};
 ghost use Rattle.tokens.specs.Scan.{symbolLexeme};
 ghost use Rattle.token_table.specs.private.Lexing.{Lexes, SymbolSize};
 use crate::Lex;
@@ -18,17 +18,8 @@ fn symbol(at: usize, n: u8, bytes: usize) -> Lex
     ensures { λ r. ⌜ Lexes (symbolLexeme at n) (r .word) (r .end) ⌝ }
 {
     Lex {
-        word: packing::word(6, n, 0),
+        word: packing::word(packing::SYMBOL, n, 0),
         end: at + bytes,
-    }
-}
-
-fn none(at: usize) -> Lex
-    ensures { λ r. ⌜ Lexes (symbolLexeme at symbolCount) (r .word) (r .end) ⌝ }
-{
-    Lex {
-        word: packing::word(0, 0, 4),
-        end: at,
     }
 }
 
@@ -49,10 +40,10 @@ fn less(at: usize, b: u8) -> Lex
     requires { ⌜ at < 1024 ⌝ }
     ensures { λ r. ⌜ ((c : ℕ) → Lexes (symbolLexeme at (longest (60 ∷ b ∷ c ∷ []))) (r .word) (r .end)) ⌝ }
 {
-    if b == 60 {
-        return symbol(at, 6, 2);
+    if b == b'<' {
+        return symbol(at, numbers::SHIFT_LEFT, 2);
     }
-    doubled(at, 61, b, 11, 9)
+    doubled(at, b'=', b, numbers::LESS_OR_EQUAL, numbers::LESS)
 }
 
 // After `>`.
@@ -60,13 +51,13 @@ fn greater(at: usize, b: u8, c: u8) -> Lex
     requires { ⌜ at < 1024 ⌝ }
     ensures { λ r. ⌜ Lexes (symbolLexeme at (longest (62 ∷ b ∷ c ∷ []))) (r .word) (r .end) ⌝ }
 {
-    if b != 62 {
-        return doubled(at, 61, b, 12, 10);
+    if b != b'>' {
+        return doubled(at, b'=', b, numbers::GREATER_OR_EQUAL, numbers::GREATER);
     }
-    if c == 62 {
-        symbol(at, 8, 3)
+    if c == b'>' {
+        symbol(at, numbers::SHIFT_RIGHT_ZEROS, 3)
     } else {
-        symbol(at, 7, 2)
+        symbol(at, numbers::SHIFT_RIGHT, 2)
     }
 }
 
@@ -75,7 +66,11 @@ fn equals(at: usize, b: u8) -> Lex
     requires { ⌜ at < 1024 ⌝ }
     ensures { λ r. ⌜ ((c : ℕ) → Lexes (symbolLexeme at (longest (61 ∷ b ∷ c ∷ []))) (r .word) (r .end)) ⌝ }
 {
-    if b == 61 { symbol(at, 13, 2) } else { none(at) }
+    if b == b'=' {
+        symbol(at, numbers::EQUAL, 2)
+    } else {
+        crate::refused(4)
+    }
 }
 
 // The longest symbol at a position of the text. No symbol has a byte 0, so one stands for each byte past the end.
@@ -85,24 +80,24 @@ pub fn symbol_at(text: &[u8], at: usize) -> Lex
 {
     let b = bytes::byte_at(text, at + 1);
     match text[at] {
-        42 => doubled(at, 42, b, 0, 1),
-        47 => symbol(at, 2, 1),
-        37 => symbol(at, 3, 1),
-        43 => symbol(at, 4, 1),
-        45 => symbol(at, numbers::MINUS, 1),
-        60 => less(at, b),
-        62 => greater(at, b, bytes::byte_at(text, at + 2)),
-        61 => equals(at, b),
-        33 => doubled(at, 61, b, 14, numbers::NOT),
-        38 => doubled(at, 38, b, 18, 15),
-        94 => symbol(at, 16, 1),
-        124 => doubled(at, 124, b, 19, 17),
-        126 => symbol(at, numbers::COMPLEMENT, 1),
-        40 => symbol(at, numbers::OPEN, 1),
-        41 => symbol(at, numbers::CLOSE, 1),
-        91 => symbol(at, numbers::OPEN_INDEX, 1),
-        93 => symbol(at, numbers::CLOSE_INDEX, 1),
-        44 => symbol(at, numbers::COMMA, 1),
-        _ => none(at),
+        b'*' => doubled(at, b'*', b, numbers::POWER, numbers::TIMES),
+        b'/' => symbol(at, numbers::DIVIDE, 1),
+        b'%' => symbol(at, numbers::REMAINDER, 1),
+        b'+' => symbol(at, numbers::PLUS, 1),
+        b'-' => symbol(at, numbers::MINUS, 1),
+        b'<' => less(at, b),
+        b'>' => greater(at, b, bytes::byte_at(text, at + 2)),
+        b'=' => equals(at, b),
+        b'!' => doubled(at, b'=', b, numbers::NOT_EQUAL, numbers::NOT),
+        b'&' => doubled(at, b'&', b, numbers::AND, numbers::BIT_AND),
+        b'^' => symbol(at, numbers::BIT_XOR, 1),
+        b'|' => doubled(at, b'|', b, numbers::OR, numbers::BIT_OR),
+        b'~' => symbol(at, numbers::COMPLEMENT, 1),
+        b'(' => symbol(at, numbers::OPEN, 1),
+        b')' => symbol(at, numbers::CLOSE, 1),
+        b'[' => symbol(at, numbers::OPEN_INDEX, 1),
+        b']' => symbol(at, numbers::CLOSE_INDEX, 1),
+        b',' => symbol(at, numbers::COMMA, 1),
+        _ => crate::refused(4),
     }
 }

@@ -26,9 +26,9 @@ use Rattle.tokens.specs.declared.Token.{Token}
 use Rattle.tokens.specs.declared.Token.the-variants.{Number, Cell, Letter, Name, Symbol}
 use Rattle.tokens.specs.declared.Scanned.{Scanned}
 use Rattle.tokens.specs.declared.Scanned.the-variants.{Good, Bad}
-use Rattle.tokens.specs.Bytes.{all, isLetter, isWord, isRun, runLen}
+use Rattle.tokens.specs.Bytes.{all, isLetter, isWord, isRun, runLen, isHex}
 use Rattle.tokens.specs.Symbols.{equalBytes, symbolCount, longest}
-use Rattle.tokens.specs.Numerals.{nonEmpty, decimalDigits, isHex, isHexRun, hexFrom, hexOf, notDot, realOf, decimalOf, numeralOf}
+use Rattle.tokens.specs.Numerals.{nonEmpty, decimalDigits, isHexRun, hexFrom, hexOf, notDot, realOf, decimalOf, numeralOf}
 use Rattle.tokens.specs.Words.{nameOf, functionNamed, functions, letterWord, cellWord, otherWord, wordToken}
 use Rattle.tokens.specs.Scan.{Lexeme, Found, Wrong, End, lexeme, symbolLexeme, lexemeOf, blanks, lexemeAt}
 use Rattle.tokens.proofs.Tests.{by-test, choose, both, hex-small}

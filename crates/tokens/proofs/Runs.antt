@@ -9,7 +9,7 @@ use native.Mathlib.Omega.{arith}
 use lib.Dec.{leb, ltb, leb·zero, leb·suc-suc, leb·suc-zero}
 use lib.ListN.{length, getD, take, drop, drop-of-length-le}
 use lib.Seq.{drop-cons}
-use borrow.Author.Tests.{le-leb, lt-leb}
+use borrow.Author.Tests.{le-leb, lt-leb, lt-ltb}
 use Rattle.tokens.specs.Bytes.{runLen, all}
 use Rattle.tokens.specs.Numerals.{nonEmpty}
 use Rattle.tokens.specs.Theorems.{Stops, nothing, other}
@@ -62,6 +62,13 @@ module _ {p : ℕ → Bool} {s : List ℕ} {i : ℕ} (r : Reaches p s (runLen p 
 
   pub all-passed : length s ≤ i → ltb 0 (length s) ≡ (nonEmpty s && all p s)
   all-passed h = rw (all-run p s, le-leb (length s) (runLen p s) (omega (arith, end r h .0)), and-true, some-any)
+
+pub no-byte : (p : ℕ → Bool) (s : List ℕ) → length s ≡ 0 → false ≡ (nonEmpty s && all p s)
+no-byte p [] h = refl
+no-byte p (c ∷ cs) h = absurd (omega arith)
+
+pub whole-run : (p : ℕ → Bool) (s : List ℕ) {n : ℕ} → (length s ≡ 0 → ⊥) → n ≡ 0 + runLen p s → leb (length s) n ≡ (nonEmpty s && all p s)
+whole-run p s {n} h e = rw (e, zero-add, all-run p s, some-any s, lt-ltb 0 (length s) (omega arith))
 
 -- a test of every byte, at one of them and on two lists
 module _ (p : ℕ → Bool) where

@@ -8,8 +8,8 @@ use lib.Dec.{T, leb}
 use borrow.Author.Tests.{leb-true, le-leb, lt-leb}
 use Rattle.memory.specs.Names.{isDigit}
 use Rattle.memory.proofs.names.Decimals.{digit-range}
-use Rattle.tokens.specs.Bytes.{between}
-use Rattle.tokens.specs.Numerals.{isHex, hexDigit}
+use Rattle.tokens.specs.Bytes.{between, isHex}
+use Rattle.tokens.specs.Numerals.{hexDigit}
 
 pub no : {A : Type 0} → false ≡ true → A
 no e = absurd (subst T (sym e) tt)

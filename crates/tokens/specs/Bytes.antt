@@ -5,6 +5,8 @@ use mathlib.Core.List.{List, [], _∷_}
 use Prim.Native.Nat.{ℕ, suc}
 use lib.Dec.{eqb, leb}
 use Rattle.memory.specs.Names.{isDigit}
+use Rattle.tokens.specs.declared.bytes.Class.{Class}
+use Rattle.tokens.specs.declared.bytes.Class.the-variants.{Blank, Word, Numeral, Hexadecimal}
 use Rattle.words.specs.Ascii.{byte}
 
 abbrev pub between : ℕ → ℕ → ℕ → Bool
@@ -22,6 +24,16 @@ isWord c = isLetter c || isDigit c
 -- with the dot
 abbrev pub isRun : ℕ → Bool
 isRun c = isWord c || eqb c (byte ".")
+
+abbrev pub isHex : ℕ → Bool
+isHex c = isDigit c || between (byte "A") (byte "F") c || between (byte "a") (byte "f") c
+
+-- the classes that a run is read by
+abbrev pub inClass : Class → ℕ → Bool
+inClass Blank c = isSpace c
+inClass Word c = isWord c
+inClass Numeral c = isRun c
+inClass Hexadecimal c = isHex c
 
 -- how many of the first bytes pass a test
 abbrev pub runLen : (ℕ → Bool) → List ℕ → ℕ

@@ -17,7 +17,7 @@ use Rattle.memory.specs.Names.{isDigit, decimalValue}
 use Rattle.tokens.specs.declared.Token.the-variants.{Number}
 use Rattle.tokens.specs.declared.Scanned.{Scanned}
 use Rattle.tokens.specs.declared.Scanned.the-variants.{Good, Bad}
-use Rattle.tokens.specs.Bytes.{between, runLen, all}
+use Rattle.tokens.specs.Bytes.{isHex, runLen, all}
 use Rattle.words.specs.Ascii.{byte}
 
 abbrev pub nonEmpty : List ℕ → Bool
@@ -29,9 +29,6 @@ decimalDigits cs = nonEmpty cs && all isDigit cs
 
 abbrev pub decimalOf : List ℕ → Scanned
 decimalOf cs = cond (leb (decimalValue cs) 2147483647) (Good (Number (Int (pos (decimalValue cs))))) (Bad 5)
-
-abbrev pub isHex : ℕ → Bool
-isHex c = isDigit c || between (byte "A") (byte "F") c || between (byte "a") (byte "f") c
 
 abbrev pub hexDigit : ℕ → ℕ
 hexDigit c = cond (leb c (byte "9")) (c - byte "0") (cond (leb c (byte "F")) (c - (byte "A" - 10)) (c - (byte "a" - 10)))

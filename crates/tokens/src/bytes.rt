@@ -2,7 +2,7 @@
 ghost use mathlib.Core.Path.{_≡_};
 ghost use Prim.Native.Nat.{_+_, _≤_};
 ghost use lib.ListN.{length, getD, drop};
-ghost use Rattle.tokens.specs.Bytes.{between, isLetter, isSpace, isWord, isRun, runLen};
+ghost use Rattle.tokens.specs.Bytes.{between, isLetter, isSpace, isWord, isRun, isHex, inClass, runLen};
 
 pub fn between(lo: u8, b: u8, hi: u8) -> bool
     ensures { λ r. ⌜ r ≡ between lo hi b ⌝ }
@@ -34,42 +34,42 @@ pub fn is_run(b: u8) -> bool
     is_word(b) || b == 46
 }
 
-// The end of the longest run from a position: of blanks, of a word's bytes, of a numeral's.
-pub fn space_end(text: &[u8], at: usize) -> usize
-    requires { ⌜ at ≤ length (now text) ⌝ }
-    ensures { λ r. ⌜ (r ≡ at + runLen isSpace (drop at (now (text .entry)))) × (r ≤ length (now (text .entry))) ⌝ }
+pub fn is_hex(b: u8) -> bool
+    ensures { λ r. ⌜ r ≡ isHex b ⌝ }
 {
-    let mut i = at;
-    while i < text.len() {
-        if !is_space(text[i]) {
-            return i;
-        }
-        i += 1;
+    if memory::names::is_digit(b) {
+        return true;
     }
-    i
+    between(65, b, 70) || between(97, b, 102)
 }
 
-pub fn word_end(text: &[u8], at: usize) -> usize
-    requires { ⌜ at ≤ length (now text) ⌝ }
-    ensures { λ r. ⌜ (r ≡ at + runLen isWord (drop at (now (text .entry)))) × (r ≤ length (now (text .entry))) ⌝ }
-{
-    let mut i = at;
-    while i < text.len() {
-        if !is_word(text[i]) {
-            return i;
-        }
-        i += 1;
-    }
-    i
+// Classes of which runs are made: blanks, the bytes of words, those of numerals, hexadecimal digits.
+pub enum Class {
+    Blank,
+    Word,
+    Numeral,
+    Hexadecimal,
 }
 
-pub fn numeral_end(text: &[u8], at: usize) -> usize
+fn is_in(class: Class, b: u8) -> bool
+    ensures { λ r. ⌜ r ≡ inClass class b ⌝ }
+{
+    match class {
+        Class::Blank => is_space(b),
+        Class::Word => is_word(b),
+        Class::Numeral => is_run(b),
+        Class::Hexadecimal => is_hex(b),
+    }
+}
+
+// The end of the longest run of a class from a position.
+pub fn run_end(text: &[u8], at: usize, class: Class) -> usize
     requires { ⌜ at ≤ length (now text) ⌝ }
-    ensures { λ r. ⌜ (r ≡ at + runLen isRun (drop at (now (text .entry)))) × (r ≤ length (now (text .entry))) ⌝ }
+    ensures { λ r. ⌜ (r ≡ at + runLen (inClass class) (drop at (now (text .entry)))) × (r ≤ length (now (text .entry))) ⌝ }
 {
     let mut i = at;
     while i < text.len() {
-        if !is_run(text[i]) {
+        if !is_in(class, text[i]) {
             return i;
         }
         i += 1;

@@ -1,12 +1,14 @@
-// Words: function names, bank letters and cells.
+// Words: function names and bank letters.
 ghost use mathlib.Core.Path.{_≡_};
+ghost use mathlib.Core.Bool.{false};
+ghost use lib.ListN.{getD};
+ghost use Rattle.memory.specs.Names.{isDigit};
 ghost use Rattle.tokens.specs.Symbols.{equalBytes};
 ghost use Rattle.tokens.specs.Words.{wordToken, otherWord};
 use crate::Function;
 use crate::Scanned;
 use crate::Token;
 use memory::names::Letter;
-use memory::names::Named;
 
 pub fn same_bytes(a: &[u8], b: &[u8]) -> bool
     ensures { λ r. ⌜ r ≡ equalBytes (now (a .entry)) (now (b .entry)) ⌝ }
@@ -24,23 +26,23 @@ pub fn same_bytes(a: &[u8], b: &[u8]) -> bool
     true
 }
 
-// A bank letter or a cell.
+// A word that is no function's name and no cell.
 fn other_word(run: &[u8]) -> Scanned
+    requires { ⌜ isDigit (getD (now run) 1 0) ≡ false ⌝ }
     ensures { λ r. ⌜ r ≡ otherWord (now (run .entry)) ⌝ }
 {
-    if run.len() == 1 {
-        return match memory::names::bank_of(run[0]) {
-            Letter::Of(b) => Scanned::Good(Token::Letter(b)),
-            Letter::Other => Scanned::Bad(6),
-        };
+    if run.len() != 1 {
+        return Scanned::Bad(6);
     }
-    match memory::names::cell_named(run) {
-        Named::Cell(b, i) => Scanned::Good(Token::Cell(b, i)),
-        Named::Other => Scanned::Bad(6),
+    match memory::names::bank_of(run[0]) {
+        Letter::Of(b) => Scanned::Good(Token::Letter(b)),
+        Letter::Other => Scanned::Bad(6),
     }
 }
 
+// A word with no digit in the second place, where every cell has one.
 pub fn word(run: &[u8]) -> Scanned
+    requires { ⌜ isDigit (getD (now run) 1 0) ≡ false ⌝ }
     ensures { λ r. ⌜ r ≡ wordToken (now (run .entry)) ⌝ }
 {
     if same_bytes(b"ABS", run) {

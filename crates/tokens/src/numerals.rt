@@ -4,10 +4,12 @@ ghost use mathlib.Core.Bool.{true, _&&_};
 ghost use Prim.Native.Nat.{_-_, _^_, _<_, _≤_};
 ghost use lib.ListN.{length};
 ghost use Rattle.memory.specs.Names.{isDigit, decimalFrom};
-ghost use Rattle.tokens.specs.Bytes.{runLen, all};
-ghost use Rattle.tokens.specs.Numerals.{nonEmpty, decimalDigits, decimalOf, isHex, hexDigit, hexFrom, hexOf, realLiteral, notDot, realOf, isHexRun, numeralOf};
+ghost use Rattle.tokens.specs.Bytes.{isHex, runLen, all};
+ghost use Rattle.tokens.specs.Numerals.{nonEmpty, decimalDigits, decimalOf, hexDigit, hexFrom, hexOf, realLiteral, notDot, realOf, isHexRun, numeralOf};
 use crate::Scanned;
 use crate::Token;
+use crate::bytes;
+use crate::bytes::Class;
 use reals::ArithOp;
 use values::Value;
 
@@ -52,15 +54,6 @@ fn decimal(run: &[u8]) -> Scanned
     Scanned::Good(Token::Number(Value::Int(n as i32)))
 }
 
-fn is_hex(b: u8) -> bool
-    ensures { λ r. ⌜ r ≡ isHex b ⌝ }
-{
-    if memory::names::is_digit(b) {
-        return true;
-    }
-    crate::bytes::between(65, b, 70) || crate::bytes::between(97, b, 102)
-}
-
 fn hex_digit(b: u8) -> u32
     requires { ⌜ isHex b ≡ true ⌝ }
     ensures { λ r. ⌜ r ≡ hexDigit b ⌝ }
@@ -79,14 +72,10 @@ fn hex_digit(b: u8) -> u32
 fn all_hex(run: &[u8]) -> bool
     ensures { λ r. ⌜ r ≡ (nonEmpty (now (run .entry)) && all isHex (now (run .entry))) ⌝ }
 {
-    let mut i = 0;
-    while i < run.len() {
-        if !is_hex(run[i]) {
-            return false;
-        }
-        i += 1;
+    if run.len() == 0 {
+        return false;
     }
-    0 < run.len()
+    run.len() <= bytes::run_end(run, 0, Class::Hexadecimal)
 }
 
 // The number of hexadecimal digits.

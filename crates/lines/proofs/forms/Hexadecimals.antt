@@ -13,8 +13,8 @@ use Rattle.values.specs.Patterns.{signedOf}
 use Rattle.values.proofs.patterns.Readings.{low-signed}
 use Rattle.tokens.specs.declared.Token.the-variants.{Number}
 use Rattle.tokens.specs.declared.Scanned.the-variants.{Good, Bad}
-use Rattle.tokens.specs.Bytes.{all}
-use Rattle.tokens.specs.Numerals.{nonEmpty, isHex, hexDigit, hexFrom, hexOf, numeralOf}
+use Rattle.tokens.specs.Bytes.{all, isHex}
+use Rattle.tokens.specs.Numerals.{nonEmpty, hexDigit, hexFrom, hexOf, numeralOf}
 use Rattle.lines.specs.declared.forms.Form.the-variants.{Pattern, Other}
 use Rattle.lines.specs.Forms.{hexForm}
 use Rattle.lines.specs.private.Steps.{scannedForm}

@@ -9,7 +9,8 @@ use lib.Dec.{T, ltb, ltb→lt}
 use lib.Ieee.Fits.{and-r}
 use lib.ListN.{length, getD, drop}
 use borrow.Author.Tests.{eq-eqb, ne-eqb}
-use Rattle.memory.specs.Names.{noLeadingZero, allDigits, decimalValue, numberBelow}
+use Rattle.memory.specs.declared.names.Number.the-variants as Number
+use Rattle.memory.specs.Names.{noLeadingZero, allDigits, decimalValue, numberBelow, numberRule}
 use Rattle.lines.specs.declared.forms.Form.the-variants.{Pattern, Other}
 use Rattle.lines.specs.Forms.{naturalForm, negativeForm, signedForm}
 
@@ -21,6 +22,21 @@ picked false m n e = absurd (let z : _≡_ {A = ℕ} 0 1 = cc in omega arith)
 passed : (t : Bool) (m : ℕ) → Other ≡ cond t (Pattern m) Other → t ≡ false
 passed true m e = absurd (let z : _≡_ {A = ℕ} 0 1 = cc in omega arith)
 passed false m e = refl
+
+-- ---- a number as a form
+pub natural-is : (m : ℕ) (cs : List ℕ) {n : ℕ} → Number.Is n ≡ numberRule m cs → Pattern n ≡ naturalForm m cs
+natural-is m cs {n} e = by (numberBelow m cs) e
+  where
+    by : (t : Bool) → Number.Is n ≡ cond t (Number.Is (decimalValue cs)) Number.Other → Pattern n ≡ cond t (Pattern (decimalValue cs)) Other
+    by true f = cc
+    by false f = absurd (let z : _≡_ {A = ℕ} 0 1 = cc in omega arith)
+
+pub natural-none : (m : ℕ) (cs : List ℕ) → Number.Other ≡ numberRule m cs → Other ≡ naturalForm m cs
+natural-none m cs e = by (numberBelow m cs) e
+  where
+    by : (t : Bool) → Number.Other ≡ cond t (Number.Is (decimalValue cs)) Number.Other → Other ≡ cond t (Pattern (decimalValue cs)) Other
+    by true f = absurd (let z : _≡_ {A = ℕ} 0 1 = cc in omega arith)
+    by false f = refl
 
 -- ---- the digits after a `-`
 module _ (half : ℕ) (ds : List ℕ) where

@@ -17,8 +17,8 @@ abbrev μ-loop : tie.MeasureT-loop
 loop-holds : tie.Need-loop-holds Inv-loop μ-loop
 loop-holds c = begin _ _
 
-space-end-requires : tie.Need-space-end-requires Inv-loop μ-loop
-space-end-requires c κs = c .loop .inv .within
+run-end-requires : tie.Need-run-end-requires Inv-loop μ-loop
+run-end-requires c κs = c .loop .inv .within
 
 mul-table : tie.Need-mul-table Inv-loop μ-loop
 mul-table c = search needs
@@ -30,7 +30,7 @@ same-length : tie.Need-same-length Inv-loop μ-loop
 same-length c = search needs
 
 returns : tie.Need-returns Inv-loop μ-loop
-returns c = ends (c .before .before .loop .inv) (c .before .before .before .before .before .pre .0) (c .before .before .before .before .before .pre .1) (c .before .space-end .ensures .0) (c .if1 .taken)
+returns c = ends (c .before .before .loop .inv) (c .before .before .before .before .before .pre .0) (c .before .before .before .before .before .pre .1) (c .before .run-end .ensures .0) (c .if1 .taken)
 
 token-at-requires : tie.Need-token-at-requires Inv-loop μ-loop
 token-at-requires c κs = search needs
@@ -45,13 +45,13 @@ same-length-2 : tie.Need-same-length-2 Inv-loop μ-loop
 same-length-2 c = search needs
 
 returns-2 : tie.Need-returns-2 Inv-loop μ-loop
-returns-2 c = rw (c .number-of .ensures) (stops (c .before .before .before .before .before .before .loop .inv) (c .before .before .before .before .before .before .before .before .before .pre .0) (c .before .before .before .before .before .before .before .before .before .pre .1) (c .before .before .before .before .before .space-end .ensures .0) (c .before .before .before .token-at .ensures) (sym (c .before .before .class-of .ensures) ∙ c .before .if2 .taken))
+returns-2 c = rw (c .number-of .ensures) (stops (c .before .before .before .before .before .before .loop .inv) (c .before .before .before .before .before .before .before .before .before .pre .0) (c .before .before .before .before .before .before .before .before .before .pre .1) (c .before .before .before .before .before .run-end .ensures .0) (c .before .before .before .token-at .ensures) (sym (c .before .before .class-of .ensures) ∙ c .before .if2 .taken))
 
 mul-table-2 : tie.Need-mul-table-2 Inv-loop μ-loop
 mul-table-2 c = search needs
 
 add-table : tie.Need-add-table Inv-loop μ-loop
-add-table c = omega (arith, has-room (c .before .before .before .before .before .loop .inv) (c .before .before .before .before .before .before .before .before .pre .0) (c .before .before .before .before .before .before .before .before .pre .1) (c .before .before .before .before .space-end .ensures .0) (c .before .before .token-at .ensures) (λ z. c .if2 .left (c .before .class-of .ensures ∙ z)) (search needs))
+add-table c = omega (arith, has-room (c .before .before .before .before .before .loop .inv) (c .before .before .before .before .before .before .before .before .pre .0) (c .before .before .before .before .before .before .before .before .pre .1) (c .before .before .before .before .run-end .ensures .0) (c .before .before .token-at .ensures) (λ z. c .if2 .left (c .before .class-of .ensures ∙ z)) (search needs))
 
 mul-table-3 : tie.Need-mul-table-3 Inv-loop μ-loop
 mul-table-3 c = search needs
@@ -63,10 +63,10 @@ add-n : tie.Need-add-n Inv-loop μ-loop
 add-n c = search needs
 
 loop-less : tie.Need-loop-less Inv-loop μ-loop
-loop-less c = moves-on (c .before .before .before .before .before .loop .inv) (c .before .before .before .before .before .before .before .before .pre .0) (c .before .before .before .before .before .before .before .before .pre .1) (c .before .before .before .before .space-end .ensures .0) (c .before .before .token-at .ensures) (λ z. c .if2 .left (c .before .class-of .ensures ∙ z))
+loop-less c = moves-on (c .before .before .before .before .before .loop .inv) (c .before .before .before .before .before .before .before .before .pre .0) (c .before .before .before .before .before .before .before .before .pre .1) (c .before .before .before .before .run-end .ensures .0) (c .before .before .token-at .ensures) (λ z. c .if2 .left (c .before .class-of .ensures ∙ z))
 
 loop-again : tie.Need-loop-again Inv-loop μ-loop
-loop-again c = goes-on (c .before .before .before .before .before .loop .inv) (c .before .before .before .before .before .before .before .before .pre .0) (c .before .before .before .before .before .before .before .before .pre .1) (c .before .before .before .before .space-end .ensures .0) (c .before .before .token-at .ensures) (λ z. c .if2 .left (c .before .class-of .ensures ∙ z))
+loop-again c = goes-on (c .before .before .before .before .before .loop .inv) (c .before .before .before .before .before .before .before .before .pre .0) (c .before .before .before .before .before .before .before .before .pre .1) (c .before .before .before .before .run-end .ensures .0) (c .before .before .token-at .ensures) (λ z. c .if2 .left (c .before .class-of .ensures ∙ z))
 
 pub fill-spec : {M : Type 1} → statement M
 fill-spec =
@@ -75,7 +75,7 @@ fill-spec =
     Inv-loop
     μ-loop
     loop-holds
-    space-end-requires
+    run-end-requires
     mul-table
     slice-write-table
     same-length

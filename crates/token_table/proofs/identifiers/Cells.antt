@@ -1,31 +1,32 @@
--- A cell that was read in one go is what the definitions say of its run.
+-- A word with a digit in the second place is a cell, or refused.
 use mathlib.Core.Path.{_≡_, refl, sym, ap, _∙_}
 use mathlib.Core.Bool.{true, false, and-false}
-use mathlib.Core.List.{List, [], _∷_, _++_}
-use Prim.Native.Nat.{ℕ, suc, _+_, _-_, _*_, _≤_, _<_}
+use mathlib.Core.List.{List, _∷_}
+use Prim.Native.Nat.{ℕ, suc, _+_, _≤_, _<_, min}
 use native.Mathlib.Numerals.{add-one}
 use native.Mathlib.Omega.{arith}
 use lib.Dec.{eqb}
-use lib.ListN.{length, getD, drop}
+use lib.ListN.{length, getD, take, drop, length-take}
 use lib.Seq.{drop-cons}
-use borrow.Author.Tests.{lt-ltb, ne-eqb, eqb-true, eqb-false}
+use borrow.Author.Tests.{ne-eqb, eqb-true, eqb-false}
 use Rattle.memory.specs.declared.Bank.{Bank}
-use Rattle.memory.specs.declared.names.Letter.the-variants.{Of}
+use Rattle.memory.specs.declared.names.Letter.the-variants.{Of, Other}
 use Rattle.memory.specs.Layout.{layoutOf}
-use Rattle.memory.specs.Names.{isDigit, allDigits, noLeadingZero, decimalFrom, decimalValue, letterBank, namedRule}
+use Rattle.memory.specs.Names.{isDigit, digitsOf, noLeadingZero, decimalFrom, decimalLimit, numberBelow, letterBank, cellAfterLetter, namedRule}
 use Rattle.memory.specs.Numbers.{bankNumber}
-use Rattle.memory.proofs.names.Decimals.{digit-range, single, no-zero}
+use Rattle.memory.proofs.names.Decimals.{digit-range, single, no-zero, leading, below, not-below}
+use Rattle.memory.proofs.names.Words.{few}
 use Rattle.tokens.specs.declared.Token.the-variants.{Cell}
 use Rattle.tokens.specs.declared.Scanned.{Scanned}
-use Rattle.tokens.specs.declared.Scanned.the-variants.{Good}
-use Rattle.tokens.specs.Bytes.{isLetter, isWord, all}
-use Rattle.tokens.specs.Words.{functionNamed, functions, otherWord, wordToken}
-use Rattle.tokens.specs.Scan.{runLexeme}
-use Rattle.tokens.proofs.Tests.{by-test, both}
+use Rattle.tokens.specs.Bytes.{isLetter, isWord, runLen}
+use Rattle.tokens.specs.Words.{functionNamed, functions, cellWord, otherWord, wordToken}
+use Rattle.tokens.specs.Scan.{Wrong, lexeme, runLexeme}
+use Rattle.tokens.proofs.Tests.{by-test}
+use Rattle.tokens.proofs.Runs.{run-most}
 use Rattle.token_table.specs.private.Table.{packFields}
-use Rattle.token_table.specs.private.Lexing.{Lexes, found, DigitsAt}
+use Rattle.token_table.specs.private.Lexing.{Lexes, found}
+use Rattle.token_table.proofs.Digits.{digit-word, inside, behind, digits-again, run-digits, run-more}
 use Rattle.token_table.proofs.Lexemes.{lexes-as}
-use Rattle.token_table.proofs.numerals.Runs.{inside, wider, digit-word, the-run}
 
 -- the second byte of every function's name is a letter
 no-name : (c d : ℕ) (s : List ℕ) (o : Scanned) → isDigit d ≡ true → functionNamed functions (c ∷ d ∷ s) o ≡ o
@@ -34,37 +35,80 @@ no-name c d s o e =
     let not : (k : ℕ) → 58 < k → eqb k d ≡ false = λ k l. ne-eqb k d (λ q. omega arith) in
     simp (not 66 (omega arith), not 79 (omega arith), not 82 (omega arith), not 65 (omega arith), not 73 (omega arith), not 70 (omega arith), and-false)
 
-each-digit : (s : List ℕ) → all isDigit s ≡ true → allDigits s ≡ true
-each-digit [] e = refl
-each-digit (c ∷ cs) e = let h = both (isDigit c) (all isDigit cs) e in rw (h .0) (each-digit cs (h .1))
-
-cell-is : (c d : ℕ) (s : List ℕ) (b : Bank) (v : ℕ) → letterBank c ≡ Of b → isDigit d ≡ true → all isDigit s ≡ true → noLeadingZero (d ∷ s) ≡ true → v ≡ decimalFrom (d - 48) s → v < layoutOf b .elements → wordToken (c ∷ d ∷ s) ≡ Good (Cell b v)
+on-list : (c d : ℕ) (cs : List ℕ) (p : ℕ) → isLetter c ≡ true → isDigit d ≡ true
+    → runLexeme isWord wordToken (c ∷ d ∷ cs) p ≡ lexeme p (suc (runLen isWord (d ∷ cs))) (cellWord (cellAfterLetter (take (runLen isWord (d ∷ cs)) (d ∷ cs)) (letterBank c)))
 unfolding wordToken otherWord namedRule
-cell-is c d s b v q e f p m l =
-    let n : 0 * 10 + (d - 48) ≡ d - 48 = omega arith in
-    let k : decimalValue (d ∷ s) ≡ v = ap (λ (i : ℕ). decimalFrom i s) n ∙ sym m in
-    no-name c d s _ e ∙ rw (q, p, e, each-digit s f, k, lt-ltb v (layoutOf b .elements) l)
+on-list c d cs p l e = rw (l, digit-word d e) (ap (lexeme p (suc (suc (runLen isWord cs)))) (no-name c d (take (runLen isWord cs) cs) _ e))
 
-pub digit-inside : (s : List ℕ) (at : ℕ) {d : ℕ} → d ≡ getD s (at + 1) 0 → isDigit d ≡ true → at + 2 ≤ length s
-digit-inside s at {d} q e =
-    let h = digit-range d e in omega (arith, inside s (at + 1) d q (omega arith))
+module _ (s : List ℕ) (at : ℕ) (letter : isLetter (getD s at 0) ≡ true) (digit : isDigit (getD s (at + 1) 0) ≡ true) where
+  pub second : at + 1 < length s
+  second = let h = digit-range (getD s (at + 1) 0) digit in inside s (at + 1) (getD s (at + 1) 0) refl (omega arith)
 
-module _ {s : List ℕ} {d v e x : ℕ} (at : ℕ) (b : Bank) (letter : isLetter (getD s at 0) ≡ true) (bank : letterBank (getD s at 0) ≡ Of b) (next : d ≡ getD s (at + 1) 0) (digit : isDigit d ≡ true) (r : DigitsAt s (at + 2) (d - 48) v e x) where
-  -- a leading zero stands alone
-  first : (d ≡ 48 → e ≡ at + 2) → noLeadingZero (d ∷ r .run) ≡ true
-  first z = by-test (eqb d 48) (λ t. single (d ∷ r .run) (omega (arith, z (eqb-true d 48 t), r .ends))) (λ t. no-zero (d ∷ r .run) (omega arith) (eqb-false d 48 t))
+  -- the run behind the letter
+  abbrev rest : List ℕ
+  rest = drop (at + 1) s
 
-  pub cell-run : isWord x ≡ false → v < layoutOf b .elements → (d ≡ 48 → e ≡ at + 2) → Lexes (runLexeme isWord wordToken (drop at s) at) (packFields 3 (bankNumber b) v 0) e
-  cell-run f l z =
-      let c = getD s at 0 in
-      let run = c ∷ d ∷ r .run in
-      let second = digit-inside s at next digit in
-      let here = drop-cons s at 0 (omega arith) in
-      let there = drop-cons s (suc at) 0 (omega arith) in
-      let two : suc (suc at) ≡ at + 2 = omega arith in
-      let after : drop (suc (suc at)) s ≡ r .run ++ drop e s = ap (λ (i : ℕ). drop i s) two ∙ r .splits in
-      let splits : drop at s ≡ run ++ drop e s = here ∙ rw (there, after, ← add-one at, ← next) in
-      let all-word : all isWord run ≡ true = rw (letter, digit-word d digit) (wider isDigit isWord digit-word (r .run) (r .digits)) in
-      let q = the-run isWord wordToken s run at e splits all-word (sym (ap isWord (r .behind)) ∙ f) in
-      let g = cell-is c d (r .run) b v bank digit (r .digits) (first z) (r .makes) l in
-      rw (q, g) (lexes-as refl (omega (arith, r .ends)) (found (Cell b v) at (at + length run)))
+  abbrev run : List ℕ
+  run = take (runLen isWord rest) rest
+
+  there : rest ≡ getD s (at + 1) 0 ∷ drop (suc (at + 1)) s
+  there = drop-cons s (at + 1) 0 second
+
+  here : drop at s ≡ getD s at 0 ∷ rest
+  here = drop-cons s at 0 (omega (arith, second)) ∙ ap (λ (k : ℕ). getD s at 0 ∷ drop k s) (sym (add-one at))
+
+  judged : runLexeme isWord wordToken (drop at s) at ≡ lexeme at (suc (runLen isWord rest)) (cellWord (cellAfterLetter run (letterBank (getD s at 0))))
+  judged =
+      let both : drop at s ≡ getD s at 0 ∷ getD s (at + 1) 0 ∷ drop (suc (at + 1)) s = here ∙ ap (λ (l : List ℕ). getD s at 0 ∷ l) there in
+      rw (both, there) (on-list (getD s at 0) (getD s (at + 1) 0) (drop (suc (at + 1)) s) at letter digit)
+
+  -- nothing, for a letter that is no bank's, or a number that its bank has not
+  pub no-bank : {w e : ℕ} → letterBank (getD s at 0) ≡ Other → ((p : ℕ) → Lexes (Wrong 6 p) w e) → Lexes (runLexeme isWord wordToken (drop at s) at) w e
+  no-bank b h = rw (judged, b) (h at)
+
+  module _ (b : Bank) (bank : letterBank (getD s at 0) ≡ Of b) {v e x : ℕ} (value : v ≡ min (decimalFrom 0 (digitsOf rest)) decimalLimit) (ends : e ≡ at + 1 + length (digitsOf rest)) (next : x ≡ getD s e 0) where
+    abbrev elements : ℕ
+    elements = layoutOf b .elements
+
+    no-cell : {w k : ℕ} → numberBelow elements run ≡ false → ((p : ℕ) → Lexes (Wrong 6 p) w k) → Lexes (runLexeme isWord wordToken (drop at s) at) w k
+    no-cell f h = rw (judged, bank, f) (h at)
+
+    pub longer : {w k : ℕ} → isWord x ≡ true → ((p : ℕ) → Lexes (Wrong 6 p) w k) → Lexes (runLexeme isWord wordToken (drop at s) at) w k
+    longer t h = no-cell (rw (run-more isWord digit-word rest refl (rw (behind s (at + 1) ends next) at t), and-false)) h
+
+    module _ (f : isWord x ≡ false) where
+      whole : run ≡ digitsOf rest
+      whole = run-digits isWord digit-word rest (rw (behind s (at + 1) ends next) at f)
+
+      only : length (digitsOf run) ≡ length run
+      only = rw (whole, digits-again rest)
+
+      made : v ≡ min (decimalFrom 0 (digitsOf run)) decimalLimit
+      made = rw (whole, digits-again rest) value
+
+      size : e ≡ at + suc (length run)
+      size = rw whole (omega (arith, ends))
+
+      first : getD run 0 0 ≡ getD s (at + 1) 0
+      first = rw (there, digit-word (getD s (at + 1) 0) digit)
+
+      pub beyond : {w k : ℕ} → elements ≤ v → ((p : ℕ) → Lexes (Wrong 6 p) w k) → Lexes (runLexeme isWord wordToken (drop at s) at) w k
+      beyond l h = no-cell (not-below run elements v only made (few b) l) h
+
+      pub zero-first : {w k : ℕ} → getD s (at + 1) 0 ≡ 48 → (e ≡ at + 2 → ⊥) → ((p : ℕ) → Lexes (Wrong 6 p) w k) → Lexes (runLexeme isWord wordToken (drop at s) at) w k
+      zero-first z n h = no-cell (rw (leading run (first ∙ z) (λ q. n (omega (arith, size))))) h
+
+      -- a leading zero stands alone
+      plain : (getD s (at + 1) 0 ≡ 48 → e ≡ at + 2) → noLeadingZero run ≡ true
+      plain z =
+          by-test (eqb (getD s (at + 1) 0) 48) (λ t. single run (omega (arith, z (eqb-true _ 48 t), size)))
+          (λ t. no-zero run (omega (arith, size, some)) (λ q. eqb-false (getD s (at + 1) 0) 48 t (sym first ∙ q)))
+        where
+          some : 0 < length run
+          some = rw (there, digit-word (getD s (at + 1) 0) digit) (omega arith)
+
+      pub cell : v < elements → (getD s (at + 1) 0 ≡ 48 → e ≡ at + 2) → Lexes (runLexeme isWord wordToken (drop at s) at) (packFields 3 (bankNumber b) v 0) e
+      cell l z =
+          let h = below run elements v only made (few b) (plain z) l in
+          let n : suc (runLen isWord rest) ≡ suc (length run) = rw length-take (omega (arith, run-most isWord rest)) in
+          rw (judged, bank, h .0, h .1, n) (lexes-as refl size (found (Cell b v) at (at + suc (length run))))

@@ -1,14 +1,16 @@
 -- The rule for a word, function by function, and then by its length.
 use mathlib.Core.Path.{_≡_, refl, sym}
-use mathlib.Core.Bool.{true, false}
+use mathlib.Core.Bool.{true, false, and-false}
 use mathlib.Core.List.{List, [], _∷_}
 use Prim.Native.Nat.{ℕ}
 use native.Mathlib.Omega.{arith}
 use lib.ListN.{length, getD}
-use Rattle.memory.specs.Names.{letterBank, namedRule}
+use Rattle.memory.specs.declared.names.Letter.{Letter}
+use Rattle.memory.specs.declared.names.Letter.the-variants as L
+use Rattle.memory.specs.Names.{isDigit, letterBank, cellAfterLetter, namedRule}
 use Rattle.tokens.specs.declared.Function.{Function}
 use Rattle.tokens.specs.declared.Token.the-variants.{Name}
-use Rattle.tokens.specs.declared.Scanned.the-variants.{Good}
+use Rattle.tokens.specs.declared.Scanned.the-variants.{Good, Bad}
 use Rattle.tokens.specs.Symbols.{equalBytes}
 use Rattle.tokens.specs.Words.{nameOf, functionNamed, functions, letterWord, cellWord, otherWord, wordToken}
 
@@ -36,8 +38,13 @@ one [] e = absurd (omega arith)
 one (c ∷ []) e = refl
 one (c ∷ d ∷ cs) e = absurd (omega arith)
 
-pub not-one : (s : List ℕ) → (length s ≡ 1 → ⊥) → otherWord s ≡ cellWord (namedRule s)
+-- a word of more letters is no cell where its second byte is no digit
+not-a-cell : (d : ℕ) (cs : List ℕ) (l : Letter) → isDigit d ≡ false → cellWord (cellAfterLetter (d ∷ cs) l) ≡ Bad 6
+not-a-cell d cs (L.Of b) e = rw (e, and-false)
+not-a-cell d cs L.Other e = refl
+
+pub no-cell : (s : List ℕ) → isDigit (getD s 1 0) ≡ false → (length s ≡ 1 → ⊥) → otherWord s ≡ Bad 6
 unfolding otherWord namedRule
-not-one [] n = refl
-not-one (c ∷ []) n = absurd (n refl)
-not-one (c ∷ d ∷ cs) n = refl
+no-cell [] e n = refl
+no-cell (c ∷ []) e n = absurd (n refl)
+no-cell (c ∷ d ∷ cs) e n = not-a-cell d cs (letterBank c) e

@@ -11,8 +11,8 @@ use Rattle.token_table.proofs.Lexemes.{whole-run}
 use Rattle.token_table.proofs.numerals.judged.Statement.{statement}
 use Rattle.token_table.proofs.numerals.judged.Tie as tie
 
-numeral-end-requires : tie.Need-numeral-end-requires
-numeral-end-requires c κs = search needs
+run-end-requires : tie.Need-run-end-requires
+run-end-requires c κs = search needs
 
 sub-numeral : tie.Need-sub-numeral
 sub-numeral c = search needs
@@ -27,16 +27,16 @@ numeral-requires : tie.Need-numeral-requires
 numeral-requires c κs = search needs
 
 pack-scanned-requires : tie.Need-pack-scanned-requires
-pack-scanned-requires c κs = λ t q. known-sound (known-numeral (take (c .before .before .numeral-end .result - c .before .before .before .before .args .at) (drop (c .before .before .before .before .args .at) (c .before .before .before .before .args .text .now))) (sym (c .numeral .ensures) ∙ q))
+pack-scanned-requires c κs = λ t q. known-sound (known-numeral (take (c .before .before .run-end .result - c .before .before .before .before .args .at) (drop (c .before .before .before .before .args .at) (c .before .before .before .before .args .text .now))) (sym (c .numeral .ensures) ∙ q))
 
 returns : tie.Need-returns
-returns c = whole-run isRun numeralOf _ _ (c .before .before .before .numeral-end .ensures .0) (c .before .numeral .ensures) (c .pack-scanned .ensures)
+returns c = whole-run isRun numeralOf _ _ (c .before .before .before .run-end .ensures .0) (c .before .numeral .ensures) (c .pack-scanned .ensures)
 
 pub judged-spec : {M : Type 1} → statement M
 judged-spec =
     tie.close
     (tie.spec
-    numeral-end-requires
+    run-end-requires
     sub-numeral
     part-numeral-start
     part-numeral-end

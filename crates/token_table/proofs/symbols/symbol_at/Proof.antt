@@ -78,8 +78,8 @@ symbol-requires-10 c κs = search needs
 symbol-requires-11 : tie.Need-symbol-requires-11
 symbol-requires-11 c κs = search needs
 
-none-requires : tie.Need-none-requires
-none-requires c κs = search needs
+refused-requires : tie.Need-refused-requires
+refused-requires c κs = search needs
 
 returns : tie.Need-returns
 returns c =
@@ -151,7 +151,7 @@ returns-18 c = seen _ _ (c .before .before .before .before .before .pre .0) (c .
 returns-19 : tie.Need-returns-19
 returns-19 c =
     let d = getD (c .before .before .before .before .before .args .text .now) (c .before .before .before .before .before .args .at + 2) 0 in
-    seen _ _ (c .before .before .before .before .before .pre .0) refl (c .before .before .before .byte-at .ensures) (nothing _ (c .before .before .before .byte-at .result) d (c .before .match .rest)) (c .none .ensures)
+    seen _ _ (c .before .before .before .before .before .pre .0) refl (c .before .before .before .byte-at .ensures) (nothing _ (c .before .before .before .byte-at .result) d (c .before .match .rest)) (c .refused .ensures _)
 
 pub symbol-at-spec : {M : Type 1} → statement M
 symbol-at-spec =
@@ -180,7 +180,7 @@ symbol-at-spec =
     symbol-requires-9
     symbol-requires-10
     symbol-requires-11
-    none-requires
+    refused-requires
     returns
     returns-2
     returns-3

@@ -4,7 +4,8 @@ use Prim.Native.Nat.{_-_}
 use native.Mathlib.Omega.{arith}
 use lib.ListN.{length}
 use borrow.Author.Needs.{needs}
-use Rattle.tokens.specs.Numerals.{isHex, hexFrom}
+use Rattle.tokens.specs.Bytes.{isHex}
+use Rattle.tokens.specs.Numerals.{hexFrom}
 use Rattle.tokens.proofs.Runs.{all-at}
 use Rattle.tokens.proofs.Readings.{Makes, hexes, from, more, at-most, end}
 use Rattle.tokens.proofs.numerals.hex_value.Statement.{statement}

@@ -7,8 +7,8 @@ use mir.Syntax.{w32}
 use mir.ValLaws.{toZ-ofZ}
 use borrow.Author.Needs.{needs}
 use borrow.Author.Tests.{not-true, not-false, le-leb, lt-leb}
-use Rattle.tokens.specs.Bytes.{all}
-use Rattle.tokens.specs.Numerals.{nonEmpty, isHex}
+use Rattle.tokens.specs.Bytes.{all, isHex}
+use Rattle.tokens.specs.Numerals.{nonEmpty}
 use Rattle.tokens.proofs.Tests.{both, hex-small}
 use Rattle.tokens.proofs.Readings.{hexes, below}
 use Rattle.tokens.proofs.numerals.hexadecimal.Statement.{statement}

@@ -1,7 +1,7 @@
--- `numerals::is_hex` meets its contract.
+-- `bytes::is_hex` meets its contract.
 use borrow.Author.Needs.{needs}
-use Rattle.tokens.proofs.numerals.is_hex.Statement.{statement}
-use Rattle.tokens.proofs.numerals.is_hex.Tie as tie
+use Rattle.tokens.proofs.bytes.is_hex.Statement.{statement}
+use Rattle.tokens.proofs.bytes.is_hex.Tie as tie
 
 is-digit-requires : tie.Need-is-digit-requires
 is-digit-requires c κs = search needs
