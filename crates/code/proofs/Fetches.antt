@@ -1,26 +1,51 @@
--- The number of eight bytes holds what `decodeAt` reads of them one by one.
-use mathlib.Core.Path.{_≡_, refl}
-use mathlib.Core.Bool.{Bool, true, false}
+-- The eight bytes of an instruction as one number, byte by byte, and as the code joins them.
+use mathlib.Core.Path.{_≡_, refl, ap}
 use mathlib.Core.List.{List, [], _∷_}
-use Prim.Native.Nat.{ℕ, suc, _+_, _*_, _/_, _%_, _^_, _≤_, _<_}
-use native.Mathlib.Nat.{mul-comm, mul-assoc, mul-add, mul-le-mul-left}
+use Prim.Native.Nat.{ℕ, zero, suc, _+_, _*_, _/_, _^_, _≤_, _<_}
+use native.Mathlib.Nat.{add-zero, add-suc, mul-comm, mul-assoc, mul-add, mul-le-mul-left}
 use lib.Pow.{pow-add}
 use native.Mathlib.Omega.{arith}
 use lib.Bits.{bitOr, or-shifted-r}
-use lib.Dec.{ltb}
-use lib.ListN.{length, getD}
-use borrow.Author.Tests.{lt-ltb, le-ltb, ltb-true, ltb-false}
+use lib.Dec.{lit<}
+use lib.ListN.{length, getD, take, drop}
+use lib.Seq.{drop-cons}
+use borrow.Author.Tests.{lt-ltb, le-ltb}
 use Rattle.words.specs.Words.{littleEndian}
 use Rattle.words.specs.Laws.{Bytes}
-use Rattle.code.specs.declared.Instr.the-variants.{Unknown}
-use Rattle.code.specs.Instructions.{alone, instruction, decodeAt}
-use Rattle.code.specs.private.Fetch.{fetched, instructionOf}
-use Rattle.code.proofs.Parts.{bytesAt, are-bytes, eight-bytes, decode-bytes, decode-beyond}
+use Rattle.words.proofs.Laws.{word-laws}
+use Rattle.code.specs.Instructions.{fetched}
+
+-- k bytes of s, one by one, the first at b + i
+abbrev pub bytesAt : ℕ → ℕ → ℕ → List ℕ → List ℕ
+bytesAt b i zero s = []
+bytesAt b i (suc k) s = getD s (b + i) 0 ∷ bytesAt b (suc i) k s
+
+are-bytes : (b i k : ℕ) (s : List ℕ) → Bytes s → Bytes (bytesAt b i k s)
+are-bytes b i zero s B n = lit< tt
+are-bytes b i (suc k) s B zero = B (b + i)
+are-bytes b i (suc k) s B (suc n) = are-bytes b (suc i) k s B n
+
+one-by-one : (b i k : ℕ) (s : List ℕ) → b + i + k ≤ length s → take k (drop (b + i) s) ≡ bytesAt b i k s
+one-by-one b i zero s h = refl
+one-by-one b i (suc k) s h =
+    let here : b + i < length s = omega arith in
+    let rest : b + suc i + k ≤ length s = omega arith in
+    rw (drop-cons s (b + i) 0 here, ← add-suc b i) (ap (λ (l : List ℕ). getD s (b + i) 0 ∷ l) (one-by-one b (suc i) k s rest))
+
+pub eight-bytes : (s : List ℕ) (p : ℕ) → p < length s / 8 → take 8 (drop (8 * p) s) ≡ getD s (8 * p) 0 ∷ bytesAt (8 * p) 1 7 s
+eight-bytes s p h = rw add-zero at (one-by-one (8 * p) 0 8 s (omega arith))
+
+pub eight-below : (s : List ℕ) (p : ℕ) → Bytes s → p < length s / 8 → littleEndian (take 8 (drop (8 * p) s)) < 2 ^ 64
+eight-below s p B h = rw (eight-bytes s p h) (word-laws .below (getD s (8 * p) 0 ∷ bytesAt (8 * p) 1 7 s) each)
+  where
+    each : Bytes (getD s (8 * p) 0 ∷ bytesAt (8 * p) 1 7 s)
+    each zero = B (8 * p)
+    each (suc n) = are-bytes (8 * p) 1 7 s B n
 
 module _ (s : List ℕ) (p : ℕ) where
-  fetch-within : p < length s / 8 → fetched s p ≡ littleEndian (getD s (8 * p) 0 ∷ bytesAt (8 * p) 1 7 s)
+  pub fetch-within : p < length s / 8 → fetched s p ≡ littleEndian (take 8 (drop (8 * p) s))
   unfolding fetched
-  fetch-within h = rw (lt-ltb p (length s / 8) h, eight-bytes s p h)
+  fetch-within h = rw (lt-ltb p (length s / 8) h)
 
   pub fetch-beyond : length s / 8 ≤ p → fetched s p ≡ 0
   unfolding fetched
@@ -43,34 +68,4 @@ joined k low (b ∷ bs) h B =
 
 pub fetch-joined : (s : List ℕ) (p : ℕ) → Bytes s → p < length s / 8 → joins 8 (getD s (8 * p) 0) (bytesAt (8 * p) 1 7 s) ≡ fetched s p
 fetch-joined s p B h =
-    rw (fetch-within s p h) (joined 8 (getD s (8 * p) 0) (bytesAt (8 * p) 1 7 s) (B _) (are-bytes (8 * p) 1 7 s B))
-
--- ---- the parts of the number of eight bytes
-module _ (o a y z p q r s : ℕ) (o< : o < 256) (a< : a < 256) (y< : y < 256) (z< : z < 256) where
-  abbrev number : ℕ
-  number = littleEndian (o ∷ a ∷ y ∷ z ∷ p ∷ q ∷ r ∷ s ∷ [])
-
-  parted : alone (littleEndian (y ∷ z ∷ [])) (instruction o a (littleEndian (p ∷ q ∷ r ∷ s ∷ []))) ≡ instructionOf number
-  parted =
-      let opcode : number % 256 ≡ o = omega arith in
-      let behind : number / 256 ≡ littleEndian (a ∷ y ∷ z ∷ p ∷ q ∷ r ∷ s ∷ []) = omega arith in
-      let operand : number / 256 % 256 ≡ a = rw behind (omega arith) in
-      let upper : number / 65536 ≡ littleEndian (y ∷ z ∷ p ∷ q ∷ r ∷ s ∷ []) = omega arith in
-      let spare : number / 65536 % 65536 ≡ littleEndian (y ∷ z ∷ []) = rw upper (omega arith) in
-      let word : number / 2 ^ 32 ≡ littleEndian (p ∷ q ∷ r ∷ s ∷ []) = omega arith in
-      rw (opcode, operand, spare, word)
-
-pub zero-unknown : instructionOf 0 ≡ Unknown
-unfolding instruction
-zero-unknown = refl
-
-pub decode-fetched : (s : List ℕ) (p : ℕ) → Bytes s → decodeAt s p ≡ instructionOf (fetched s p)
-decode-fetched s p B = by (ltb p (length s / 8)) refl
-  where
-    by : (t : Bool) → ltb p (length s / 8) ≡ t → decodeAt s p ≡ instructionOf (fetched s p)
-    by true e =
-        let within = ltb-true p (length s / 8) e in
-        rw (decode-bytes s p within, fetch-within s p within) (parted _ _ _ _ _ _ _ _ (B _) (B _) (B _) (B _))
-    by false e =
-        let beyond = ltb-false p (length s / 8) e in
-        rw (decode-beyond s p beyond, fetch-beyond s p beyond, zero-unknown)
+    rw (fetch-within s p h, eight-bytes s p h) (joined 8 (getD s (8 * p) 0) (bytesAt (8 * p) 1 7 s) (B _) (are-bytes (8 * p) 1 7 s B))

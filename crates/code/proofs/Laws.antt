@@ -3,12 +3,12 @@ use mathlib.Core.Path.{_≡_, refl, ap, _∙_}
 use mathlib.Core.Logic.{_≢_, _⊎_, inl, inr}
 use mathlib.Core.Bool.{Bool, true, false}
 use mathlib.Core.List.{List}
-use Prim.Native.Nat.{ℕ, _/_, _^_, _≤_, _<_}
+use Prim.Native.Nat.{ℕ, _+_, _*_, _/_, _^_, _≤_, _<_}
 use native.Mathlib.Nat.{mod-eq-of-lt, lt-of-lt-of-le, le-trans}
 use native.Mathlib.Omega.{arith}
 use lib.Dec.{ltb, lit<, lit≤}
 use lib.IntN.{ℤ, pos, negsuc}
-use lib.ListN.{length}
+use lib.ListN.{length, take, drop}
 use lib.Seq.{take-all}
 use lib.Ieee.{binary32, toBits}
 use lib.Ieee.Bits.{is-true, ofBits-toBits, toBits-lt}
@@ -17,26 +17,37 @@ use Rattle.values.specs.Patterns.{lowBits}
 use Rattle.values.specs.Integers.{inRange}
 use Rattle.values.proofs.Ranges.{range-sfits}
 use Rattle.values.proofs.patterns.Readings.{signed-low}
+use Rattle.words.specs.Words.{littleEndian, bytesOf}
 use Rattle.words.specs.Laws.{Bytes}
 use Rattle.words.proofs.Laws.{word-laws}
 use Rattle.memory.specs.declared.Bank.{Bank}
 use Rattle.memory.specs.declared.Bank.the-variants.{X, C, «V», N, D, R}
+use Rattle.memory.specs.declared.numbers.BankOf.{BankOf}
+use Rattle.operators.specs.declared.tables.UnaryOf.{UnaryOf}
+use Rattle.operators.specs.declared.tables.BinaryOf.{BinaryOf}
 use Rattle.memory.specs.Layout.{layoutOf}
-use Rattle.code.specs.declared.Instr.{Instr}
-use Rattle.code.specs.declared.Instr.the-variants.{PushInt, Unknown}
-use Rattle.code.specs.Instructions.{finiteOnly, indexedOf, unaryInstr, binaryInstr, instruction, decodeAt}
 use Rattle.memory.specs.Numbers.{bankNumber}
 use Rattle.operators.specs.Tables.{unaryNumber, binaryNumber}
-use Rattle.code.specs.Encode.{instructionBytes, encode, Encodable, push-int, push-real, load, load-indexed, unary, binary, jump, jump-if, EncodeLaws}
+use Rattle.code.specs.declared.Instr.{Instr}
+use Rattle.code.specs.declared.Instr.the-variants.{PushInt, Unknown}
+use Rattle.code.specs.Instructions.{PUSH-INT, PUSH-REAL, JUMP, JUMP-IF-FALSE, JUMP-IF-TRUE, LOAD, LOAD-INDEXED, UNARY, BINARY}
+use Rattle.code.specs.Instructions.{finiteOnly, loadIndexed, instruction, opcodeOf, wordOf, instructionOf, decodeAt}
+use Rattle.code.specs.private.Classes.{ofBank, ofUnary, ofBinary}
+use Rattle.code.specs.Encode.{joinWord, codeWord, encode, Encodable, push-int, push-real, load, load-indexed, unary, binary, jump, jump-if, EncodeLaws}
 use Rattle.code.proofs.Finite.{finite-kept}
-use Rattle.code.proofs.Numbers.{bank-back, unary-back, binary-back}
-use Rattle.code.proofs.Parts.{decode-beyond}
-use Rattle.code.proofs.Decodes.{Decodes, none, one, decode-decodes}
+use Rattle.code.proofs.Numbers.{bank-back, unary-back, binary-back, bank-below, unary-below, binary-below}
+use Rattle.code.proofs.Page.{load-class, indexed-class, unary-class, binary-class}
+use Rattle.code.proofs.Fetches.{eight-below}
+use Rattle.code.proofs.Parts.{decode-beyond, decode-within}
+use Rattle.code.proofs.Decodes.{Decodes, none, one, number-decodes}
 
 -- ---- decoding undoes encoding
-decode-eight : (o a w : ℕ) → w < 2 ^ 32 → decodeAt (instructionBytes o a w) 0 ≡ instruction o a w
-unfolding decodeAt
-decode-eight o a w h = ap (instruction o a) (word-laws .decode-encode 4 w ∙ mod-eq-of-lt h)
+-- the number of an opcode and a word has them
+pub joined-parts : (o w : ℕ) → o < 2 ^ 32 → instructionOf (joinWord o w) ≡ instruction o w
+joined-parts o w h =
+    let opcode : opcodeOf (joinWord o w) ≡ o = omega arith in
+    let word : wordOf (joinWord o w) ≡ w = omega arith in
+    rw (opcode, word)
 
 low-below : (z : ℤ) → lowBits 32 z < 2 ^ 32
 low-below (pos n) = omega arith
@@ -50,28 +61,68 @@ elements-most N = lit≤ tt
 elements-most D = lit≤ tt
 elements-most R = lit≤ tt
 
-decoded : (i : Instr) → Encodable i → decodeAt (encode i) 0 ≡ i
+element-below : (b : Bank) (i : ℕ) → i < layoutOf b .elements → i < 2 ^ 32
+element-below b i h = lt-of-lt-of-le h (le-trans (elements-most b) (lit≤ tt))
+
+pub word-decoded : (i : Instr) → Encodable i → instructionOf (codeWord i) ≡ i
 unfolding instruction
-decoded _ (push-int z t) =
-    decode-eight 1 0 (lowBits 32 z) (low-below z) ∙ ap PushInt (signed-low 32 z (lit< tt) (range-sfits z (is-true (inRange z) t) .sfits))
-decoded _ (push-real x S) =
-    decode-eight 2 0 (toBits binary32 x) (toBits-lt binary32 x (S .fit)) ∙ ap finiteOnly (ofBits-toBits binary32 x (S .fit)) ∙ finite-kept x (S .real)
-decoded _ (load b i h) =
-    decode-eight 3 (bankNumber b) i (lt-of-lt-of-le h (le-trans (elements-most b) (lit≤ tt))) ∙ rw (bank-back b, lt-ltb i (layoutOf b .elements) h)
-decoded _ (load-indexed b) = decode-eight 4 (bankNumber b) 0 (lit< tt) ∙ ap indexedOf (bank-back b)
-decoded _ (unary o) = decode-eight 5 (unaryNumber o) 0 (lit< tt) ∙ ap unaryInstr (unary-back o)
-decoded _ (binary o) = decode-eight 6 (binaryNumber o) 0 (lit< tt) ∙ ap binaryInstr (binary-back o)
-decoded _ (jump d h) = decode-eight 7 0 d h
-decoded _ (jump-if false d h) = decode-eight 8 0 d h
-decoded _ (jump-if true d h) = decode-eight 9 0 d h
+word-decoded _ (push-int z t) =
+    joined-parts PUSH-INT (lowBits 32 z) (lit< tt) ∙ ap PushInt (signed-low 32 z (lit< tt) (range-sfits z (is-true (inRange z) t) .sfits))
+word-decoded _ (push-real x S) =
+    joined-parts PUSH-REAL (toBits binary32 x) (lit< tt) ∙ ap finiteOnly (ofBits-toBits binary32 x (S .fit)) ∙ finite-kept x (S .real)
+word-decoded _ (load b i h) =
+    let few = bank-below b in
+    joined-parts (LOAD + bankNumber b) i (omega arith) ∙ load-class (bankNumber b) i (omega arith)
+    ∙ rw (bank-back b, lt-ltb i (layoutOf b .elements) h)
+word-decoded _ (load-indexed b) =
+    let few = bank-below b in
+    joined-parts (LOAD-INDEXED + bankNumber b) 0 (omega arith) ∙ indexed-class (bankNumber b) 0 (omega arith)
+    ∙ ap (λ (n : BankOf). ofBank loadIndexed n 0) (bank-back b)
+word-decoded _ (unary o) =
+    let few = unary-below o in
+    joined-parts (UNARY + unaryNumber o) 0 (omega arith) ∙ unary-class (unaryNumber o) 0 (omega arith)
+    ∙ ap (λ (n : UnaryOf). ofUnary n 0) (unary-back o)
+word-decoded _ (binary o) =
+    let few = binary-below o in
+    joined-parts (BINARY + binaryNumber o) 0 (omega arith) ∙ binary-class (binaryNumber o) 0 (omega arith)
+    ∙ ap (λ (n : BinaryOf). ofBinary n 0) (binary-back o)
+word-decoded _ (jump d h) = joined-parts JUMP d (lit< tt)
+word-decoded _ (jump-if false d h) = joined-parts JUMP-IF-FALSE d (lit< tt)
+word-decoded _ (jump-if true d h) = joined-parts JUMP-IF-TRUE d (lit< tt)
+
+pub word-below : (i : Instr) → Encodable i → codeWord i < 2 ^ 64
+word-below _ (push-int z t) = let low = low-below z in omega arith
+word-below _ (push-real x S) = let low = toBits-lt binary32 x (S .fit) in omega arith
+word-below _ (load b i h) = let few = bank-below b in let low = element-below b i h in omega arith
+word-below _ (load-indexed b) = let few = bank-below b in omega arith
+word-below _ (unary o) = let few = unary-below o in omega arith
+word-below _ (binary o) = let few = binary-below o in omega arith
+word-below _ (jump d h) = omega arith
+word-below _ (jump-if false d h) = omega arith
+word-below _ (jump-if true d h) = omega arith
+
+decoded : (i : Instr) → Encodable i → decodeAt (encode i) 0 ≡ i
+decoded i e =
+    decode-within (encode i) 0 (lit< tt)
+    ∙ ap instructionOf (word-laws .decode-encode 8 (codeWord i) ∙ mod-eq-of-lt (word-below i e))
+    ∙ word-decoded i e
 
 -- ---- encoding undoes decoding
-whole : {bs : List ℕ} {i : Instr} → Decodes bs i → i ≢ Unknown → (encode i ≡ bs) × Encodable i
-whole none n = absurd (n refl)
-whole (one e q) n = (q, e)
+part-decodes : (s : List ℕ) (p : ℕ) → Bytes s → p < length s / 8 → Decodes (littleEndian (take 8 (drop (8 * p) s))) (decodeAt s p)
+part-decodes s p B h = rw (decode-within s p h) (number-decodes (littleEndian (take 8 (drop (8 * p) s))) (eight-below s p B h))
 
 encoded : (bs : List ℕ) → length bs ≡ 8 → Bytes bs → decodeAt bs 0 ≢ Unknown → (encode (decodeAt bs 0) ≡ bs) × Encodable (decodeAt bs 0)
-encoded bs h B = whole (rw (take-all 8 bs (omega arith)) at (decode-decodes bs 0 B (omega arith)))
+encoded bs h B n = whole (part-decodes bs 0 B (omega arith))
+  where
+    back : bytesOf 8 (littleEndian (take 8 bs)) ≡ bs
+    back = rw (take-all 8 bs (omega arith)) (rw h at (word-laws .encode-decode bs B))
+
+    whole : Decodes (littleEndian (take 8 bs)) (decodeAt bs 0) → (encode (decodeAt bs 0) ≡ bs) × Encodable (decodeAt bs 0)
+    whole d = by d n
+      where
+        by : {i : Instr} → Decodes (littleEndian (take 8 bs)) i → i ≢ Unknown → (encode i ≡ bs) × Encodable i
+        by none m = absurd (m refl)
+        by (one e q) m = (ap (bytesOf 8) q ∙ back, e)
 
 pub encode-laws : EncodeLaws
 encode-laws = record { decoded = decoded; encoded = encoded }
@@ -80,10 +131,10 @@ encode-laws = record { decoded = decoded; encoded = encoded }
 pub decode-encodable : (s : List ℕ) (p : ℕ) → Bytes s → Encodable (decodeAt s p) ⊎ (decodeAt s p ≡ Unknown)
 decode-encodable s p B = by (ltb p (length s / 8)) refl
   where
-    kept : {bs : List ℕ} {i : Instr} → Decodes bs i → Encodable i ⊎ (i ≡ Unknown)
+    kept : {n : ℕ} {i : Instr} → Decodes n i → Encodable i ⊎ (i ≡ Unknown)
     kept none = inr refl
     kept (one e q) = inl e
 
     by : (t : Bool) → ltb p (length s / 8) ≡ t → Encodable (decodeAt s p) ⊎ (decodeAt s p ≡ Unknown)
-    by true e = kept (decode-decodes s p B (ltb-true p (length s / 8) e))
+    by true e = kept (part-decodes s p B (ltb-true p (length s / 8) e))
     by false e = inr (decode-beyond s p (ltb-false p (length s / 8) e))

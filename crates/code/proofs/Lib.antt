@@ -1,7 +1,9 @@
 -- What the layers above may cite; below it, the steps that lead there.
 pub mod Laws
+pub mod Page
 pub mod Parts
-pub mod Decodes
-pub mod Fetches
-mod Numbers
 pub mod Finite
+mod Classes
+mod Decodes
+mod Fetches
+mod Numbers

@@ -1,10 +1,13 @@
 -- The operands and their numbers: each has its own, and the list at a number is the operand with it.
 use mathlib.Core.Path.{_≡_, refl, sym, _∙_}
+use mathlib.Core.Bool.{Bool, true, false, cond, false≢true}
 use mathlib.Core.List.{List, [], _∷_, map}
 use Prim.Native.Nat.{ℕ, zero, suc, _+_, _<_}
 use native.Mathlib.Nat.{add-zero, zero-add, not-suc-le-zero, le-of-suc-le-suc}
 use native.Mathlib.Omega.{arith}
+use lib.Dec.{ltb}
 use lib.ListN.{length, getD, List·getD-map}
+use borrow.Author.Tests.{ltb-true}
 use Rattle.reals.specs.declared.ArithOp.the-variants.{Add, Sub, Mul, Div, Rem}
 use Rattle.values.specs.declared.BitOp.the-variants.{And, Or, Xor}
 use Rattle.values.specs.declared.ShiftOp.the-variants.{Left, Right, RightZero}
@@ -62,6 +65,23 @@ binary-back (Bits Xor) = refl
 binary-back (Bits Or) = refl
 binary-back (Choice Max) = refl
 binary-back (Choice Min) = refl
+
+-- a number that has one is below the list's length
+found-below : {A : Type 0} (n m : ℕ) (x y z : A) → (y ≡ z → false ≡ true) → cond (ltb n m) x y ≡ z → n < m
+found-below n m x y z other = by (ltb n m) refl
+  where
+    by : (t : Bool) → ltb n m ≡ t → cond t x y ≡ z → n < m
+    by true e q = ltb-true n m e
+    by false e q = absurd (false≢true (other q))
+
+pub bank-below : (b : Bank) → bankNumber b < 6
+bank-below b = found-below (bankNumber b) 6 _ BankOf.Nothing (BankOf.Is b) (λ e. cc) (bank-back b)
+
+pub unary-below : (o : UnaryOp) → unaryNumber o < 8
+unary-below o = found-below (unaryNumber o) 8 _ UnaryOf.Nothing (UnaryOf.Is o) (λ e. cc) (unary-back o)
+
+pub binary-below : (o : BinaryOp) → binaryNumber o < 20
+binary-below o = found-below (binaryNumber o) 20 _ BinaryOf.Nothing (BinaryOf.Is o) (λ e. cc) (binary-back o)
 
 -- ---- the number of the operand at a place
 abbrev from : ℕ → ℕ → List ℕ

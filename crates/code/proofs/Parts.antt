@@ -1,52 +1,32 @@
--- The eight bytes of an instruction: `decodeAt` reads them and nothing else, at any place of the code.
+-- The instruction at a place is that of its eight bytes, and the code is a list of instructions.
 use mathlib.Core.Path.{_≡_, refl, ap, _∙_}
-use mathlib.Core.List.{List, [], _∷_}
+use mathlib.Core.List.{List}
 use Prim.Native.Nat.{ℕ, zero, suc, _+_, _*_, _/_, _≤_, _<_}
-use native.Mathlib.Nat.{add-zero, add-suc, not-suc-le-zero, le-of-suc-le-suc}
+use native.Mathlib.Nat.{add-zero, not-suc-le-zero, le-of-suc-le-suc}
 use native.Mathlib.Omega.{arith}
-use lib.Dec.{lit<}
 use lib.ListN.{length, getD, take, drop}
-use lib.Seq.{drop-cons}
-use borrow.Author.Tests.{lt-ltb, le-ltb}
 use Rattle.words.specs.Words.{littleEndian}
-use Rattle.words.specs.Laws.{Bytes}
 use Rattle.code.specs.declared.Instr.the-variants.{Unknown}
-use Rattle.code.specs.Instructions.{alone, instruction, decodeAt, decodeFrom}
+use Rattle.code.specs.Instructions.{instruction, instructionOf, fetched, decodeAt, decodeFrom}
+use Rattle.code.proofs.Fetches.{eight-bytes, fetch-within, fetch-beyond}
 
--- k bytes of s, one by one, the first at b + i
-abbrev pub bytesAt : ℕ → ℕ → ℕ → List ℕ → List ℕ
-bytesAt b i zero s = []
-bytesAt b i (suc k) s = getD s (b + i) 0 ∷ bytesAt b (suc i) k s
-
-pub are-bytes : (b i k : ℕ) (s : List ℕ) → Bytes s → Bytes (bytesAt b i k s)
-are-bytes b i zero s B n = lit< tt
-are-bytes b i (suc k) s B zero = B (b + i)
-are-bytes b i (suc k) s B (suc n) = are-bytes b (suc i) k s B n
-
-one-by-one : (b i k : ℕ) (s : List ℕ) → b + i + k ≤ length s → take k (drop (b + i) s) ≡ bytesAt b i k s
-one-by-one b i zero s h = refl
-one-by-one b i (suc k) s h =
-    let here : b + i < length s = omega arith in
-    let rest : b + suc i + k ≤ length s = omega arith in
-    rw (drop-cons s (b + i) 0 here, ← add-suc b i) (ap (λ (l : List ℕ). getD s (b + i) 0 ∷ l) (one-by-one b (suc i) k s rest))
-
-pub eight-bytes : (s : List ℕ) (p : ℕ) → p < length s / 8 → take 8 (drop (8 * p) s) ≡ getD s (8 * p) 0 ∷ bytesAt (8 * p) 1 7 s
-eight-bytes s p h = rw add-zero at (one-by-one (8 * p) 0 8 s (omega arith))
-
--- the instruction by its bytes
-pub decode-bytes : (s : List ℕ) (p : ℕ) → p < length s / 8
-    → decodeAt s p ≡ alone (littleEndian (bytesAt (8 * p) 2 2 s)) (instruction (getD s (8 * p) 0) (getD s (8 * p + 1) 0) (littleEndian (bytesAt (8 * p) 4 4 s)))
+pub decode-fetched : (s : List ℕ) (p : ℕ) → decodeAt s p ≡ instructionOf (fetched s p)
 unfolding decodeAt
-decode-bytes s p h =
-    rw (lt-ltb p (length s / 8) h, one-by-one (8 * p) 2 2 s (omega arith), one-by-one (8 * p) 4 4 s (omega arith))
+decode-fetched s p = refl
+
+zero-unknown : instructionOf 0 ≡ Unknown
+unfolding instruction
+zero-unknown = refl
 
 pub decode-beyond : (s : List ℕ) (p : ℕ) → length s / 8 ≤ p → decodeAt s p ≡ Unknown
-unfolding decodeAt
-decode-beyond s p h = rw (le-ltb p (length s / 8) h)
+decode-beyond s p h = decode-fetched s p ∙ rw (fetch-beyond s p h, zero-unknown)
+
+pub decode-within : (s : List ℕ) (p : ℕ) → p < length s / 8 → decodeAt s p ≡ instructionOf (littleEndian (take 8 (drop (8 * p) s)))
+decode-within s p h = decode-fetched s p ∙ ap instructionOf (fetch-within s p h)
 
 pub decode-part : (s : List ℕ) (p : ℕ) → p < length s / 8 → decodeAt s p ≡ decodeAt (take 8 (drop (8 * p) s)) 0
 unfolding decodeAt
-decode-part s p h = decode-bytes s p h ∙ rw (eight-bytes s p h)
+decode-part s p h = decode-within s p h ∙ rw (eight-bytes s p h)
 
 -- ---- the code as a list of instructions
 pub decode-length : (s : List ℕ) (p n : ℕ) → length (decodeFrom s p n) ≡ n

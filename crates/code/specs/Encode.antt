@@ -2,8 +2,8 @@
 use mathlib.Core.Path.{_≡_}
 use mathlib.Core.Logic.{_≢_}
 use mathlib.Core.Bool.{Bool, true, false}
-use mathlib.Core.List.{List, _∷_}
-use Prim.Native.Nat.{ℕ, _^_, _<_}
+use mathlib.Core.List.{List}
+use Prim.Native.Nat.{ℕ, _+_, _*_, _^_, _<_}
 use lib.Dec.{T}
 use lib.IntN.{ℤ}
 use lib.ListN.{length}
@@ -22,23 +22,27 @@ use Rattle.memory.specs.Numbers.{bankNumber}
 use Rattle.operators.specs.Tables.{unaryNumber, binaryNumber}
 use Rattle.code.specs.declared.Instr.{Instr}
 use Rattle.code.specs.declared.Instr.the-variants.{PushInt, PushReal, Load, LoadIndexed, Unary, Binary, Jump, JumpIf, Unknown}
-use Rattle.code.specs.Instructions.{decodeAt}
+use Rattle.code.specs.Instructions.{PUSH-INT, PUSH-REAL, JUMP, JUMP-IF-FALSE, JUMP-IF-TRUE, LOAD, LOAD-INDEXED, UNARY, BINARY, decodeAt}
 
--- opcode, operand, two bytes of 0, word
-abbrev pub instructionBytes : ℕ → ℕ → ℕ → List ℕ
-instructionBytes o a w = o ∷ a ∷ 0 ∷ 0 ∷ bytesOf 4 w
+-- the number of eight bytes, of an opcode and a word
+abbrev pub joinWord : ℕ → ℕ → ℕ
+joinWord o w = o + 2 ^ 32 * w
+
+-- the number of an instruction's eight bytes
+abbrev pub codeWord : Instr → ℕ
+codeWord (PushInt z) = joinWord PUSH-INT (lowBits 32 z)
+codeWord (PushReal x) = joinWord PUSH-REAL (Ieee.toBits binary32 x)
+codeWord (Load b i) = joinWord (LOAD + bankNumber b) i
+codeWord (LoadIndexed b) = joinWord (LOAD-INDEXED + bankNumber b) 0
+codeWord (Unary o) = joinWord (UNARY + unaryNumber o) 0
+codeWord (Binary o) = joinWord (BINARY + binaryNumber o) 0
+codeWord (Jump d) = joinWord JUMP d
+codeWord (JumpIf false d) = joinWord JUMP-IF-FALSE d
+codeWord (JumpIf true d) = joinWord JUMP-IF-TRUE d
+codeWord Unknown = 0
 
 abbrev pub encode : Instr → List ℕ
-encode (PushInt z) = instructionBytes 1 0 (lowBits 32 z)
-encode (PushReal x) = instructionBytes 2 0 (Ieee.toBits binary32 x)
-encode (Load b i) = instructionBytes 3 (bankNumber b) i
-encode (LoadIndexed b) = instructionBytes 4 (bankNumber b) 0
-encode (Unary o) = instructionBytes 5 (unaryNumber o) 0
-encode (Binary o) = instructionBytes 6 (binaryNumber o) 0
-encode (Jump d) = instructionBytes 7 0 d
-encode (JumpIf false d) = instructionBytes 8 0 d
-encode (JumpIf true d) = instructionBytes 9 0 d
-encode Unknown = instructionBytes 0 0 0
+encode i = bytesOf 8 (codeWord i)
 
 -- an instruction that eight bytes can hold
 pub data Encodable : Instr → Type 0 where

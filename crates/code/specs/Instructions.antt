@@ -1,78 +1,127 @@
--- The instruction set of docs/INSTRUCTIONS.md: which eight bytes are which instruction (paper 01, "Code and its check": "every one is known (a cell beyond its
--- bank, or a pushed infinity or NaN, is not)").
+-- The instruction set: one row an opcode, and which eight bytes are which instruction (paper 01, "Code and its check": "every one is known (a cell beyond its
+-- bank, or a pushed infinity or NaN, is not)"). docs/INSTRUCTIONS.md is the same page in words.
 use mathlib.Core.Bool.{true, false, cond}
-use mathlib.Core.List.{List, [], _∷_}
-use Prim.Native.Nat.{ℕ, zero, suc, _+_, _*_, _/_}
+use mathlib.Core.List.{List, [], _∷_, _++_}
+use Prim.Native.Nat.{ℕ, zero, suc, _+_, _*_, _/_, _%_, _^_}
 use lib.Dec.{eqb, ltb}
-use lib.ListN.{length, getD, take, drop}
+use lib.ListN.{length, take, drop}
 use lib.Ieee as Ieee
 use lib.Ieee.{Float, nan, inf, fin, binary32}
 use Rattle.values.specs.Patterns.{signedOf}
-use Rattle.operators.specs.Tables.{unaryOf, binaryOf}
+use Rattle.operators.specs.declared.UnaryOp.{UnaryOp}
+use Rattle.operators.specs.declared.BinaryOp.{BinaryOp}
+use Rattle.operators.specs.Tables.{unaryOps, binaryOps}
 use Rattle.words.specs.Words.{littleEndian}
+use Rattle.memory.specs.declared.Bank.{Bank}
 use Rattle.memory.specs.Layout.{layoutOf}
+use Rattle.memory.specs.Numbers.{banks}
 use Rattle.code.specs.declared.Instr.{Instr}
 use Rattle.code.specs.declared.Instr.the-variants.{PushInt, PushReal, Load, LoadIndexed, Unary, Binary, Jump, JumpIf, Unknown}
-use Rattle.memory.specs.declared.numbers.BankOf.{BankOf}
-use Rattle.memory.specs.declared.numbers.BankOf.the-variants as BankOf
-use Rattle.memory.specs.Numbers.{bankNumbered}
-use Rattle.operators.specs.declared.tables.UnaryOf.{UnaryOf}
-use Rattle.operators.specs.declared.tables.UnaryOf.the-variants as UnaryOf
-use Rattle.operators.specs.declared.tables.BinaryOf.{BinaryOf}
-use Rattle.operators.specs.declared.tables.BinaryOf.the-variants as BinaryOf
 
--- the rest of the eight bytes must be 0
-abbrev pub alone : ℕ → Instr → Instr
-alone rest i = cond (eqb rest 0) i Unknown
+-- ---- the opcodes
+abbrev pub PUSH-INT : ℕ
+PUSH-INT = 1
+
+abbrev pub PUSH-REAL : ℕ
+PUSH-REAL = 2
+
+abbrev pub JUMP : ℕ
+JUMP = 3
+
+abbrev pub JUMP-IF-FALSE : ℕ
+JUMP-IF-FALSE = 4
+
+abbrev pub JUMP-IF-TRUE : ℕ
+JUMP-IF-TRUE = 5
+
+-- the first of a class: the number of the bank or of the operator is added
+abbrev pub LOAD : ℕ
+LOAD = 32
+
+abbrev pub LOAD-INDEXED : ℕ
+LOAD-INDEXED = 64
+
+abbrev pub UNARY : ℕ
+UNARY = 96
+
+abbrev pub BINARY : ℕ
+BINARY = 128
+
+-- ---- the instruction of a word, behind its opcode
+-- the word must be 0
+abbrev pub ifZero : ℕ → Instr → Instr
+ifZero w i = cond (eqb w 0) i Unknown
 
 abbrev pub finiteOnly : Float → Instr
 finiteOnly nan = Unknown
 finiteOnly (inf s) = Unknown
 finiteOnly (fin s m e) = PushReal (fin s m e)
 
+abbrev pub pushInt : ℕ → Instr
+pushInt w = PushInt (signedOf 32 w)
+
 abbrev pub pushReal : ℕ → Instr
 pushReal w = finiteOnly (Ieee.ofBits binary32 w)
 
-abbrev pub loadOf : BankOf → ℕ → Instr
-loadOf (BankOf.Is b) w = cond (ltb w (layoutOf b .elements)) (Load b w) Unknown
-loadOf BankOf.Nothing w = Unknown
+abbrev pub loadElement : Bank → ℕ → Instr
+loadElement b w = cond (ltb w (layoutOf b .elements)) (Load b w) Unknown
 
-abbrev pub indexedOf : BankOf → Instr
-indexedOf (BankOf.Is b) = LoadIndexed b
-indexedOf BankOf.Nothing = Unknown
+abbrev pub loadIndexed : Bank → ℕ → Instr
+loadIndexed b w = ifZero w (LoadIndexed b)
 
-abbrev pub unaryInstr : UnaryOf → Instr
-unaryInstr (UnaryOf.Is o) = Unary o
-unaryInstr UnaryOf.Nothing = Unknown
+abbrev pub applyUnary : UnaryOp → ℕ → Instr
+applyUnary o w = ifZero w (Unary o)
 
-abbrev pub binaryInstr : BinaryOf → Instr
-binaryInstr (BinaryOf.Is o) = Binary o
-binaryInstr BinaryOf.Nothing = Unknown
+abbrev pub applyBinary : BinaryOp → ℕ → Instr
+applyBinary o w = ifZero w (Binary o)
 
--- opcode, operand, word
-unfoldable pub instruction : ℕ → ℕ → ℕ → Instr
-instruction o a w =
-    cond (eqb o 1) (alone a (PushInt (signedOf 32 w)))
-    (cond (eqb o 2) (alone a (pushReal w))
-    (cond (eqb o 3) (loadOf (bankNumbered a) w)
-    (cond (eqb o 4) (alone w (indexedOf (bankNumbered a)))
-    (cond (eqb o 5) (alone w (unaryInstr (unaryOf a)))
-    (cond (eqb o 6) (alone w (binaryInstr (binaryOf a)))
-    (cond (eqb o 7) (alone a (Jump w))
-    (cond (eqb o 8) (alone a (JumpIf false w))
-    (cond (eqb o 9) (alone a (JumpIf true w))
-    Unknown))))))))
+-- ---- the page
+pub record Row : Type 0 where
+  pub opcode : ℕ
+  pub instr : ℕ → Instr
 
--- the k bytes from a place on
-abbrev pub bytesFrom : ℕ → ℕ → List ℕ → List ℕ
-bytesFrom k at s = take k (drop at s)
+abbrev pub row : ℕ → (ℕ → Instr) → Row
+row o f = record { opcode = o; instr = f }
+
+-- a row for each of a numbered list, from an opcode on
+abbrev pub rows : {A : Type 0} → ℕ → (A → ℕ → Instr) → List A → List Row
+rows o f [] = []
+rows o f (a ∷ l) = row o (f a) ∷ rows (suc o) f l
+
+abbrev pub singles : List Row
+singles = row PUSH-INT pushInt ∷ row PUSH-REAL pushReal ∷ row JUMP Jump ∷ row JUMP-IF-FALSE (JumpIf false) ∷ row JUMP-IF-TRUE (JumpIf true) ∷ []
+
+abbrev pub page : List Row
+page =
+    rows LOAD loadElement banks ++ (rows LOAD-INDEXED loadIndexed banks ++ (rows UNARY applyUnary unaryOps ++ (rows BINARY applyBinary binaryOps
+    ++ singles)))
+
+abbrev pub lookup : List Row → ℕ → ℕ → Instr
+lookup [] o w = Unknown
+lookup (r ∷ rs) o w = cond (eqb o (r .opcode)) (r .instr w) (lookup rs o w)
+
+-- the instruction of an opcode and a word
+unfoldable pub instruction : ℕ → ℕ → Instr
+instruction o w = lookup page o w
+
+-- ---- the eight bytes
+-- byte 0 is the opcode, bytes 1 to 3 are 0, since no opcode reaches them, and bytes 4 to 7 are the word
+abbrev pub opcodeOf : ℕ → ℕ
+opcodeOf n = n % 2 ^ 32
+
+abbrev pub wordOf : ℕ → ℕ
+wordOf n = n / 2 ^ 32
+
+abbrev pub instructionOf : ℕ → Instr
+instructionOf n = instruction (opcodeOf n) (wordOf n)
+
+-- the number of the eight bytes at a place; 0 where the code does not reach
+unfoldable pub fetched : List ℕ → ℕ → ℕ
+fetched s p = cond (ltb p (length s / 8)) (littleEndian (take 8 (drop (8 * p) s))) 0
 
 unfoldable pub decodeAt : List ℕ → ℕ → Instr
-unfolding instruction
-decodeAt s p =
-    cond (ltb p (length s / 8))
-    (alone (littleEndian (bytesFrom 2 (8 * p + 2) s)) (instruction (getD s (8 * p) 0) (getD s (8 * p + 1) 0) (littleEndian (bytesFrom 4 (8 * p + 4) s))))
-    Unknown
+unfolding instruction fetched
+decodeAt s p = instructionOf (fetched s p)
 
 -- the first n instructions of the code, from the place p
 unfoldable pub decodeFrom : List ℕ → ℕ → ℕ → List Instr

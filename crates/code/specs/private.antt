@@ -1,1 +1,1 @@
-pub mod Fetch
+pub mod Classes

@@ -1,7 +1,9 @@
 // Instructions and their eight bytes. docs/INSTRUCTIONS.md is the page of them.
 ghost use mathlib.Core.Path.{_≡_};
 ghost use Prim.Native.Nat.{_<_};
-ghost use Rattle.code.specs.private.Fetch.{fetched};
+ghost use Rattle.code.specs.Instructions.{opcodeOf, wordOf, fetched};
+ghost use Rattle.code.specs.Encode.{joinWord};
+ghost use Rattle.code.specs.private.Classes.{singleClass, classOf, numberOf};
 use memory::Bank;
 use operators::BinaryOp;
 use operators::UnaryOp;
@@ -19,6 +21,108 @@ pub enum Instr {
     Jump(u32),
     JumpIf(bool, u32),
     Unknown,
+}
+
+// The opcodes: specs/Instructions.antt.
+pub const PUSH_INT: u32 = 1;
+
+pub const PUSH_REAL: u32 = 2;
+
+pub const JUMP: u32 = 3;
+
+pub const JUMP_IF_FALSE: u32 = 4;
+
+pub const JUMP_IF_TRUE: u32 = 5;
+
+// The first of a class: the number of the bank or of the operator is added.
+pub const LOAD: u32 = 32;
+
+pub const LOAD_INDEXED: u32 = 64;
+
+pub const UNARY: u32 = 96;
+
+pub const BINARY: u32 = 128;
+
+const CLASS_SIZE: u32 = 32;
+
+// The word stands above the 32 bits of the opcode.
+const WORD: u64 = 0x1_0000_0000;
+
+// What an instruction is, by its opcode.
+pub enum Class {
+    PushInt,
+    PushReal,
+    Jump,
+    JumpIfFalse,
+    JumpIfTrue,
+    Load,
+    LoadIndexed,
+    Unary,
+    Binary,
+    Unknown,
+}
+
+// The number of eight bytes. Those that must be 0 are the opcode's three upper ones: no opcode reaches them.
+pub fn join(opcode: u32, word: u32) -> u64
+    ensures { λ r. ⌜ r ≡ joinWord opcode word ⌝ }
+{
+    (opcode as u64) + WORD * (word as u64)
+}
+
+pub fn word_of(n: u64) -> u32
+    ensures { λ r. ⌜ r ≡ wordOf n ⌝ }
+{
+    (n / WORD) as u32
+}
+
+fn opcode_of(n: u64) -> u32
+    ensures { λ r. ⌜ r ≡ opcodeOf n ⌝ }
+{
+    (n % WORD) as u32
+}
+
+// The number that an opcode adds to the first of its class.
+pub fn number_of(n: u64) -> u8
+    ensures { λ r. ⌜ r ≡ numberOf n ⌝ }
+{
+    (opcode_of(n) % CLASS_SIZE) as u8
+}
+
+fn single(opcode: u32) -> Class
+    ensures { λ r. ⌜ r ≡ singleClass opcode ⌝ }
+{
+    match opcode {
+        PUSH_INT => Class::PushInt,
+        PUSH_REAL => Class::PushReal,
+        JUMP => Class::Jump,
+        JUMP_IF_FALSE => Class::JumpIfFalse,
+        JUMP_IF_TRUE => Class::JumpIfTrue,
+        _ => Class::Unknown,
+    }
+}
+
+// The tests stand in the order of how often a class comes. Class has no data, so that a caller's match on it is one with the tests.
+pub fn class_of(n: u64) -> Class
+    ensures { λ r. ⌜ r ≡ classOf (opcodeOf n) ⌝ }
+{
+    let o = opcode_of(n);
+    if o < LOAD {
+        return single(o);
+    }
+    if BINARY <= o {
+        return if o < BINARY + CLASS_SIZE {
+            Class::Binary
+        } else {
+            Class::Unknown
+        };
+    }
+    if o < LOAD_INDEXED {
+        return Class::Load;
+    }
+    if o < UNARY {
+        return Class::LoadIndexed;
+    }
+    Class::Unary
 }
 
 fn wide(b: u8) -> u64

@@ -18,6 +18,7 @@ use crate::Coded;
 use draft::ahead;
 use draft::results;
 use draft::results::CLEAR;
+use operators::functions;
 use tokens::symbols;
 
 // "more than eight open" is refused
@@ -147,7 +148,7 @@ fn bracket(
     enclosed(table, draft, at + 1, pc, room - 1, closer)
 }
 
-// arguments: ( expression { , expression } ), and what the function f makes of them. The first six functions have one argument, the next two have two, and IF has three.
+// arguments: ( expression { , expression } ), and what the function f makes of them.
 fn arguments(table: &[u64], draft: &mut [u64], at: usize, pc: usize, room: u8, f: u8) -> u64
     requires { ⌜ Fits (now table) at pc ⌝ }
     requires { ⌜ f < 9 ⌝ }
@@ -159,7 +160,8 @@ fn arguments(table: &[u64], draft: &mut [u64], at: usize, pc: usize, room: u8, f
     if room == 0 {
         return results::deep(at);
     }
-    if f < 6 {
+    let arity = functions::arity(f);
+    if arity == 1 {
         let only = enclosed(table, draft, at + 1, pc, room - 1, symbols::CLOSE);
         if !results::is_done(only) {
             return only;
@@ -170,7 +172,7 @@ fn arguments(table: &[u64], draft: &mut [u64], at: usize, pc: usize, room: u8, f
     if !results::is_done(first) {
         return first;
     }
-    if f < 8 {
+    if arity == 2 {
         let next = results::next_of(first);
         let end = results::end_of(first);
         let last = enclosed(table, draft, next, end, room - 1, symbols::CLOSE);

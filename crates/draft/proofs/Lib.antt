@@ -2,5 +2,6 @@
 pub mod Putting
 pub mod Signing
 mod Numbers
+mod Typed
 mod Words
 mod Copied

@@ -7,7 +7,8 @@ use native.Mathlib.Omega.{arith}
 use lib.ListN.{length, take, length-append, length-set}
 use lib.Seq.{set-comm, take-suc-set}
 use Rattle.code.specs.declared.Instr.{Instr}
-use Rattle.draft.specs.private.Draft.{codeWord, codeWords, putInstr, putCode}
+use Rattle.code.specs.Encode.{codeWord}
+use Rattle.draft.specs.private.Draft.{codeWords, putInstr, putCode}
 
 -- ---- a row of instructions
 pub put-next : (s : List ℕ) (p q : ℕ) (c d : List Instr) → q ≡ p + length c → putCode (putCode s p c) q d ≡ putCode s p (c ++ d)

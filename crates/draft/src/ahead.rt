@@ -2,62 +2,93 @@
 ghost use mathlib.Core.Path.{_≡_};
 ghost use Prim.Native.Nat.{_≤_, _<_};
 ghost use lib.ListN.{length};
-ghost use Rattle.memory.specs.Cells.{bankKind};
-ghost use Rattle.token_table.specs.private.Table.{wordOperand, wordAt};
-ghost use Rattle.draft.specs.private.Results.{kindIs};
-ghost use Rattle.draft.specs.private.Words.{bankAt, isLeaf, leafKind, isMark, prefixNumber, groupIn, placeAt, Signs};
+ghost use Rattle.operators.specs.Kinds.{numberKind};
+ghost use Rattle.token_table.specs.private.Table.{wordClass, wordOperand, wordAt};
+ghost use Rattle.draft.specs.private.Words.{isLeaf, leafKind, leafOpcode, isMark, prefixNumber, groupIn, placeAt, Signs};
+use memory::numbers;
+use operators::kinds;
+use operators::tables;
+use tokens::symbols;
+
+// The classes of tokens, as token_table packs them; behind the last token there is none.
+const NONE: u8 = 0;
+
+const INTEGER: u8 = 1;
+
+const REAL: u8 = 2;
+
+const LETTER: u8 = 4;
 
 const SYMBOL: u8 = 6;
 
-// The classes of numbers and cells.
+// What `sign_of` gives for what is no unary operator of the text.
+const NO_SIGN: u8 = 3;
+
+// A number or a cell: their classes are those before LETTER.
 pub fn is_leaf(w: u64) -> bool
     ensures { λ r. ⌜ r ≡ isLeaf w ⌝ }
 {
     let class = token_table::class_of(w);
-    if class == 0 { false } else { class < 4 }
-}
-
-// Of the banks only R, the last, has reals.
-pub fn bank_kind(bank: u8) -> u64
-    requires { ⌜ bank < 6 ⌝ }
-    ensures { λ r. ⌜ kindIs r ≡ bankKind (bankAt bank) ⌝ }
-    ensures { λ r. ⌜ r < 2 ⌝ }
-{
-    if bank == 5 { 1 } else { 0 }
+    if class == NONE { false } else { class < LETTER }
 }
 
 // The kind of a number or a cell.
-pub fn leaf_kind(w: u64) -> u64
+pub fn leaf_kind(w: u64) -> u8
     requires { ⌜ wordOperand w < 6 ⌝ }
-    ensures { λ r. ⌜ kindIs r ≡ leafKind w ⌝ }
+    ensures { λ r. ⌜ numberKind r ≡ leafKind w ⌝ }
     ensures { λ r. ⌜ r < 2 ⌝ }
 {
     let class = token_table::class_of(w);
-    if class == 1 {
-        return 0;
+    if class == INTEGER {
+        return kinds::INT;
     }
-    if class == 2 {
-        return 1;
+    if class == REAL {
+        return kinds::REAL;
     }
-    bank_kind(token_table::operand_of(w))
+    numbers::bank_kind(token_table::operand_of(w) as u32)
+}
+
+// The opcode that pushes a number or loads a cell.
+pub fn leaf_opcode(w: u64) -> u32
+    ensures { λ r. ⌜ r ≡ leafOpcode (wordClass w) (wordOperand w) ⌝ }
+{
+    let class = token_table::class_of(w);
+    if class == INTEGER {
+        return code::PUSH_INT;
+    }
+    if class == REAL {
+        return code::PUSH_REAL;
+    }
+    code::LOAD + (token_table::operand_of(w) as u32)
+}
+
+fn is_symbol(w: u64, n: u8) -> bool
+    ensures { λ r. ⌜ r ≡ isMark n w ⌝ }
+{
+    w % 65536 == (SYMBOL as u64) + 256 * (n as u64)
 }
 
 // Whether the symbol n comes next.
 pub fn expected(table: &[u64], at: usize, n: u8) -> bool
     ensures { λ r. ⌜ r ≡ isMark n (wordAt (now (table .entry)) at) ⌝ }
 {
-    token_table::word_at(table, at) % 65536 == 6 + 256 * (n as u64)
+    is_symbol(token_table::word_at(table, at), n)
 }
 
-// The number of a unary operator, - ~ !, or 3.
+// The number of a unary operator of the text, or NO_SIGN.
 pub fn sign_of(w: u64) -> u8
     ensures { λ r. ⌜ r ≡ prefixNumber w ⌝ }
 {
-    match w % 65536 {
-        1286 => 0,
-        5126 => 1,
-        5382 => 2,
-        _ => 3,
+    if is_symbol(w, symbols::MINUS) {
+        return tables::NEG;
+    }
+    if is_symbol(w, symbols::COMPLEMENT) {
+        return tables::COMPLEMENT;
+    }
+    if is_symbol(w, symbols::NOT) {
+        tables::NOT
+    } else {
+        NO_SIGN
     }
 }
 
@@ -77,7 +108,7 @@ pub fn place_at(table: &[u64], at: usize, size: usize) -> usize
     ensures { λ r. ⌜ r ≡ placeAt size (wordAt (now (table .entry)) at) ⌝ }
 {
     let w = token_table::word_at(table, at);
-    if token_table::class_of(w) == 0 {
+    if token_table::class_of(w) == NONE {
         size
     } else {
         token_table::place_of(w)
@@ -90,7 +121,7 @@ pub fn signs_end(table: &[u64], at: usize) -> usize
     ensures { λ r. ⌜ Signs (now (table .entry)) at r ⌝ }
 {
     let mut end = at;
-    while sign_of(token_table::word_at(table, end)) < 3 {
+    while sign_of(token_table::word_at(table, end)) < NO_SIGN {
         end += 1;
     }
     end

@@ -5,58 +5,64 @@ ghost use Prim.Native.Nat.{_+_, _-_, _*_, _%_, _<_, _≤_};
 ghost use lib.Dec.{eqb};
 ghost use lib.ListN.{length, take, set};
 ghost use lib.Seq.{sets};
-ghost use Rattle.operators.specs.Kinds.{join, unaryKind, unaryTakes, binaryKind};
+ghost use Rattle.operators.specs.Kinds.{join, numberKind, unaryKind, unaryTakes, binaryKind};
+ghost use Rattle.operators.specs.Functions.{functionArity};
 ghost use Rattle.memory.specs.Cells.{bankKind};
-ghost use Rattle.token_table.specs.private.Table.{packFields, wordClass, wordOperand, wordNumber, wordPlace};
+ghost use Rattle.token_table.specs.private.Table.{wordClass, wordOperand, wordNumber, wordPlace};
 ghost use Rattle.grammar.specs.Tree.{clear, earlier, unless, wrongKindAt};
 ghost use Rattle.code.specs.declared.Instr.the-variants.{LoadIndexed, Unary, Binary, JumpIf};
-ghost use Rattle.tree_code.specs.Code.{branchTail};
-ghost use Rattle.draft.specs.private.Results.{Done, kindIs, diagnosed, readNext, readEnd, readKind, readWrong, readOf};
-ghost use Rattle.draft.specs.private.Words.{unaryAt, binaryAt, bankAt, functionOp, leafKind, prefixNumber};
+ghost use Rattle.code.specs.Encode.{joinWord};
+ghost use Rattle.tree_code.specs.Code.{branchTail, branchTailSkip};
+ghost use Rattle.draft.specs.private.Results.{Done, diagnosed, readNext, readEnd, readKind, readWrong, readOf};
+ghost use Rattle.draft.specs.private.Words.{unaryAt, bankAt, functionOp, functionPair, leafKind, leafOpcode, prefixNumber};
 ghost use Rattle.draft.specs.private.Draft.{wordBytes, putInstr, putCode, reserved, settledCode, joinedCode, joinedEnd, infixKind, infixWrong, chosenCode};
+use code::BINARY;
+use code::JUMP;
+use code::JUMP_IF_FALSE;
+use code::LOAD_INDEXED;
+use code::PUSH_INT;
+use code::UNARY;
+use memory::numbers;
+use operators::functions;
+use operators::kinds;
+use operators::kinds::NOT_TAKEN;
+use operators::tables;
 use results::CLEAR;
 
 pub mod ahead;
-pub mod kinds;
+pub mod diagnostics;
 pub mod results;
 
-const UNARY: u8 = 5;
-
-const BINARY: u8 = 6;
-
-const JUMP: u8 = 7;
-
-const JUMP_IF_FALSE: u8 = 8;
+// The symbols && and || are the binary operators of the text from here on: they jump, where the others are instructions.
+const AND: u8 = 18;
 
 // One instruction.
-pub fn put(draft: &mut [u64], place: usize, opcode: u8, operand: u8, word: u32)
-    ensures { λ _. ⌜ now (draft .exit) ≡ set (now (draft .entry)) place (packFields opcode operand word 0) ⌝ }
+pub fn put(draft: &mut [u64], place: usize, opcode: u32, word: u32)
+    ensures { λ _. ⌜ now (draft .exit) ≡ set (now (draft .entry)) place (joinWord opcode word) ⌝ }
 {
     if place < draft.len() {
-        draft[place] = (opcode as u64) + 256 * (operand as u64) + 4294967296 * (word as u64);
+        draft[place] = code::join(opcode, word);
     }
 }
 
 // One instruction behind what was read, and what it makes of that.
-fn added(draft: &mut [u64], before: u64, opcode: u8, operand: u8, kind: u64, wrong: u64) -> u64
+fn added(draft: &mut [u64], before: u64, opcode: u32, kind: u8, wrong: u64) -> u64
     requires { ⌜ (readEnd before < 65535) × (kind < 2) × (wrong < 536870912) ⌝ }
-    ensures { λ r. ⌜ readOf r ≡ Done (readNext before) (readEnd before + 1) (kindIs kind) (diagnosed wrong) ⌝ }
-    ensures { λ r. ⌜ now (draft .exit) ≡ set (now (draft .entry)) (readEnd before) (packFields opcode operand 0 0) ⌝ }
+    ensures { λ r. ⌜ readOf r ≡ Done (readNext before) (readEnd before + 1) (numberKind kind) (diagnosed wrong) ⌝ }
+    ensures { λ r. ⌜ now (draft .exit) ≡ set (now (draft .entry)) (readEnd before) (joinWord opcode 0) ⌝ }
 {
     let end = results::end_of(before);
-    put(draft, end, opcode, operand, 0);
+    put(draft, end, opcode, 0);
     results::done(results::next_of(before), end + 1, kind, wrong)
 }
 
-// A number or a cell: its word without the place is the instruction.
+// A number or a cell.
 pub fn leaf(draft: &mut [u64], w: u64, at: usize, pc: usize) -> u64
     requires { ⌜ (wordOperand w < 6) × (at < 65535) × (pc < 65535) ⌝ }
     ensures { λ r. ⌜ readOf r ≡ Done (at + 1) (pc + 1) (leafKind w) clear ⌝ }
-    ensures { λ r. ⌜ now (draft .exit) ≡ set (now (draft .entry)) pc (packFields (wordClass w) (wordOperand w) (wordNumber w) 0) ⌝ }
+    ensures { λ r. ⌜ now (draft .exit) ≡ set (now (draft .entry)) pc (joinWord (leafOpcode (wordClass w) (wordOperand w)) (wordNumber w)) ⌝ }
 {
-    if pc < draft.len() {
-        draft[pc] = w / 4294967296 * 4294967296 + w % 65536;
-    }
+    put(draft, pc, ahead::leaf_opcode(w), token_table::number_of(w));
     results::done(at + 1, pc + 1, ahead::leaf_kind(w), CLEAR)
 }
 
@@ -66,85 +72,79 @@ pub fn loaded(draft: &mut [u64], bank: u8, index: u64) -> u64
     ensures { λ r. ⌜ readOf r ≡ Done (readNext index) (readEnd index + 1) (bankKind (bankAt bank)) (readWrong index) ⌝ }
     ensures { λ r. ⌜ now (draft .exit) ≡ putInstr (now (draft .entry)) (readEnd index) (LoadIndexed (bankAt bank)) ⌝ }
 {
+    let b = bank as u32;
     added(
         draft,
         index,
-        4,
-        bank,
-        ahead::bank_kind(bank),
+        LOAD_INDEXED + b,
+        numbers::bank_kind(b),
         results::wrong_of(index),
     )
 }
 
-// A unary operator before an operand.
+// A unary operator before an operand. Most are a minus, which takes either kind and keeps it.
 pub fn prefixed(draft: &mut [u64], w: u64, inner: u64) -> u64
     requires { ⌜ (prefixNumber w < 3) × (readEnd inner < 65535) ⌝ }
     ensures { λ r. ⌜ readOf r ≡ Done (readNext inner) (readEnd inner + 1) (unaryKind (unaryAt (prefixNumber w)) (readKind inner)) (earlier (unless (unaryTakes (unaryAt (prefixNumber w)) (readKind inner)) (wrongKindAt (wordPlace w))) (readWrong inner)) ⌝ }
     ensures { λ r. ⌜ now (draft .exit) ≡ putInstr (now (draft .entry)) (readEnd inner) (Unary (unaryAt (prefixNumber w))) ⌝ }
 {
-    let op = ahead::sign_of(w);
-    let kind = results::kind_of(inner);
-    let here = kinds::wrong_at(kinds::unary_takes(op, kind), w);
-    let wrong = kinds::earlier(here, results::wrong_of(inner));
-    added(draft, inner, UNARY, op, kinds::of_unary(op, kind), wrong)
-}
-
-// The number of the operator of a function of one argument.
-fn operator_of(f: u8) -> u8
-    requires { ⌜ f < 6 ⌝ }
-    ensures { λ r. ⌜ unaryAt r ≡ functionOp f ⌝ }
-    ensures { λ r. ⌜ r < 8 ⌝ }
-{
-    match f {
-        0 => 3,
-        1 => 4,
-        2 => 5,
-        3 => 5,
-        4 => 6,
-        _ => 7,
+    let sign = ahead::sign_of(w);
+    let op = sign as u32;
+    if sign == tables::NEG {
+        return added(
+            draft,
+            inner,
+            UNARY + op,
+            results::kind_of(inner),
+            results::wrong_of(inner),
+        );
     }
+    let kind = kinds::unary_kind(op, results::kind_of(inner));
+    let here = diagnostics::wrong_at(kind < NOT_TAKEN, w);
+    let wrong = diagnostics::earlier(here, results::wrong_of(inner));
+    added(draft, inner, UNARY + op, kind % 2, wrong)
 }
 
 // A function of one argument.
 pub fn applied(draft: &mut [u64], f: u8, first: u64) -> u64
-    requires { ⌜ (f < 6) × (readEnd first < 65535) ⌝ }
+    requires { ⌜ (functionArity f ≡ 1) × (readEnd first < 65535) ⌝ }
     ensures { λ r. ⌜ readOf r ≡ Done (readNext first) (readEnd first + 1) (unaryKind (functionOp f) (readKind first)) (readWrong first) ⌝ }
     ensures { λ r. ⌜ now (draft .exit) ≡ putInstr (now (draft .entry)) (readEnd first) (Unary (functionOp f)) ⌝ }
 {
-    let op = operator_of(f);
-    let kind = kinds::of_unary(op, results::kind_of(first));
-    added(draft, first, UNARY, op, kind, results::wrong_of(first))
+    let op = functions::operator(f) as u32;
+    let kind = kinds::unary_kind(op, results::kind_of(first));
+    added(draft, first, UNARY + op, kind % 2, results::wrong_of(first))
 }
 
-// MAX and MIN: among the binary operators they follow those of the text.
+// A function of two arguments.
 pub fn paired(draft: &mut [u64], f: u8, first: u64, second: u64) -> u64
-    requires { ⌜ (6 ≤ f) × (f < 8) × (readEnd second < 65535) ⌝ }
-    ensures { λ r. ⌜ readOf r ≡ Done (readNext second) (readEnd second + 1) (binaryKind (binaryAt (12 + f)) (readKind first) (readKind second)) (earlier (readWrong first) (readWrong second)) ⌝ }
-    ensures { λ r. ⌜ now (draft .exit) ≡ putInstr (now (draft .entry)) (readEnd second) (Binary (binaryAt (12 + f))) ⌝ }
+    requires { ⌜ (functionArity f ≡ 2) × (readEnd second < 65535) ⌝ }
+    ensures { λ r. ⌜ readOf r ≡ Done (readNext second) (readEnd second + 1) (binaryKind (functionPair f) (readKind first) (readKind second)) (earlier (readWrong first) (readWrong second)) ⌝ }
+    ensures { λ r. ⌜ now (draft .exit) ≡ putInstr (now (draft .entry)) (readEnd second) (Binary (functionPair f)) ⌝ }
 {
-    let op = 12 + f;
-    let kind = kinds::of_binary(op, results::kind_of(first), results::kind_of(second));
-    let wrong = kinds::earlier(results::wrong_of(first), results::wrong_of(second));
-    added(draft, second, BINARY, op, kind, wrong)
+    let op = functions::operator(f) as u32;
+    let kind = kinds::binary_kind(op, results::kind_of(first), results::kind_of(second));
+    let wrong = diagnostics::earlier(results::wrong_of(first), results::wrong_of(second));
+    added(draft, second, BINARY + op, kind % 2, wrong)
 }
 
 // The place that a binary operator needs before its right side: && and || jump over that.
 pub fn reserve(n: u8) -> usize
     ensures { λ r. ⌜ r ≡ reserved n ⌝ }
 {
-    if n < 18 { 0 } else { 1 }
+    if n < AND { 0 } else { 1 }
 }
 
 // After both sides of && (d is 0) or || (d is 1): the jump at j over the right side, which ends at k, and what makes 0 or 1 of it.
-fn settle(draft: &mut [u64], j: usize, k: usize, d: u8)
+fn settle(draft: &mut [u64], j: usize, k: usize, d: u32)
     requires { ⌜ (d < 2) × (j < k) × (k < 65000) ⌝ }
     ensures { λ _. ⌜ now (draft .exit) ≡ settledCode (now (draft .entry)) j k (eqb d 1) ⌝ }
 {
-    put(draft, j, JUMP_IF_FALSE + d, 0, (k - j + 2) as u32);
-    put(draft, k, JUMP_IF_FALSE + d, 0, 2);
-    put(draft, k + 1, 1, 0, (1 - d) as u32);
-    put(draft, k + 2, JUMP, 0, 1);
-    put(draft, k + 3, 1, 0, d as u32);
+    put(draft, j, JUMP_IF_FALSE + d, (k - j + 2) as u32);
+    put(draft, k, JUMP_IF_FALSE + d, 2);
+    put(draft, k + 1, PUSH_INT, 1 - d);
+    put(draft, k + 2, JUMP, 1);
+    put(draft, k + 3, PUSH_INT, d);
 }
 
 // What follows the sides of a binary operator, whose word is w.
@@ -154,40 +154,48 @@ pub fn joined(draft: &mut [u64], w: u64, left: u64, right: u64) -> u64
     ensures { λ r. ⌜ now (draft .exit) ≡ joinedCode (now (draft .entry)) (wordOperand w) (readEnd left) (readEnd right) ⌝ }
 {
     let n = token_table::operand_of(w);
-    let inner = kinds::earlier(results::wrong_of(left), results::wrong_of(right));
-    if 18 <= n {
+    let inner = diagnostics::earlier(results::wrong_of(left), results::wrong_of(right));
+    if AND <= n {
         let end = results::end_of(right);
-        settle(draft, results::end_of(left), end, n - 18);
-        return results::done(results::next_of(right), end + 4, 0, inner);
+        settle(draft, results::end_of(left), end, (n - AND) as u32);
+        return results::done(results::next_of(right), end + 4, kinds::INT, inner);
     }
-    let a = results::kind_of(left);
-    let b = results::kind_of(right);
-    let here = kinds::wrong_at(kinds::binary_takes(n, a, b), w);
+    let op = n as u32;
+    let kind = kinds::binary_kind(op, results::kind_of(left), results::kind_of(right));
+    let here = diagnostics::wrong_at(kind < NOT_TAKEN, w);
     added(
         draft,
         right,
-        BINARY,
-        n,
-        kinds::of_binary(n, a, b),
-        kinds::earlier(here, inner),
+        BINARY + op,
+        kind % 2,
+        diagnostics::earlier(here, inner),
     )
 }
 
+// How many instructions of what follows the branches of IF the first branch skips.
+fn skipped(first: u8, second: u8) -> usize
+    requires { ⌜ (first < 2) × (second < 2) ⌝ }
+    ensures { λ r. ⌜ r ≡ branchTailSkip (numberKind first) (numberKind second) ⌝ }
+{
+    if first == second { 0 } else { 1 }
+}
+
 // What promotes an integer branch of IF beside a real one, and where it ends.
-fn promoted(draft: &mut [u64], k: usize, first: u64, second: u64) -> usize
+fn promoted(draft: &mut [u64], k: usize, first: u8, second: u8) -> usize
     requires { ⌜ (k < 65000) × (first < 2) × (second < 2) ⌝ }
-    ensures { λ r. ⌜ r ≡ k + length (branchTail (kindIs first) (kindIs second)) ⌝ }
-    ensures { λ r. ⌜ now (draft .exit) ≡ putCode (now (draft .entry)) k (branchTail (kindIs first) (kindIs second)) ⌝ }
+    ensures { λ r. ⌜ r ≡ k + length (branchTail (numberKind first) (numberKind second)) ⌝ }
+    ensures { λ r. ⌜ now (draft .exit) ≡ putCode (now (draft .entry)) k (branchTail (numberKind first) (numberKind second)) ⌝ }
 {
     if first == second {
         return k;
     }
-    if first == 0 {
-        put(draft, k, JUMP, 0, 1);
-        put(draft, k + 1, UNARY, 4, 0);
+    let to_real = UNARY + (tables::TO_REAL as u32);
+    if first == kinds::INT {
+        put(draft, k, JUMP, 1);
+        put(draft, k + 1, to_real, 0);
         return k + 2;
     }
-    put(draft, k, UNARY, 4, 0);
+    put(draft, k, to_real, 0);
     k + 1
 }
 
@@ -197,13 +205,7 @@ pub fn decided(draft: &mut [u64], condition: u64, first: u64)
     ensures { λ _. ⌜ now (draft .exit) ≡ putInstr (now (draft .entry)) (readEnd condition) (JumpIf false (readEnd first - readEnd condition)) ⌝ }
 {
     let j = results::end_of(condition);
-    put(
-        draft,
-        j,
-        JUMP_IF_FALSE,
-        0,
-        (results::end_of(first) - j) as u32,
-    );
+    put(draft, j, JUMP_IF_FALSE, (results::end_of(first) - j) as u32);
 }
 
 // After the branches of IF: the jump from the first over the second.
@@ -216,10 +218,10 @@ pub fn chosen(draft: &mut [u64], condition: u64, first: u64, second: u64) -> u64
     let k = results::end_of(second);
     let a = results::kind_of(first);
     let b = results::kind_of(second);
-    put(draft, j, JUMP, 0, (k - j - 1 + kinds::skipped(a, b)) as u32);
+    put(draft, j, JUMP, (k - j - 1 + skipped(a, b)) as u32);
     let end = promoted(draft, k, a, b);
-    let branches = kinds::earlier(results::wrong_of(first), results::wrong_of(second));
-    let wrong = kinds::earlier(results::wrong_of(condition), branches);
+    let branches = diagnostics::earlier(results::wrong_of(first), results::wrong_of(second));
+    let wrong = diagnostics::earlier(results::wrong_of(condition), branches);
     results::done(results::next_of(second), end, kinds::joined(a, b), wrong)
 }
 

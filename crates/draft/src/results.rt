@@ -1,17 +1,18 @@
 // What reading returns, in one word: structs and enums are returned through memory, which costs more than the packing. specs/Results.antt says which bits are which.
 ghost use mathlib.Core.Path.{_≡_};
 ghost use Prim.Native.Nat.{_<_};
-ghost use Rattle.draft.specs.private.Results.{Done, Bad, Deep, isDone, further, refusal, kindIs, placePart, answerPart, diagnosed, readNext, readEnd, readKind, readWrong, readOf};
+ghost use Rattle.operators.specs.Kinds.{numberKind};
+ghost use Rattle.draft.specs.private.Results.{Done, Bad, Deep, isDone, further, refusal, placePart, answerPart, diagnosed, readNext, readEnd, readKind, readWrong, readOf};
 
 // The number of no diagnostic: every other is less, being a place below 65,536 times 16 and an answer below 16.
 pub const CLEAR: u64 = 1048576;
 
 // Reading got to `next` in the table and to `end` in the draft.
-pub fn done(next: usize, end: usize, kind: u64, wrong: u64) -> u64
+pub fn done(next: usize, end: usize, kind: u8, wrong: u64) -> u64
     requires { ⌜ (next < 65536) × (end < 65536) × (kind < 2) × (wrong < 536870912) ⌝ }
-    ensures { λ r. ⌜ readOf r ≡ Done next end (kindIs kind) (diagnosed wrong) ⌝ }
+    ensures { λ r. ⌜ readOf r ≡ Done next end (numberKind kind) (diagnosed wrong) ⌝ }
 {
-    (next as u64) + 65536 * (end as u64) + 4294967296 * kind + 34359738368 * wrong
+    (next as u64) + 65536 * (end as u64) + 4294967296 * (kind as u64) + 34359738368 * wrong
 }
 
 // The first token that no formula has there.
@@ -57,12 +58,12 @@ pub fn end_of(r: u64) -> usize
     (r / 65536 % 65536) as usize
 }
 
-// 0 for an integer, 1 for a real.
-pub fn kind_of(r: u64) -> u64
-    ensures { λ k. ⌜ kindIs k ≡ readKind r ⌝ }
+// As operators::kinds numbers it.
+pub fn kind_of(r: u64) -> u8
+    ensures { λ k. ⌜ numberKind k ≡ readKind r ⌝ }
     ensures { λ k. ⌜ k < 2 ⌝ }
 {
-    r / 4294967296 % 2
+    (r / 4294967296 % 2) as u8
 }
 
 pub fn wrong_of(r: u64) -> u64

@@ -3,7 +3,6 @@ use mathlib.Core.Path.{_≡_, refl}
 use mathlib.Core.Bool.{Bool, true, false, cond, Bool·beq}
 use mathlib.Core.List.{List, _∷_}
 use Prim.Native.Nat.{ℕ, zero, suc, _-_, _^_, _≤_, _<_}
-use native.Mathlib.Nat.{sub-zero}
 use native.Mathlib.Omega.{arith}
 use mathlib.Core.Logic.{⊎-elim}
 use lib.Dec.{ltb, lit<}
@@ -24,7 +23,7 @@ use Rattle.code.proofs.Laws.{decode-encodable}
 use Rattle.machine.specs.declared.Ended.the-variants.{Stopped, Stuck}
 use Rattle.machine.specs.declared.Step.{Step}
 use Rattle.machine.specs.Machine.{maxHeight, Next, goes, halts, pushValue, pushOutcome, act}
-use Rattle.machine.specs.private.Steps.{stuckStep, stopStep, skipStep, pushStep, pushOrStuck, taking, outcomeStep, givenStep, jumpStep, stepOf}
+use Rattle.machine.specs.private.Steps.{stuckStep, stopStep, skipStep, pushStep, pushOrStuck, taking, outcomeStep, givenStep, stepOf}
 use Rattle.machine.proofs.Held.{none, held, length-held}
 
 -- of h values in the array s

@@ -5,5 +5,4 @@ mod Held
 mod Acts
 mod Rest
 mod Performs
-mod Numbered
 mod Turn

@@ -1,8 +1,7 @@
--- The step of an instruction by its operand and word: what the tests of each class come to.
+-- The step of an instruction by its number in a class and its word: what the tests of each class come to.
 use mathlib.Core.Path.{_≡_, refl, sym, ap, _∙_}
 use mathlib.Core.Bool.{Bool, true, false, cond, Bool·beq}
 use Prim.Native.Nat.{ℕ, _-_, _≤_, _<_}
-use native.Mathlib.Omega.{arith}
 use lib.Dec.{eqb, ltb}
 use lib.Ieee.{binary32, ofBits}
 use borrow.Author.Tests.{lt-ltb, le-ltb, ne-eqb}
@@ -27,10 +26,11 @@ use Rattle.memory.specs.Environment.{Environment}
 use Rattle.memory.proofs.cells.Exponents.{exponent}
 use Rattle.code.specs.declared.Instr.{Instr}
 use Rattle.code.specs.declared.Instr.the-variants.{Load, JumpIf, Unknown}
-use Rattle.code.specs.Instructions.{alone, pushReal, loadOf, indexedOf, unaryInstr, binaryInstr}
+use Rattle.code.specs.Instructions.{ifZero, pushReal, loadElement, loadIndexed}
+use Rattle.code.specs.private.Classes.{ofBank, ofUnary, ofBinary}
 use Rattle.code.proofs.Finite.{finite-pushed, infinite-unknown}
 use Rattle.machine.specs.declared.Step.{Step}
-use Rattle.machine.specs.private.Steps.{stuckStep, skipStep, pushOrStuck, outcomeStep, givenStep, jumpStep, stepOf, bankStep}
+use Rattle.machine.specs.private.Steps.{stuckStep, skipStep, pushOrStuck, outcomeStep, givenStep, stepOf, bankStep}
 
 -- k is the layout of the bank that the code looks up
 module _ (E : Environment) (h : ℕ) (b : Bank) (d : ℕ) {k : Layout} (is : k ≡ layoutOf b) where
@@ -40,24 +40,44 @@ module _ (E : Environment) (h : ℕ) (b : Bank) (d : ℕ) {k : Layout} (is : k �
   pub past-bank : k .elements ≤ d → stuckStep ≡ bankStep E b d h
   past-bank p = rw (le-ltb d (layoutOf b .elements) (rw is at p))
 
+abbrev pub indexed : BankOf → ℕ → Instr
+indexed b = ofBank loadIndexed b
+
+-- ---- a word that must be 0
+none-anyway : (t : Bool) → Unknown ≡ cond t Unknown Unknown
+none-anyway true = refl
+none-anyway false = refl
+
+pub zero-indexed : (b : BankOf) (d : ℕ) → indexed b d ≡ ifZero d (indexed b 0)
+zero-indexed (BankOf.Is b) d = refl
+zero-indexed BankOf.Nothing d = none-anyway (eqb d 0)
+
+pub zero-unary : (u : UnaryOf) (d : ℕ) → ofUnary u d ≡ ifZero d (ofUnary u 0)
+zero-unary (UnaryOf.Is o) d = refl
+zero-unary UnaryOf.Nothing d = none-anyway (eqb d 0)
+
+pub zero-binary : (u : BinaryOf) (d : ℕ) → ofBinary u d ≡ ifZero d (ofBinary u 0)
+zero-binary (BinaryOf.Is o) d = refl
+zero-binary BinaryOf.Nothing d = none-anyway (eqb d 0)
+
 module _ (E : Environment) (h : ℕ) (l r : Value) where
   abbrev made : Instr → Step
   made i = stepOf E i h l r
 
-  -- ---- the part d of the eight bytes, which the code finds to be a, must be 0
-  module _ {a : ℕ} (d : ℕ) (is : a ≡ d) where
-    pub spoilt : (i : Instr) → (a ≡ 0 → ⊥) → stuckStep ≡ made (alone d i)
-    spoilt i p = rw (ne-eqb d 0 (λ e. p (is ∙ e)))
+  -- ---- an instruction f whose word d, which the code finds to be a, must be 0
+  module _ (f : ℕ → Instr) (d : ℕ) where
+    pub spoilt : f d ≡ ifZero d (f 0) → {a : ℕ} → a ≡ d → (a ≡ 0 → ⊥) → stuckStep ≡ made (f d)
+    spoilt z is p = rw (z, ne-eqb d 0 (λ e. p (is ∙ e)))
 
-    pub unspoilt : (i : Instr) {x : Step} → a ≡ 0 → x ≡ made i → x ≡ made (alone d i)
-    unspoilt i p e = rw (sym is ∙ p) e
+    pub unspoilt : {a : ℕ} → a ≡ d → {x : Step} → a ≡ 0 → x ≡ made (f 0) → x ≡ made (f d)
+    unspoilt is p e = rw (sym is ∙ p) e
 
-  pub stuck-alone : (d : ℕ) (i : Instr) → stuckStep ≡ made i → stuckStep ≡ made (alone d i)
-  stuck-alone d i e = by (eqb d 0)
-    where
-      by : (t : Bool) → stuckStep ≡ made (cond t i Unknown)
-      by true = e
-      by false = refl
+    pub stuck-anyway : f d ≡ ifZero d (f 0) → stuckStep ≡ made (f 0) → stuckStep ≡ made (f d)
+    stuck-anyway z e = rw z (by (eqb d 0))
+      where
+        by : (t : Bool) → stuckStep ≡ made (cond t (f 0) Unknown)
+        by true = e
+        by false = refl
 
   pub unknown-made : (i : Instr) → i ≡ Unknown → stuckStep ≡ made i
   unknown-made i e = ap made (sym e)
@@ -70,27 +90,17 @@ module _ (E : Environment) (h : ℕ) (l r : Value) where
   infinite-made n p = rw (infinite-unknown n p)
 
   -- ---- of too few values
-  pub short-indexed : (b : BankOf) → h < 1 → stuckStep ≡ made (indexedOf b)
+  pub short-indexed : (b : BankOf) → h < 1 → stuckStep ≡ made (indexed b 0)
   short-indexed (BankOf.Is b) p = rw (lt-ltb h 1 p)
   short-indexed BankOf.Nothing p = refl
 
-  pub short-unary : (u : UnaryOf) → h < 1 → stuckStep ≡ made (unaryInstr u)
+  pub short-unary : (u : UnaryOf) → h < 1 → stuckStep ≡ made (ofUnary u 0)
   short-unary (UnaryOf.Is o) p = rw (lt-ltb h 1 p)
   short-unary UnaryOf.Nothing p = refl
 
-  pub short-binary : (u : BinaryOf) → h < 2 → stuckStep ≡ made (binaryInstr u)
+  pub short-binary : (u : BinaryOf) → h < 2 → stuckStep ≡ made (ofBinary u 0)
   short-binary (BinaryOf.Is o) p = rw (lt-ltb h 2 p)
   short-binary BinaryOf.Nothing p = refl
-
-  -- ---- of an operand that is none
-  pub no-indexed : (a : ℕ) → 255 < a → stuckStep ≡ made (indexedOf (bankNumbered a))
-  no-indexed a p = rw (le-ltb a 6 (omega arith))
-
-  pub no-unary : (a : ℕ) → 255 < a → stuckStep ≡ made (unaryInstr (unaryOf a))
-  no-unary a p = rw (le-ltb a 8 (omega arith))
-
-  pub no-binary : (a : ℕ) → 255 < a → stuckStep ≡ made (binaryInstr (binaryOf a))
-  no-binary a p = rw (le-ltb a 20 (omega arith))
 
   -- ---- of t values, to the outcome o, where the instruction i is j
   worked : (t : ℕ) (o : Outcome) {i j : Instr} {y : Outcome} {x : Step} → i ≡ j → made j ≡ givenStep h t o → t ≤ h → y ≡ o → x ≡ outcomeStep (h - t) y → x ≡ made i
@@ -98,14 +108,14 @@ module _ (E : Environment) (h : ℕ) (l r : Value) where
       let enough : outcomeStep (h - t) o ≡ givenStep h t o = rw (le-ltb h t p) in
       e ∙ ap (outcomeStep (h - t)) d ∙ enough ∙ sym g ∙ ap made (sym f)
 
-  pub indexed-made : (a : ℕ) (b : Bank) {y : Outcome} {x : Step} → bankNumbered a ≡ BankOf.Is b → 1 ≤ h → y ≡ E .indexed b r → x ≡ outcomeStep (h - 1) y → x ≡ made (indexedOf (bankNumbered a))
-  indexed-made a b e = worked 1 (E .indexed b r) (ap indexedOf e) refl
+  pub indexed-made : (a : ℕ) (b : Bank) {y : Outcome} {x : Step} → bankNumbered a ≡ BankOf.Is b → 1 ≤ h → y ≡ E .indexed b r → x ≡ outcomeStep (h - 1) y → x ≡ made (indexed (bankNumbered a) 0)
+  indexed-made a b e = worked 1 (E .indexed b r) (ap (λ (u : BankOf). indexed u 0) e) refl
 
-  pub unary-made : (a : ℕ) (o : UnaryOp) {y : Outcome} {x : Step} → unaryOf a ≡ UnaryOf.Is o → 1 ≤ h → y ≡ unaryRule o r → x ≡ outcomeStep (h - 1) y → x ≡ made (unaryInstr (unaryOf a))
-  unary-made a o e = worked 1 (unaryRule o r) (ap unaryInstr e) refl
+  pub unary-made : (a : ℕ) (o : UnaryOp) {y : Outcome} {x : Step} → unaryOf a ≡ UnaryOf.Is o → 1 ≤ h → y ≡ unaryRule o r → x ≡ outcomeStep (h - 1) y → x ≡ made (ofUnary (unaryOf a) 0)
+  unary-made a o e = worked 1 (unaryRule o r) (ap (λ (u : UnaryOf). ofUnary u 0) e) refl
 
-  pub binary-made : (a : ℕ) (o : BinaryOp) {y : Outcome} {x : Step} → binaryOf a ≡ BinaryOf.Is o → 2 ≤ h → y ≡ binaryRule o l r → x ≡ outcomeStep (h - 2) y → x ≡ made (binaryInstr (binaryOf a))
-  binary-made a o e = worked 2 (binaryRule o l r) (ap binaryInstr e) refl
+  pub binary-made : (a : ℕ) (o : BinaryOp) {y : Outcome} {x : Step} → binaryOf a ≡ BinaryOf.Is o → 2 ≤ h → y ≡ binaryRule o l r → x ≡ outcomeStep (h - 2) y → x ≡ made (ofBinary (binaryOf a) 0)
+  binary-made a o e = worked 2 (binaryRule o l r) (ap (λ (u : BinaryOf). ofBinary u 0) e) refl
 
   -- ---- jumps, where b is the truth that the code finds
   module _ (t : Bool) (d : ℕ) {b : Bool} (enough : 1 ≤ h) (found : b ≡ truthRule r) where
@@ -116,12 +126,12 @@ module _ (E : Environment) (h : ℕ) (l r : Value) where
     stays e = rw (le-ltb h 1 enough, ← found, e)
 
   -- ---- loads
-  pub from-bank : (a d : ℕ) (b : Bank) {x : Step} → bankNumbered a ≡ BankOf.Is b → x ≡ bankStep E b d h → x ≡ made (loadOf (bankNumbered a) d)
-  from-bank a d b e f = f ∙ by (ltb d (layoutOf b .elements)) ∙ ap (λ (u : BankOf). made (loadOf u d)) (sym e)
+  pub from-bank : (a d : ℕ) (b : Bank) {x : Step} → bankNumbered a ≡ BankOf.Is b → x ≡ bankStep E b d h → x ≡ made (ofBank loadElement (bankNumbered a) d)
+  from-bank a d b e f = f ∙ by (ltb d (layoutOf b .elements)) ∙ ap (λ (u : BankOf). made (ofBank loadElement u d)) (sym e)
     where
       by : (t : Bool) → cond t (outcomeStep h (E .cell b d)) stuckStep ≡ made (cond t (Load b d) Unknown)
       by true = refl
       by false = refl
 
-  pub no-load : (a d : ℕ) → 6 ≤ a → stuckStep ≡ made (loadOf (bankNumbered a) d)
+  pub no-load : (a d : ℕ) → 6 ≤ a → stuckStep ≡ made (ofBank loadElement (bankNumbered a) d)
   no-load a d p = rw (le-ltb a 6 p)

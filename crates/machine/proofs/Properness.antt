@@ -14,8 +14,7 @@ use Rattle.values.specs.declared.Outcome.{Outcome}
 use Rattle.operators.specs.Operators.{truthRule}
 use Rattle.operators.specs.Laws.{Proper, int, real, AllProper, done, stopped, wrong}
 use Rattle.operators.proofs.Laws.{rule-laws}
-use Rattle.memory.specs.declared.Bank.{Bank}
-use Rattle.memory.specs.Environment.{Environment, memoryOf}
+use Rattle.memory.specs.Environment.{memoryOf}
 use Rattle.memory.proofs.Laws.{memory-laws}
 use Rattle.code.specs.declared.Instr.{Instr}
 use Rattle.code.specs.declared.Instr.the-variants.{Unknown}

@@ -18,7 +18,7 @@ use Rattle.machine.specs.declared.Ended.{Ended}
 use Rattle.machine.specs.declared.Ended.the-variants.{Stuck}
 use Rattle.machine.specs.declared.Ran.{Ran}
 use Rattle.machine.specs.Machine.{Next, goes, halts, act, cost, finish, counting, exec}
-use Rattle.machine.specs.private.Steps.{lesserOf, endedAt, stuckAt, finishOf, finishedAt}
+use Rattle.machine.specs.private.Steps.{minimum, endedAt, stuckAt, finishOf, finishedAt}
 use Rattle.machine.proofs.Laws.{onward, exec-next, cost-is-one}
 
 -- k counted before
@@ -97,22 +97,22 @@ unknown-stuck : (E : Environment) (st : List Value) → act E Unknown st ≡ hal
 unfolding act
 unknown-stuck E st = refl
 
-pub lesser-left : (a b : ℕ) → lesserOf a b ≤ a
-lesser-left a b = by (ltb a b) refl
+pub minimum-left : (a b : ℕ) → minimum a b ≤ a
+minimum-left a b = by (ltb a b) refl
   where
     by : (t : Bool) → ltb a b ≡ t → cond t a b ≤ a
     by true e = omega arith
     by false e = ltb-false a b e
 
-pub lesser-right : (a b : ℕ) → lesserOf a b ≤ b
-lesser-right a b = by (ltb a b) refl
+pub minimum-right : (a b : ℕ) → minimum a b ≤ b
+minimum-right a b = by (ltb a b) refl
   where
     by : (t : Bool) → ltb a b ≡ t → cond t a b ≤ b
     by true e = omega (arith, ltb-true a b e)
     by false e = omega arith
 
 -- below n, it is the code that ends
-no-more : (n m p : ℕ) → p < n → lesserOf n m ≤ p → m ≤ p
+no-more : (n m p : ℕ) → p < n → minimum n m ≤ p → m ≤ p
 no-more n m p h q = by (ltb n m) q
   where
     by : (t : Bool) → cond t n m ≤ p → m ≤ p
@@ -138,7 +138,7 @@ module _ {E : Environment} {code : List ℕ} {n p : ℕ} {st : List Value} {k : 
       }
 
   -- where the code has no instruction
-  pub finishes : (h : ℕ) (v : Value) → Stands E code n p st k → lesserOf n (length code / 8) ≤ p → finish st ≡ finishOf h v → finishedAt n p h v k ≡ wholeRun E code n
+  pub finishes : (h : ℕ) (v : Value) → Stands E code n p st k → minimum n (length code / 8) ≤ p → finish st ≡ finishOf h v → finishedAt n p h v k ≡ wholeRun E code n
   finishes h v S q f = over (ltb n p) refl
     where
       beneath : (t : Bool) → ltb p n ≡ t → p ≤ n → cond t (stuckAt (k + 1)) (endedAt k (finishOf h v)) ≡ wholeRun E code n

@@ -11,15 +11,16 @@ use lib.ListN.{length, getD, set}
 use Rattle.values.specs.declared.Value.{Value}
 use Rattle.words.specs.Laws.{Bytes}
 use Rattle.memory.specs.Environment.{Environment}
-use Rattle.code.specs.declared.Instr.{Instr}
-use Rattle.code.specs.Instructions.{decodeAt}
-use Rattle.code.specs.private.Fetch.{fetched, instructionOf}
-use Rattle.code.proofs.Fetches.{decode-fetched}
+use Rattle.code.specs.Instructions.{decodeAt, fetched, instructionOf, opcodeOf}
+use Rattle.code.specs.declared.Class.{Class}
+use Rattle.code.specs.private.Classes.{classOf, instrIn}
+use Rattle.code.proofs.Page.{number-class}
+use Rattle.code.proofs.Parts.{decode-fetched}
 use Rattle.machine.specs.declared.How.{How}
 use Rattle.machine.specs.declared.How.the-variants as How
 use Rattle.machine.specs.declared.Step.{Step}
 use Rattle.machine.specs.Machine.{maxHeight, Next, act}
-use Rattle.machine.specs.private.Steps.{wordOf, stepOf, failedAt}
+use Rattle.machine.specs.private.Steps.{stepOf, failedAt}
 use Rattle.machine.proofs.How.{the-type}
 use Rattle.machine.proofs.Held.{none, held, held-push}
 use Rattle.machine.proofs.Acts.{Leads, push, skip, stop, stick, decoded-near, leads}
@@ -32,17 +33,17 @@ pub record Turn (E : Environment) (code : List ℕ) (n p h : ℕ) (s : List Valu
   pub rest : Left E code n p (held h s) k
   pub made : Leads s h (act E (decodeAt code p) (held h s)) x
 
--- i is the instruction of the number w, and l and r are the places of the two values at the top
-pub performed : (E : Environment) (h : ℕ) (s : List Value) (w : ℕ) {l r : ℕ} {i : Instr} {x : Step} → instructionOf w ≡ i → l ≡ h - 2 → r ≡ h - 1
-    → x ≡ stepOf E i h (getD s l none) (getD s r none) → x ≡ stepOf E (instructionOf w) h (getD s (h - 2) none) (getD s (h - 1) none)
-performed E h s w d u v e = rw (d, ← u, ← v) e
+-- c is the class of the number w, told to be d, and l and r are the places of the two values at the top
+pub performed : (E : Environment) (h : ℕ) (s : List Value) (w : ℕ) {l r : ℕ} {c d : Class} {x : Step} → c ≡ classOf (opcodeOf w) → c ≡ d → l ≡ h - 2 → r ≡ h - 1
+    → x ≡ stepOf E (instrIn d w) h (getD s l none) (getD s r none) → x ≡ stepOf E (instructionOf w) h (getD s (h - 2) none) (getD s (h - 1) none)
+performed E h s w f g u v e = rw (number-class w, ← f, g, ← u, ← v) e
 
 -- w is the number of the instruction
 pub turn :
     {E : Environment} {code : List ℕ} {n p k w : ℕ} {x : Step} (h : ℕ) (s : List Value) → p < n → Stands E code n p (held h s) k → Bytes code → w ≡ fetched code p
     → x ≡ stepOf E (instructionOf w) h (getD s (h - 2) none) (getD s (h - 1) none) → Turn E code n p h s k x
 turn {E} {code} {p = p} {w = w} h s c S B d e =
-    let is : decodeAt code p ≡ instructionOf w = rw d (decode-fetched code p B) in
+    let is : decodeAt code p ≡ instructionOf w = rw d (decode-fetched code p) in
     record {
       in-code = c;
       rest = S .within (omega arith);

@@ -3,9 +3,13 @@
 ghost use mathlib.Core.Path.{_≡_};
 ghost use Prim.Native.Nat.{_-_, _≤_};
 ghost use Rattle.memory.specs.Environment.{memoryOf};
+ghost use Rattle.code.specs.declared.Instr.the-variants.{JumpIf};
+ghost use Rattle.code.specs.declared.Class.the-variants.{PushInt, PushReal, Jump, Load, LoadIndexed, Unary, Binary};
+ghost use Rattle.code.specs.Instructions.{wordOf};
+ghost use Rattle.code.specs.private.Classes.{instrIn};
 ghost use Rattle.machine.specs.Machine.{runs};
-ghost use Rattle.machine.specs.private.Steps.{operandOf, wordOf, intBy, realBy, loadBy, indexedBy, unaryBy, binaryBy, jumpBy, jumpIfBy};
-ghost use Rattle.machine.specs.private.Steps.{lesserOf, pushOrStuck, skipStep, stopStep, stuckStep, outcomeStep, bankStep, IsStep, IsStepOn, IsStepOnBoth, IsLoad, IsLoadOn, stuckAt, failedAt, finishedAt};
+ghost use Rattle.machine.specs.private.Steps.{minimum, pushOrStuck, skipStep, stopStep, stuckStep, outcomeStep, bankStep, IsStep, IsStepOn, IsStepOnBoth, IsLoad, IsLoadOn, stuckAt, failedAt, finishedAt};
+use code::Class;
 use memory::Bank;
 use memory::numbers;
 use memory::numbers::BankOf;
@@ -111,36 +115,21 @@ fn outcome_step(height: usize, o: Outcome) -> Step
     }
 }
 
-// The parts of the number of an instruction. The two bytes that must be 0 are the operand's upper ones: no operand reaches them.
-fn word_of(w: u64) -> u32
-    ensures { λ r. ⌜ r ≡ wordOf w ⌝ }
-{
-    (w / 4294967296) as u32
-}
-
-fn operand_of(w: u64) -> u32
-    ensures { λ r. ⌜ r ≡ operandOf w ⌝ }
-{
-    (w / 256 % 16777216) as u32
-}
-
-// One function for each class of instruction, as in the crate code, with h values held. Whatever it does not look at may be anything.
+// One function for each class of instruction, with w the number of its eight bytes and h values held. Whatever it does not look at may
+// be anything.
 fn push_int(w: u64, h: usize) -> Step
-    ensures { λ x. ⌜ IsStep (intBy w) h x ⌝ }
+    ensures { λ x. ⌜ IsStep (instrIn PushInt w) h x ⌝ }
 {
-    if operand_of(w) != 0 {
-        return stuck_step();
-    }
-    push_step(h, Value::Int(values::patterns::from_pattern(word_of(w))))
+    push_step(
+        h,
+        Value::Int(values::patterns::from_pattern(code::word_of(w))),
+    )
 }
 
 fn push_real(w: u64, h: usize) -> Step
-    ensures { λ x. ⌜ IsStep (realBy w) h x ⌝ }
+    ensures { λ x. ⌜ IsStep (instrIn PushReal w) h x ⌝ }
 {
-    if operand_of(w) != 0 {
-        return stuck_step();
-    }
-    let word = word_of(w);
+    let word = code::word_of(w);
     if word / 8388608 % 256 == 255 {
         return stuck_step();
     }
@@ -159,10 +148,10 @@ fn load_from(bank: Bank, word: u32, image: &[u8], h: usize) -> Step
 
 // An arm for each bank, so that a bank's layout is known where its cell is read.
 fn load(w: u64, image: &[u8], h: usize) -> Step
-    ensures { λ x. ⌜ IsLoad (memoryOf (now (image .entry))) (loadBy w) h x ⌝ }
+    ensures { λ x. ⌜ IsLoad (memoryOf (now (image .entry))) (instrIn Load w) h x ⌝ }
 {
-    let word = word_of(w);
-    match operand_of(w) {
+    let word = code::word_of(w);
+    match code::number_of(w) {
         0 => load_from(Bank::X, word, image, h),
         1 => load_from(Bank::C, word, image, h),
         2 => load_from(Bank::V, word, image, h),
@@ -175,86 +164,67 @@ fn load(w: u64, image: &[u8], h: usize) -> Step
 
 // v is the last of h values, and left the one before it; where there are fewer, they may be anything.
 fn load_indexed(w: u64, image: &[u8], h: usize, v: Value) -> Step
-    ensures { λ x. ⌜ IsLoadOn (memoryOf (now (image .entry))) (indexedBy w) h v x ⌝ }
+    ensures { λ x. ⌜ IsLoadOn (memoryOf (now (image .entry))) (instrIn LoadIndexed w) h v x ⌝ }
 {
-    let operand = operand_of(w);
     if h < 1 {
         return stuck_step();
     }
-    if word_of(w) != 0 {
+    if code::word_of(w) != 0 {
         return stuck_step();
     }
-    if 255 < operand {
-        return stuck_step();
-    }
-    match numbers::bank_numbered(operand as u8) {
+    match numbers::bank_numbered(code::number_of(w)) {
         BankOf::Is(b) => outcome_step(h - 1, memory::cells::read_indexed(image, b, v)),
         BankOf::Nothing => stuck_step(),
     }
 }
 
 fn unary(w: u64, h: usize, v: Value) -> Step
-    ensures { λ x. ⌜ IsStepOn (unaryBy w) h v x ⌝ }
+    ensures { λ x. ⌜ IsStepOn (instrIn Unary w) h v x ⌝ }
 {
-    let operand = operand_of(w);
     if h < 1 {
         return stuck_step();
     }
-    if word_of(w) != 0 {
+    if code::word_of(w) != 0 {
         return stuck_step();
     }
-    if 255 < operand {
-        return stuck_step();
-    }
-    match tables::unary_of(operand as u8) {
+    match tables::unary_of(code::number_of(w)) {
         UnaryOf::Is(o) => outcome_step(h - 1, operators::unary(o, v)),
         UnaryOf::Nothing => stuck_step(),
     }
 }
 
 fn binary(w: u64, h: usize, left: Value, v: Value) -> Step
-    ensures { λ x. ⌜ IsStepOnBoth (binaryBy w) h left v x ⌝ }
+    ensures { λ x. ⌜ IsStepOnBoth (instrIn Binary w) h left v x ⌝ }
 {
-    let operand = operand_of(w);
     if h < 2 {
         return stuck_step();
     }
-    if word_of(w) != 0 {
+    if code::word_of(w) != 0 {
         return stuck_step();
     }
-    if 255 < operand {
-        return stuck_step();
-    }
-    match tables::binary_of(operand as u8) {
+    match tables::binary_of(code::number_of(w)) {
         BinaryOf::Is(o) => outcome_step(h - 2, operators::binary(o, left, v)),
         BinaryOf::Nothing => stuck_step(),
     }
 }
 
 fn jump(w: u64, h: usize) -> Step
-    ensures { λ x. ⌜ IsStep (jumpBy w) h x ⌝ }
+    ensures { λ x. ⌜ IsStep (instrIn Jump w) h x ⌝ }
 {
-    if operand_of(w) != 0 {
-        return stuck_step();
-    }
-    skip_step(h, word_of(w) as usize)
+    skip_step(h, code::word_of(w) as usize)
 }
 
-// A jump if the truth of v is t.
+// A jump if the truth of v is t. Each way returns at once: where the two join, the loop tests once more what kind of step it is.
 fn jump_if(w: u64, h: usize, v: Value, t: bool) -> Step
-    ensures { λ x. ⌜ IsStepOn (jumpIfBy t w) h v x ⌝ }
+    ensures { λ x. ⌜ IsStepOn (JumpIf t (wordOf w)) h v x ⌝ }
 {
-    if operand_of(w) != 0 {
-        return stuck_step();
-    }
     if h < 1 {
         return stuck_step();
     }
     if operators::truth(v) == t {
-        skip_step(h - 1, word_of(w) as usize)
-    } else {
-        skip_step(h - 1, 0)
+        return skip_step(h - 1, code::word_of(w) as usize);
     }
+    skip_step(h - 1, 0)
 }
 
 fn stuck(count: usize) -> Ran
@@ -286,8 +256,8 @@ fn from_top(h: usize, k: usize) -> usize
     if h < k { 0 } else { h - k }
 }
 
-fn lesser(a: usize, b: usize) -> usize
-    ensures { λ r. ⌜ r ≡ lesserOf a b ⌝ }
+fn min(a: usize, b: usize) -> usize
+    ensures { λ r. ⌜ r ≡ minimum a b ⌝ }
 {
     if a < b { a } else { b }
 }
@@ -321,21 +291,21 @@ pub fn run(code: &[u8], n: usize, image: &[u8]) -> Ran
     let mut h: usize = 0;
     let mut place: usize = 0;
     let mut count: usize = 0;
-    let there = lesser(n, code.len() / 8);
+    let there = min(n, code.len() / 8);
     while place < there {
         let w = code::fetch(code, place);
         count += 1;
-        let step = match (w % 256) as u8 {
-            1 => push_int(w, h),
-            2 => push_real(w, h),
-            3 => load(w, image, h),
-            4 => load_indexed(w, image, h, stack[from_top(h, 1)]),
-            5 => unary(w, h, stack[from_top(h, 1)]),
-            6 => binary(w, h, stack[from_top(h, 2)], stack[from_top(h, 1)]),
-            7 => jump(w, h),
-            8 => jump_if(w, h, stack[from_top(h, 1)], false),
-            9 => jump_if(w, h, stack[from_top(h, 1)], true),
-            _ => stuck_step(),
+        let step = match code::class_of(w) {
+            Class::PushInt => push_int(w, h),
+            Class::PushReal => push_real(w, h),
+            Class::Jump => jump(w, h),
+            Class::JumpIfFalse => jump_if(w, h, stack[from_top(h, 1)], false),
+            Class::JumpIfTrue => jump_if(w, h, stack[from_top(h, 1)], true),
+            Class::Load => load(w, image, h),
+            Class::LoadIndexed => load_indexed(w, image, h, stack[from_top(h, 1)]),
+            Class::Unary => unary(w, h, stack[from_top(h, 1)]),
+            Class::Binary => binary(w, h, stack[from_top(h, 2)], stack[from_top(h, 1)]),
+            Class::Unknown => stuck_step(),
         };
         h = step.height;
         place += 1 + step.skip;

@@ -1,5 +1,7 @@
 -- The laws of the rules: other crates cite Laws.
 pub mod Arms
+pub mod Ranges
+pub mod Typed
 pub mod Keys
 pub mod Cases
 pub mod Gives

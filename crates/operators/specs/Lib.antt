@@ -1,4 +1,5 @@
 pub mod Operators
 pub mod Tables
 pub mod Kinds
+pub mod Functions
 pub mod Laws

@@ -13,6 +13,8 @@ use values::Outcome;
 use values::ShiftOp;
 use values::Value;
 
+pub mod functions;
+pub mod kinds;
 pub mod tables;
 
 // The operators whose two operands are both worked out: && and || are not among them.

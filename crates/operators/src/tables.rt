@@ -9,6 +9,28 @@ use values::ChoiceOp;
 use values::CompareOp;
 use values::ShiftOp;
 
+// Numbers of unary operators.
+pub const NEG: u8 = 0;
+
+pub const COMPLEMENT: u8 = 1;
+
+pub const NOT: u8 = 2;
+
+pub const ABS: u8 = 3;
+
+pub const TO_REAL: u8 = 4;
+
+pub const TRUNC: u8 = 5;
+
+pub const ROUND: u8 = 6;
+
+pub const FRAC: u8 = 7;
+
+// Numbers of the binary operators that are functions.
+pub const MAX: u8 = 18;
+
+pub const MIN: u8 = 19;
+
 pub enum UnaryOf {
     Is(UnaryOp),
     Nothing,
@@ -23,14 +45,14 @@ pub fn unary_of(n: u8) -> UnaryOf
     ensures { λ r. ⌜ r ≡ unaryOf n ⌝ }
 {
     match n {
-        0 => UnaryOf::Is(UnaryOp::Neg),
-        1 => UnaryOf::Is(UnaryOp::Complement),
-        2 => UnaryOf::Is(UnaryOp::Not),
-        3 => UnaryOf::Is(UnaryOp::Abs),
-        4 => UnaryOf::Is(UnaryOp::ToReal),
-        5 => UnaryOf::Is(UnaryOp::Trunc),
-        6 => UnaryOf::Is(UnaryOp::Round),
-        7 => UnaryOf::Is(UnaryOp::Frac),
+        NEG => UnaryOf::Is(UnaryOp::Neg),
+        COMPLEMENT => UnaryOf::Is(UnaryOp::Complement),
+        NOT => UnaryOf::Is(UnaryOp::Not),
+        ABS => UnaryOf::Is(UnaryOp::Abs),
+        TO_REAL => UnaryOf::Is(UnaryOp::ToReal),
+        TRUNC => UnaryOf::Is(UnaryOp::Trunc),
+        ROUND => UnaryOf::Is(UnaryOp::Round),
+        FRAC => UnaryOf::Is(UnaryOp::Frac),
         _ => UnaryOf::Nothing,
     }
 }
@@ -57,8 +79,8 @@ pub fn binary_of(n: u8) -> BinaryOf
         15 => BinaryOf::Is(BinaryOp::Bits(BitOp::And)),
         16 => BinaryOf::Is(BinaryOp::Bits(BitOp::Xor)),
         17 => BinaryOf::Is(BinaryOp::Bits(BitOp::Or)),
-        18 => BinaryOf::Is(BinaryOp::Choice(ChoiceOp::Max)),
-        19 => BinaryOf::Is(BinaryOp::Choice(ChoiceOp::Min)),
+        MAX => BinaryOf::Is(BinaryOp::Choice(ChoiceOp::Max)),
+        MIN => BinaryOf::Is(BinaryOp::Choice(ChoiceOp::Min)),
         _ => BinaryOf::Nothing,
     }
 }

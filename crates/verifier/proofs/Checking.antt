@@ -18,7 +18,7 @@ use Rattle.verifier.specs.declared.Verdict.{Verdict}
 use Rattle.verifier.specs.declared.Verdict.the-variants.{Accepted, Refused}
 use Rattle.verifier.specs.Typing.{Shape, wellFormed}
 use Rattle.verifier.specs.Accepts.{instrAt, Accepts, CorrectVerdict}
-use Rattle.verifier.specs.private.Shapes.{State, rejected, unreached, holds, instrBy, kindsOf, none, ArrayHolds, tableOf, Table, Blank}
+use Rattle.verifier.specs.private.Shapes.{State, rejected, unreached, holds, kindsOf, none, ArrayHolds, tableOf, Table, Blank}
 use Rattle.verifier.specs.private.Pass.{verdictOf, Joins, takes, Steps, Skips}
 use Rattle.verifier.proofs.Pass.{unheld, unfailed, unarrived, Comes, Knows, Or, passes, refusal, passage, begins, joined, verdict-sound, verdict-complete}
 use Rattle.verifier.proofs.Onward.{stepped, passed}

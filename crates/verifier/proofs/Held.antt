@@ -1,20 +1,32 @@
 -- The kinds that the array and the bits keep: what a push, a pop and a replacement make of them, for each class of instruction.
 use mathlib.Core.Path.{_≡_, refl, sym, ap, _∙_, subst}
+use mathlib.Core.Bool.{Bool, true, false, cond}
 use mathlib.Core.List.{List, [], _∷_}
 use Prim.Native.Nat.{ℕ, zero, suc, _+_, _-_, _*_, _/_, _%_, _≤_, _<_}
 use native.Mathlib.Nat.{zero-add}
 use native.Mathlib.Numerals.{add-one}
 use native.Mathlib.Omega.{arith}
-use lib.Dec.{eqb, ltb}
+use lib.Dec.{eqb}
 use lib.ListN.{length, getD, set, length-set}
 use lib.Seq.{getD-set-same, getD-set-other}
 use borrow.Author.Tests.{eq-eqb, ne-eqb, lt-ltb, le-ltb}
 use Rattle.values.specs.declared.Kind.the-variants.{Int, Real}
+use Rattle.operators.specs.declared.tables.UnaryOf.{UnaryOf}
+use Rattle.operators.specs.declared.tables.UnaryOf.the-variants as UnaryOf
+use Rattle.operators.specs.declared.tables.BinaryOf.{BinaryOf}
+use Rattle.operators.specs.declared.tables.BinaryOf.the-variants as BinaryOf
+use Rattle.operators.specs.Tables.{unaryOf, binaryOf}
+use Rattle.memory.specs.declared.numbers.BankOf.{BankOf}
+use Rattle.memory.specs.declared.numbers.BankOf.the-variants as BankOf
+use Rattle.memory.specs.Numbers.{bankNumbered}
 use Rattle.code.specs.declared.Instr.{Instr}
-use Rattle.code.specs.Instructions.{indexedOf, unaryInstr, binaryInstr, instruction}
+use Rattle.code.specs.declared.Instr.the-variants.{LoadIndexed, Unary, Binary, Unknown}
+use Rattle.code.specs.declared.Class.the-variants as Class
+use Rattle.code.specs.Instructions.{loadIndexed, wordOf}
+use Rattle.code.specs.private.Classes.{numberOf, ofBank, ofUnary, ofBinary, instrIn}
 use Rattle.verifier.specs.declared.packing.Held.{Held}
 use Rattle.verifier.specs.declared.typing.Flow.{Flow}
-use Rattle.verifier.specs.Typing.{Move, illTyped, moveOf}
+use Rattle.verifier.specs.Typing.{Shape, Move, illTyped, moveOf}
 use Rattle.verifier.specs.private.Shapes.{
   numberKind,
   leaving,
@@ -36,7 +48,6 @@ use Rattle.verifier.specs.private.Shapes.{
   stops,
   goes,
 }
-use Rattle.verifier.proofs.Moves.{under}
 use Rattle.verifier.proofs.Bits.{bits-length, neat-pushed, kinds-pushed, neat-popped, heights-same, apart}
 
 -- ---- numbers as kinds
@@ -133,27 +144,40 @@ module _ {a : List ℕ} {w : Held} (k : ArrayHolds a w) {i : Instr} {n : ℕ} {b
           let e : below w ≡ kindsOf v = rw (p .height, p .bits) in
           last k (omega arith) ∙ ap (λ s. numberKind (getD a (w .height - 1) 0) ∷ s) (e ∙ last (keeps-popped k (omega arith) p) (omega (arith, p .height)) ∙ ap (λ j. numberKind (getD a j 0) ∷ below v) h)
 
--- short of a value
+-- ---- short of a value
 
-module _ (w : Held) (a d : ℕ) where
-  pub indexed-short : w .height < 1 → moveOf (instruction 4 a d) (kindsOf w) ≡ illTyped
-  unfolding moveOf instruction
-  indexed-short l =
-      let e : w .height ≡ 0 = omega arith in
-      rw e (under (λ i. moveOf i [] ≡ illTyped) (eqb d 0) (under (λ o. moveOf (indexedOf o) [] ≡ illTyped) (ltb a 6) refl refl) refl)
+module _ (w : ℕ) where
+  none-word : (b : Bool) (i : Instr) (s : Shape) → moveOf i s ≡ illTyped → moveOf (cond b i Unknown) s ≡ illTyped
+  unfolding moveOf
+  none-word true i s e = e
+  none-word false i s e = refl
 
-  pub unary-short : w .height < 1 → moveOf (instruction 5 a d) (kindsOf w) ≡ illTyped
-  unfolding moveOf instruction
-  unary-short l =
-      let e : w .height ≡ 0 = omega arith in
-      rw e (under (λ i. moveOf i [] ≡ illTyped) (eqb d 0) (under (λ o. moveOf (unaryInstr o) [] ≡ illTyped) (ltb a 8) refl refl) refl)
+  indexed-empty : (b : BankOf) → moveOf (ofBank loadIndexed b w) [] ≡ illTyped
+  unfolding moveOf
+  indexed-empty (BankOf.Is b) = none-word (eqb w 0) (LoadIndexed b) [] refl
+  indexed-empty BankOf.Nothing = refl
 
-  pub binary-short : w .height < 2 → moveOf (instruction 6 a d) (kindsOf w) ≡ illTyped
-  unfolding moveOf instruction
-  binary-short l = go (w .height) (word w) l
-    where
-      go : (h v : ℕ) → h < 2 → moveOf (instruction 6 a d) (bitKinds h v) ≡ illTyped
-      go zero v l = under (λ i. moveOf i [] ≡ illTyped) (eqb d 0) (under (λ o. moveOf (binaryInstr o) [] ≡ illTyped) (ltb a 20) refl refl) refl
-      go (suc zero) v l =
-          under (λ i. moveOf i (numberKind (v % 2) ∷ []) ≡ illTyped) (eqb d 0) (under (λ o. moveOf (binaryInstr o) (numberKind (v % 2) ∷ []) ≡ illTyped) (ltb a 20) refl refl) refl
-      go (suc (suc h)) v l = absurd (omega arith)
+  unary-empty : (o : UnaryOf) → moveOf (ofUnary o w) [] ≡ illTyped
+  unfolding moveOf
+  unary-empty (UnaryOf.Is o) = none-word (eqb w 0) (Unary o) [] refl
+  unary-empty UnaryOf.Nothing = refl
+
+  binary-few : (o : BinaryOf) (h v : ℕ) → h < 2 → moveOf (ofBinary o w) (bitKinds h v) ≡ illTyped
+  unfolding moveOf
+  binary-few (BinaryOf.Is o) zero v l = none-word (eqb w 0) (Binary o) [] refl
+  binary-few (BinaryOf.Is o) (suc zero) v l = none-word (eqb w 0) (Binary o) (numberKind (v % 2) ∷ []) refl
+  binary-few (BinaryOf.Is o) (suc (suc h)) v l = absurd (omega arith)
+  binary-few BinaryOf.Nothing h v l = refl
+
+module _ (w : Held) (n : ℕ) where
+  empty : (i : Instr) → w .height < 1 → moveOf i [] ≡ illTyped → moveOf i (kindsOf w) ≡ illTyped
+  empty i l f = let e : w .height ≡ 0 = omega arith in rw e f
+
+  pub indexed-short : w .height < 1 → moveOf (instrIn Class.LoadIndexed n) (kindsOf w) ≡ illTyped
+  indexed-short l = empty _ l (indexed-empty (wordOf n) (bankNumbered (numberOf n)))
+
+  pub unary-short : w .height < 1 → moveOf (instrIn Class.Unary n) (kindsOf w) ≡ illTyped
+  unary-short l = empty _ l (unary-empty (wordOf n) (unaryOf (numberOf n)))
+
+  pub binary-short : w .height < 2 → moveOf (instrIn Class.Binary n) (kindsOf w) ≡ illTyped
+  binary-short l = binary-few (wordOf n) (binaryOf (numberOf n)) (w .height) (word w) l

@@ -1,12 +1,11 @@
 -- Safe and Verdicts are what other crates may cite; the others are the laws that lead to them and to `check`.
 pub mod Safe
 pub mod Verdicts
-pub mod Moves
-pub mod Pass
-pub mod Onward
-pub mod Numbers
-pub mod Bits
-pub mod Held
-pub mod Merging
-pub mod Stepping
-pub mod Checking
+mod Moves
+mod Pass
+mod Onward
+mod Bits
+mod Held
+mod Merging
+mod Stepping
+mod Checking

@@ -2,7 +2,7 @@
 use mathlib.Core.Path.{_≡_, refl, sym, ap, _∙_, subst}
 use mathlib.Core.Bool.{Bool, true, false, cond}
 use mathlib.Core.List.{List, [], _∷_}
-use Prim.Native.Nat.{ℕ, zero, suc, _+_, _-_, _≤_, _<_}
+use Prim.Native.Nat.{ℕ, suc, _+_, _-_, _≤_, _<_}
 use native.Mathlib.Omega.{arith}
 use lib.Dec.{T, leb, leb→le, eqb}
 use lib.ListN.{length, drop, length-drop}
@@ -16,11 +16,6 @@ use Rattle.machine.specs.Machine.{maxHeight}
 use Rattle.verifier.specs.Typing.{Shape, Move, illTyped, next, jump, fork, hasRoom, pushKind, moveOf, wellFormed}
 use Rattle.verifier.specs.Accepts.{MovesTo, next-place, jump-target, not-taken, taken, instrAt}
 
--- what holds of both sides of a test
-pub under : {A : Type 0} (P : A → Type 0) (b : Bool) {x y : A} → P x → P y → P (cond b x y)
-under P true f g = f
-under P false f g = g
-
 -- a place is another, or it is not
 pub compare : {X : Type 0} (q t : ℕ) → (q ≡ t → X) → ((q ≡ t → ⊥) → X) → X
 compare {X} q t f g = go (eqb q t) refl
@@ -28,15 +23,6 @@ compare {X} q t f g = go (eqb q t) refl
     go : (b : Bool) → eqb q t ≡ b → X
     go true e = f (eqb-true q t e)
     go false e = g (eqb-false q t e)
-
--- what holds of each of m numbers from l on holds of a number among them
-abbrev pub Each : (ℕ → Type 0) → ℕ → ℕ → Type 0
-Each P l zero = Unit {0}
-Each P l (suc m) = P l × Each P (suc l) m
-
-pub between : (P : ℕ → Type 0) (l m : ℕ) → Each P l m → {n : ℕ} → l ≤ n → n < l + m → P n
-between P l zero e f g = absurd (omega arith)
-between P l (suc m) e {n} f g = compare n l (λ q. subst P (sym q) (e .0)) (λ q. between P (suc l) m (e .1) (omega arith) (omega arith))
 
 -- what holds below p, and of p, holds below the next
 pub upto : (X : ℕ → Type 0) (p : ℕ) → ((q : ℕ) → q < p → X q) → X p → (q : ℕ) → q < suc p → X q

@@ -1,29 +1,28 @@
 -- From a place to the next: each way through `jump`, `fork` and `step`, and the verdict at the end.
-use mathlib.Core.Path.{_≡_, refl, sym, ap, _∙_, subst}
-use mathlib.Core.Bool.{Bool, true, false, cond, false≢true}
-use mathlib.Core.List.{List, [], _∷_}
-use Prim.Native.Nat.{ℕ, zero, suc, _+_, _-_, _%_, _≤_, _<_}
+use mathlib.Core.Path.{_≡_, refl, _∙_}
+use mathlib.Core.Bool.{Bool, true, false}
+use mathlib.Core.List.{List}
+use Prim.Native.Nat.{ℕ, zero, suc, _+_, _-_, _≤_, _<_}
 use native.Mathlib.Omega.{arith}
-use lib.Dec.{eqb, leb}
+use lib.Dec.{leb}
 use lib.ListN.{getD}
-use borrow.Author.Tests.{leb-true, eqb-true}
 use Rattle.code.specs.declared.Instr.{Instr}
 use Rattle.code.specs.declared.Instr.the-variants.{Jump, JumpIf, Unknown}
-use Rattle.words.specs.Laws.{Bytes}
-use Rattle.code.specs.Instructions.{alone, instruction, decodeAt}
-use Rattle.code.specs.private.Fetch.{fetched}
+use Rattle.code.specs.declared.Class.{Class}
+use Rattle.code.specs.Instructions.{pushInt, opcodeOf, instructionOf, fetched, decodeAt}
+use Rattle.code.specs.private.Classes.{classOf, instrIn}
+use Rattle.code.proofs.Parts.{decode-fetched}
 use Rattle.verifier.specs.declared.packing.Held.{Held}
 use Rattle.verifier.specs.declared.typing.Flow.{Flow}
 use Rattle.verifier.specs.declared.Verdict.{Verdict}
 use Rattle.verifier.specs.declared.Verdict.the-variants as Verdict
 use Rattle.verifier.specs.Typing.{Shape, Move, illTyped, jump, fork, moveOf, wellFormed}
-use Rattle.verifier.specs.private.Shapes.{State, rejected, unreached, holds, operandOf, wordOf, instrOf, instrBy, staying, numberKind, bitKinds, word, kindsOf, Canonical, ArrayHolds, Popped, stateAt, stateOf, Leaves, stops, goes}
+use Rattle.verifier.specs.private.Shapes.{State, rejected, unreached, holds, pushNumber, numberKind, bitKinds, word, kindsOf, ArrayHolds, Popped, stateAt, stateOf, Leaves, stops, goes}
 use Rattle.verifier.specs.private.Pass as Pass
 use Rattle.verifier.specs.private.Pass.{verdictOf, Skipping, Merges, Steps, stuck, strays, leaps, forks, leap-clash, fork-clash}
-use Rattle.verifier.proofs.Moves.{under, between, upto}
-use Rattle.verifier.proofs.Numbers.{decode-by}
+use Rattle.verifier.proofs.Moves.{upto}
+use Rattle.verifier.proofs.kinds.Standing.{in-class}
 use Rattle.verifier.proofs.Bits.{kinds-popped}
-use Rattle.verifier.proofs.kinds.Standing.{alone-known}
 
 -- ---- what flows on
 
@@ -42,75 +41,56 @@ pub typed-steps : {i : Instr} {k p : ℕ} {s : Shape} {before : ℕ → State} {
 typed-steps e (stops r k) = rw r (stuck e)
 typed-steps e (goes r k) = rw r (Pass.goes e)
 
--- ---- a jump: the number is w, and m instructions follow
+pub int-moves : (w : ℕ) (s : Shape) → moveOf (pushInt w) s ≡ pushNumber 0 s
+unfolding moveOf
+int-moves w s = refl
 
-module _ (w m : ℕ) where
-  -- it stays, so its operand is 0 and its distance within what follows
-  pub stays : staying m w ≡ true → (operandOf w ≡ 0) × (wordOf w ≤ m)
-  stays e = go (eqb (operandOf w) 0) refl e
-    where
-      go : (b : Bool) → eqb (operandOf w) 0 ≡ b → cond b (leb (wordOf w) m) false ≡ true → (operandOf w ≡ 0) × (wordOf w ≤ m)
-      go true q f = (eqb-true (operandOf w) 0 q, leb-true (wordOf w) m f)
-      go false q f = absurd (false≢true f)
+pub none-moves : (s : Shape) → moveOf Unknown s ≡ illTyped
+unfolding moveOf
+none-moves s = refl
 
-  leap-is : (s : Shape) {d : ℕ} → staying m w ≡ true → d ≡ wordOf w → moveOf (instrOf 7 w) s ≡ jump d s
-  unfolding moveOf instruction
-  leap-is s e q = rw (q, stays e .0)
+-- from the class c of the number n of the eight bytes, which is k
+pub steps-by : (n : ℕ) {c : Class} (k : Class) {m p : ℕ} {s : Shape} {before : ℕ → State} {x : State} {after : ℕ → State}
+    → c ≡ classOf (opcodeOf n) → c ≡ k → Steps (instrIn k n) m p s before x after → Steps (instructionOf n) m p s before x after
+steps-by n k e q h = rw (in-class n k e q) h
 
-  leap-known : wellFormed m (instrOf 7 w) ≡ staying m w
-  unfolding instruction
-  leap-known = alone-known m (eqb (operandOf w) 0) (Jump (wordOf w))
+-- ---- a jump over d, where m instructions follow
 
-  module _ {p : ℕ} {s : Shape} {before : ℕ → State} where
-    pub leap-strays : staying m w ≡ false → Steps (instrOf 7 w) m p s before rejected before
-    leap-strays e = strays (leap-known ∙ e)
+leap-is : (d : ℕ) (s : Shape) → moveOf (Jump d) s ≡ jump d s
+unfolding moveOf
+leap-is d s = refl
 
-    module _ {d : ℕ} {after : ℕ → State} (e : staying m w ≡ true) (q : d ≡ wordOf w) where
-      pub leap-lands : {b : Bool} → b ≡ true → Merges s (p + d) before b after → Steps (instrOf 7 w) m p s before unreached after
-      leap-lands y b = leaps (leap-known ∙ e) (leap-is s e q) (rw y at b)
+fork-is : (t : Bool) (d : ℕ) {h v : Held} → 0 < h .height → Popped h v → moveOf (JumpIf t d) (kindsOf h) ≡ fork d (kindsOf v)
+unfolding moveOf
+fork-is t d some o = rw (kinds-popped some o)
 
-      pub leap-fails : {b : Bool} → b ≡ false → Merges s (p + d) before b after → Steps (instrOf 7 w) m p s before rejected after
-      leap-fails y b = leap-clash (leap-is s e q) (rw y at b)
+module _ (d m : ℕ) {p : ℕ} {before : ℕ → State} where
+  module _ {s : Shape} where
+    pub leap-strays : leb d m ≡ false → Steps (Jump d) m p s before rejected before
+    leap-strays e = strays e
+
+    module _ {after : ℕ → State} {b : Bool} where
+      pub leap-lands : leb d m ≡ true → b ≡ true → Merges s (p + d) before b after → Steps (Jump d) m p s before unreached after
+      leap-lands e y k = leaps e (leap-is d s) (rw y at k)
+
+      pub leap-fails : b ≡ false → Merges s (p + d) before b after → Steps (Jump d) m p s before rejected after
+      leap-fails y k = leap-clash (leap-is d s) (rw y at k)
 
   -- a jump on a value, which is taken
   module _ (t : Bool) (h : Held) where
-    abbrev branch : Instr
-    branch = alone (operandOf w) (JumpIf t (wordOf w))
-
-    fork-is : {v : Held} {d : ℕ} → 0 < h .height → Popped h v → staying m w ≡ true → d ≡ wordOf w → moveOf branch (kindsOf h) ≡ fork d (kindsOf v)
+    pub fork-short : h .height < 1 → Steps (JumpIf t d) m p (kindsOf h) before rejected before
     unfolding moveOf
-    fork-is l o e q = rw (q, stays e .0, kinds-popped l o)
+    fork-short l = let e : h .height ≡ 0 = omega arith in rw e (stuck refl)
 
-    fork-known : wellFormed m branch ≡ staying m w
-    fork-known = alone-known m (eqb (operandOf w) 0) (JumpIf t (wordOf w))
+    pub fork-strays : leb d m ≡ false → Steps (JumpIf t d) m p (kindsOf h) before rejected before
+    fork-strays e = strays e
 
-    module _ {p : ℕ} {before : ℕ → State} where
-      pub fork-short : h .height < 1 → Steps branch m p (kindsOf h) before rejected before
-      unfolding moveOf
-      fork-short l =
-          let e : h .height ≡ 0 = omega arith in
-          rw e (stuck (under (λ i. moveOf i [] ≡ illTyped) (eqb (operandOf w) 0) refl refl))
+    module _ {v : Held} {after : ℕ → State} {b : Bool} (some : 0 < h .height) (o : Popped h v) where
+      pub fork-lands : leb d m ≡ true → b ≡ true → Merges (kindsOf v) (p + d) before b after → Steps (JumpIf t d) m p (kindsOf h) before (holds (kindsOf v)) after
+      fork-lands e y k = forks e (fork-is t d some o) (rw y at k)
 
-      pub fork-strays : staying m w ≡ false → Steps branch m p (kindsOf h) before rejected before
-      fork-strays e = strays (fork-known ∙ e)
-
-      module _ {v : Held} {d : ℕ} {after : ℕ → State} (some : 0 < h .height) (o : Popped h v) (e : staying m w ≡ true) (q : d ≡ wordOf w) where
-        pub fork-lands : {b : Bool} → b ≡ true → Merges (kindsOf v) (p + d) before b after → Steps branch m p (kindsOf h) before (holds (kindsOf v)) after
-        fork-lands y b = forks (fork-known ∙ e) (fork-is some o e q) (rw y at b)
-
-        pub fork-fails : {b : Bool} → b ≡ false → Merges (kindsOf v) (p + d) before b after → Steps branch m p (kindsOf h) before rejected after
-        fork-fails y b = fork-clash (fork-is some o e q) (rw y at b)
-
--- ---- by the opcode o, the operand a and the word d
-
-pub fork-by : {o : ℕ} (a d : ℕ) {m p : ℕ} {s : Shape} {before : ℕ → State} {x : State} {after : ℕ → State} → 8 ≤ o → o < 10
-    → ((t : Bool) → Steps (alone a (JumpIf t d)) m p s before x after) → Steps (instruction o a d) m p s before x after
-unfolding instruction
-fork-by a d {m} {p} {s} {before} {x} {after} l h f = between (λ o. Steps (instruction o a d) m p s before x after) 8 2 (f false, (f true, tt)) l h
-
-pub none-stuck : {i : Instr} {m p : ℕ} {s : Shape} {before : ℕ → State} → i ≡ Unknown → Steps i m p s before rejected before
-unfolding moveOf
-none-stuck e = rw e (stuck refl)
+      pub fork-fails : b ≡ false → Merges (kindsOf v) (p + d) before b after → Steps (JumpIf t d) m p (kindsOf h) before rejected after
+      fork-fails y k = fork-clash (fork-is t d some o) (rw y at k)
 
 -- ---- places that nothing comes to
 
@@ -127,10 +107,10 @@ module _ {code : List ℕ} {n : ℕ} {tops : List ℕ} where
   }
 
 -- the number w of an instruction says whether it stands
-pub stands-at : (code : List ℕ) (n p : ℕ) {w : ℕ} {b : Bool} → Bytes code → w ≡ fetched code p → b ≡ wellFormed (n - p - 1) (instrBy w) → b ≡ wellFormed (n - suc p) (decodeAt code p)
-stands-at code n p B e f =
+pub stands-at : (code : List ℕ) (n p : ℕ) {w : ℕ} {b : Bool} → w ≡ fetched code p → b ≡ wellFormed (n - p - 1) (instructionOf w) → b ≡ wellFormed (n - suc p) (decodeAt code p)
+stands-at code n p e f =
     let l : n - p - 1 ≡ n - suc p = omega arith in
-    f ∙ rw (decode-by code p B, ← e, l)
+    f ∙ rw (decode-fetched code p, ← e, l)
 
 -- ---- the end
 

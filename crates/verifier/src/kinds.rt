@@ -1,161 +1,99 @@
-// What each class of instructions takes and leaves, by kind, from the number of an instruction's eight bytes. A kind is 0 for an integer
-// and 1 for a real; 2 is none, for what is no instruction or does not take these kinds.
+// What an instruction leaves, by kind, from the number of its eight bytes and for its class. A kind is a number, as in operators::kinds;
+// NOT_TAKEN and more is none, for what is no instruction or does not take these kinds.
 ghost use mathlib.Core.Path.{_≡_};
 ghost use Prim.Native.Nat.{ℕ};
+ghost use lib.Dec.{leb};
+ghost use Rattle.memory.specs.Numbers.{bankNumbered};
+ghost use Rattle.code.specs.declared.Class.the-variants.{PushReal, Load, LoadIndexed, Unary, Binary};
+ghost use Rattle.code.specs.Instructions.{wordOf, instructionOf};
+ghost use Rattle.code.specs.private.Classes.{instrIn};
 ghost use Rattle.verifier.specs.Typing.{wellFormed};
-ghost use Rattle.verifier.specs.private.Shapes.{operandOf, wordOf, instrOf, instrBy, staying, Itself, joint, bothIntegers, Makes, LeavesKind, ReplacesKind, ReplacesTwo, Banked};
+ghost use Rattle.verifier.specs.private.Shapes.{elementTyped, LeavesKind, ReplacesKind, ReplacesTwo};
+use code::Class;
+use memory::numbers;
+use operators::kinds;
+use values::patterns;
 
-// The operand, and above it the two bytes that must be 0: where they are not, it is larger than any operand.
-pub fn operand(w: u64) -> u64
-    ensures { λ r. ⌜ r ≡ operandOf w ⌝ }
-{
-    w / 256 % 16777216
-}
-
-pub fn word(w: u64) -> u64
-    ensures { λ r. ⌜ r ≡ wordOf w ⌝ }
-{
-    w / 4294967296
-}
-
-// The kind itself.
-fn bit(n: u8) -> u8
-    ensures { λ r. ⌜ Itself n r ⌝ }
-{
-    if n == 0 { 0 } else { 1 }
-}
-
-// A real where either is.
-fn joined(left: u8, right: u8) -> u8
-    ensures { λ r. ⌜ Makes joint left right r ⌝ }
-{
-    if left == 0 { bit(right) } else { 1 }
-}
-
-// Integers only.
-fn whole(left: u8, right: u8) -> u8
-    ensures { λ r. ⌜ Makes bothIntegers left right r ⌝ }
-{
-    if left != 0 {
-        return 2;
-    }
-    if right == 0 { 0 } else { 2 }
-}
-
-pub fn int_kind(w: u64) -> u8
-    ensures { λ r. ⌜ LeavesKind (instrOf 1 w) r ⌝ }
-{
-    if operand(w) == 0 { 0 } else { 2 }
-}
-
-// An infinity or a NaN, whose exponent is all ones, is not pushed.
+// An infinity or a NaN is not pushed.
 pub fn real_kind(w: u64) -> u8
-    ensures { λ r. ⌜ LeavesKind (instrOf 2 w) r ⌝ }
+    ensures { λ r. ⌜ LeavesKind (instrIn PushReal w) r ⌝ }
 {
-    if operand(w) != 0 {
-        return 2;
-    }
-    if word(w) / 8388608 % 256 == 255 { 2 } else { 1 }
-}
-
-// The last bank has reals.
-fn bank_kind(bank: u64) -> u8
-    ensures { λ r. ⌜ Banked bank r ⌝ }
-{
-    if bank < 5 {
-        return 0;
-    }
-    if bank < 6 { 1 } else { 2 }
-}
-
-// The first two banks have 64 elements, the others 256.
-pub fn load_kind(w: u64) -> u8
-    ensures { λ r. ⌜ LeavesKind (instrOf 3 w) r ⌝ }
-{
-    let bank = operand(w);
-    if bank < 2 {
-        return if word(w) < 64 { 0 } else { 2 };
-    }
-    if word(w) < 256 { bank_kind(bank) } else { 2 }
-}
-
-pub fn indexed_kind(w: u64) -> u8
-    ensures { λ r. ⌜ ((k : ℕ) → ReplacesKind (instrOf 4 w) k r) ⌝ }
-{
-    if word(w) == 0 {
-        bank_kind(operand(w))
+    if patterns::is_finite_single(code::word_of(w)) {
+        kinds::REAL
     } else {
-        2
+        kinds::NOT_TAKEN
     }
 }
 
-// The operators by number, as docs/INSTRUCTIONS.md has them.
-pub fn unary_kind(w: u64, k: u8) -> u8
-    ensures { λ r. ⌜ ReplacesKind (instrOf 5 w) k r ⌝ }
+// The kind of an element, where its bank has it.
+fn element_kind(bank: u32, element: u32) -> u8
+    ensures { λ r. ⌜ r ≡ elementTyped (bankNumbered bank) element ⌝ }
 {
-    if word(w) != 0 {
-        return 2;
+    if element < numbers::bank_elements(bank) {
+        numbers::bank_kind(bank)
+    } else {
+        kinds::NOT_TAKEN
     }
-    match operand(w) {
-        0 => bit(k),
-        1 => { if k == 0 { 0 } else { 2 } }
-        2 => 0,
-        3 => bit(k),
-        4 => 1,
-        5 => 0,
-        6 => 0,
-        7 => 1,
-        _ => 2,
+}
+
+pub fn load_kind(w: u64) -> u8
+    ensures { λ r. ⌜ LeavesKind (instrIn Load w) r ⌝ }
+{
+    element_kind(code::number_of(w) as u32, code::word_of(w))
+}
+
+// Whatever the index: the kind of the first element, which every bank has.
+pub fn indexed_kind(w: u64) -> u8
+    ensures { λ r. ⌜ ((k : ℕ) → ReplacesKind (instrIn LoadIndexed w) k r) ⌝ }
+{
+    if code::word_of(w) == 0 {
+        element_kind(code::number_of(w) as u32, 0)
+    } else {
+        kinds::NOT_TAKEN
+    }
+}
+
+pub fn unary_kind(w: u64, k: u8) -> u8
+    ensures { λ r. ⌜ ReplacesKind (instrIn Unary w) k r ⌝ }
+{
+    if code::word_of(w) == 0 {
+        kinds::unary_kind(code::number_of(w) as u32, k)
+    } else {
+        kinds::NOT_TAKEN
     }
 }
 
 pub fn binary_kind(w: u64, left: u8, right: u8) -> u8
-    ensures { λ r. ⌜ ReplacesTwo (instrOf 6 w) left right r ⌝ }
+    ensures { λ r. ⌜ ReplacesTwo (instrIn Binary w) left right r ⌝ }
 {
-    if word(w) != 0 {
-        return 2;
+    if code::word_of(w) == 0 {
+        kinds::binary_kind(code::number_of(w) as u32, left, right)
+    } else {
+        kinds::NOT_TAKEN
     }
-    let op = operand(w);
-    if op == 0 {
-        return if right == 0 { bit(left) } else { 2 };
-    }
-    if op < 6 {
-        return joined(left, right);
-    }
-    if op < 9 {
-        return whole(left, right);
-    }
-    if op < 15 {
-        return 0;
-    }
-    if op < 18 {
-        return whole(left, right);
-    }
-    if op < 20 { joined(left, right) } else { 2 }
 }
 
 // A jump stays within the code or goes to its end: so many instructions follow it.
 pub fn stays(w: u64, left: usize) -> bool
-    ensures { λ r. ⌜ r ≡ staying left w ⌝ }
+    ensures { λ r. ⌜ r ≡ leb (wordOf w) left ⌝ }
 {
-    if operand(w) != 0 {
-        return false;
-    }
-    (word(w) as usize) <= left
+    (code::word_of(w) as usize) <= left
 }
 
-// An instruction is known where so many follow it, whether or not it is reached. Each that is acts on two integers.
+// An instruction is known where so many follow it, whether or not it is reached. Each that is, and is no jump, acts on two integers.
 pub fn known(w: u64, left: usize) -> bool
-    ensures { λ r. ⌜ r ≡ wellFormed left (instrBy w) ⌝ }
+    ensures { λ r. ⌜ r ≡ wellFormed left (instructionOf w) ⌝ }
 {
-    match w % 256 {
-        1 => int_kind(w) < 2,
-        2 => real_kind(w) < 2,
-        3 => load_kind(w) < 2,
-        4 => indexed_kind(w) < 2,
-        5 => unary_kind(w, 0) < 2,
-        6 => binary_kind(w, 0, 0) < 2,
-        7..=9 => stays(w, left),
-        _ => false,
+    match code::class_of(w) {
+        Class::PushInt => true,
+        Class::PushReal => real_kind(w) < kinds::NOT_TAKEN,
+        Class::Jump => stays(w, left),
+        Class::JumpIfFalse => stays(w, left),
+        Class::JumpIfTrue => stays(w, left),
+        Class::Load => load_kind(w) < kinds::NOT_TAKEN,
+        Class::LoadIndexed => indexed_kind(w) < kinds::NOT_TAKEN,
+        Class::Unary => unary_kind(w, kinds::INT) < kinds::NOT_TAKEN,
+        Class::Binary => binary_kind(w, kinds::INT, kinds::INT) < kinds::NOT_TAKEN,
+        Class::Unknown => false,
     }
 }

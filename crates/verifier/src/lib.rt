@@ -4,16 +4,18 @@ ghost use mathlib.Core.Bool.{Bool, cond};
 ghost use Prim.Native.Nat.{ℕ, _-_, _<_, _≤_};
 ghost use mathlib.Core.List.{List};
 ghost use lib.ListN.{length, getD};
-ghost use Rattle.code.specs.declared.Instr.the-variants.{JumpIf};
-ghost use Rattle.code.specs.Instructions.{alone};
+ghost use Rattle.code.specs.declared.Instr.the-variants.{Jump, JumpIf};
+ghost use Rattle.code.specs.Instructions.{wordOf, instructionOf};
 ghost use Rattle.verifier.specs.Accepts.{CorrectVerdict};
-ghost use Rattle.verifier.specs.private.Shapes.{rejected, holds, kindsOf, operandOf, wordOf, instrOf, instrBy, Canonical, ArrayHolds, stateOf, tableOf, Table, Blank};
+ghost use Rattle.verifier.specs.private.Shapes.{rejected, holds, kindsOf, Canonical, ArrayHolds, stateOf, tableOf, Table, Blank};
 ghost use Rattle.verifier.specs.private.Pass.{Joins, Merges, Steps, Skips, verdictOf};
 
 mod kinds;
 mod packing;
 mod typing;
 
+use code::Class;
+use operators::kinds::INT;
 use packing::Held;
 use typing::Flow;
 use values::Kind;
@@ -81,13 +83,13 @@ fn jump(
     requires { ⌜ Table (length (now tops)) (now tops) (now lows) (now highs) ⌝ }
     ensures { λ r. ⌜ ((a : List ℕ) → ArrayHolds a held → ArrayHolds a (r .held)) ⌝ }
     ensures { λ r. ⌜ Table (length (now (tops .entry))) (now (tops .exit)) (now (lows .exit)) (now (highs .exit)) ⌝ }
-    ensures { λ r. ⌜ Steps (instrOf 7 w) (n - next) next (kindsOf held) (tableOf (now (tops .entry)) (now (lows .entry)) (now (highs .entry)))
+    ensures { λ r. ⌜ Steps (Jump (wordOf w)) (n - next) next (kindsOf held) (tableOf (now (tops .entry)) (now (lows .entry)) (now (highs .entry)))
         (stateOf r) (tableOf (now (tops .exit)) (now (lows .exit)) (now (highs .exit))) ⌝ }
 {
     if !kinds::stays(w, n - next) {
         return Flow { reach: 0, held };
     }
-    let target = next + (kinds::word(w) as usize);
+    let target = next + (code::word_of(w) as usize);
     if merge(held, target, tops, lows, highs) {
         Flow { reach: 1, held }
     } else {
@@ -109,7 +111,7 @@ fn fork(
     requires { ⌜ Table (length (now tops)) (now tops) (now lows) (now highs) ⌝ }
     ensures { λ r. ⌜ ((a : List ℕ) → ArrayHolds a held → ArrayHolds a (r .held)) ⌝ }
     ensures { λ r. ⌜ Table (length (now (tops .entry))) (now (tops .exit)) (now (lows .exit)) (now (highs .exit)) ⌝ }
-    ensures { λ r. ⌜ ((t : Bool) → Steps (alone (operandOf w) (JumpIf t (wordOf w))) (n - next) next (kindsOf held)
+    ensures { λ r. ⌜ ((t : Bool) → Steps (JumpIf t (wordOf w)) (n - next) next (kindsOf held)
         (tableOf (now (tops .entry)) (now (lows .entry)) (now (highs .entry))) (stateOf r)
         (tableOf (now (tops .exit)) (now (lows .exit)) (now (highs .exit)))) ⌝ }
 {
@@ -120,7 +122,7 @@ fn fork(
         return Flow { reach: 0, held };
     }
     let rest = packing::popped(held);
-    let target = next + (kinds::word(w) as usize);
+    let target = next + (code::word_of(w) as usize);
     if merge(rest, target, tops, lows, highs) {
         Flow {
             reach: 2,
@@ -150,19 +152,20 @@ fn step(
     requires { ⌜ Table (length (now tops)) (now tops) (now lows) (now highs) ⌝ }
     ensures { λ r. ⌜ ArrayHolds (now (kinds .exit)) (r .held) ⌝ }
     ensures { λ r. ⌜ Table (length (now (tops .entry))) (now (tops .exit)) (now (lows .exit)) (now (highs .exit)) ⌝ }
-    ensures { λ r. ⌜ Steps (instrBy w) (n - next) next (kindsOf held) (tableOf (now (tops .entry)) (now (lows .entry)) (now (highs .entry)))
+    ensures { λ r. ⌜ Steps (instructionOf w) (n - next) next (kindsOf held) (tableOf (now (tops .entry)) (now (lows .entry)) (now (highs .entry)))
         (stateOf r) (tableOf (now (tops .exit)) (now (lows .exit)) (now (highs .exit))) ⌝ }
 {
-    match w % 256 {
-        1 => typing::push(kinds, held, kinds::int_kind(w)),
-        2 => typing::push(kinds, held, kinds::real_kind(w)),
-        3 => typing::push(kinds, held, kinds::load_kind(w)),
-        4 => typing::indexed(kinds, held, w),
-        5 => typing::unary(kinds, held, w),
-        6 => typing::binary(kinds, held, w),
-        7 => jump(w, n, held, next, tops, lows, highs),
-        8 | 9 => fork(w, n, held, next, tops, lows, highs),
-        _ => Flow { reach: 0, held },
+    match code::class_of(w) {
+        Class::PushInt => typing::push(kinds, held, INT),
+        Class::PushReal => typing::push(kinds, held, kinds::real_kind(w)),
+        Class::Jump => jump(w, n, held, next, tops, lows, highs),
+        Class::JumpIfFalse => fork(w, n, held, next, tops, lows, highs),
+        Class::JumpIfTrue => fork(w, n, held, next, tops, lows, highs),
+        Class::Load => typing::push(kinds, held, kinds::load_kind(w)),
+        Class::LoadIndexed => typing::indexed(kinds, held, w),
+        Class::Unary => typing::unary(kinds, held, w),
+        Class::Binary => typing::binary(kinds, held, w),
+        Class::Unknown => Flow { reach: 0, held },
     }
 }
 

@@ -1,11 +1,15 @@
 // What an instruction makes of the kinds of the values held. An array has them, and so have the bits of `Held`.
 ghost use mathlib.Core.Path.{_≡_};
 ghost use Prim.Native.Nat.{_<_};
+ghost use Rattle.code.specs.declared.Class.the-variants.{LoadIndexed, Unary, Binary};
+ghost use Rattle.code.specs.private.Classes.{instrIn};
 ghost use Rattle.verifier.specs.Typing.{moveOf};
-ghost use Rattle.verifier.specs.private.Shapes.{numberKind, kindsOf, below, leaving, pushNumber, instrOf, ArrayHolds, Leaves};
+ghost use Rattle.verifier.specs.private.Shapes.{numberKind, kindsOf, below, leaving, pushNumber, ArrayHolds, Leaves};
 use crate::kinds;
 use crate::packing;
 use crate::packing::Held;
+use operators::kinds::INT;
+use operators::kinds::NOT_TAKEN;
 use values::Kind;
 
 // What flows on from an instruction: reach is 0 where the code is refused, 1 where the next place is not reached from here, and 2 where
@@ -18,7 +22,7 @@ pub struct Flow {
 pub fn kind(n: u8) -> Kind
     ensures { λ r. ⌜ r ≡ numberKind n ⌝ }
 {
-    if n == 0 { Kind::Int } else { Kind::Real }
+    if n == INT { Kind::Int } else { Kind::Real }
 }
 
 // One value more, where there is room for it.
@@ -26,7 +30,7 @@ pub fn push(kinds: &mut [u8; 128], held: Held, n: u8) -> Flow
     requires { ⌜ ArrayHolds (now kinds) held ⌝ }
     ensures { λ r. ⌜ Leaves (now (kinds .exit)) r (pushNumber n (kindsOf held)) ⌝ }
 {
-    if 2 <= n {
+    if NOT_TAKEN <= n {
         return Flow { reach: 0, held };
     }
     let h = held.height;
@@ -46,7 +50,7 @@ fn replace(kinds: &mut [u8; 128], held: Held, n: u8) -> Flow
     requires { ⌜ 0 < held .height ⌝ }
     ensures { λ r. ⌜ Leaves (now (kinds .exit)) r (leaving n (below held)) ⌝ }
 {
-    if 2 <= n {
+    if NOT_TAKEN <= n {
         return Flow { reach: 0, held };
     }
     let h = held.height;
@@ -59,7 +63,7 @@ fn replace(kinds: &mut [u8; 128], held: Held, n: u8) -> Flow
 
 pub fn indexed(kinds: &mut [u8; 128], held: Held, w: u64) -> Flow
     requires { ⌜ ArrayHolds (now kinds) held ⌝ }
-    ensures { λ r. ⌜ Leaves (now (kinds .exit)) r (moveOf (instrOf 4 w) (kindsOf held)) ⌝ }
+    ensures { λ r. ⌜ Leaves (now (kinds .exit)) r (moveOf (instrIn LoadIndexed w) (kindsOf held)) ⌝ }
 {
     if held.height < 1 {
         return Flow { reach: 0, held };
@@ -69,7 +73,7 @@ pub fn indexed(kinds: &mut [u8; 128], held: Held, w: u64) -> Flow
 
 pub fn unary(kinds: &mut [u8; 128], held: Held, w: u64) -> Flow
     requires { ⌜ ArrayHolds (now kinds) held ⌝ }
-    ensures { λ r. ⌜ Leaves (now (kinds .exit)) r (moveOf (instrOf 5 w) (kindsOf held)) ⌝ }
+    ensures { λ r. ⌜ Leaves (now (kinds .exit)) r (moveOf (instrIn Unary w) (kindsOf held)) ⌝ }
 {
     let h = held.height;
     if h < 1 {
@@ -81,7 +85,7 @@ pub fn unary(kinds: &mut [u8; 128], held: Held, w: u64) -> Flow
 
 pub fn binary(kinds: &mut [u8; 128], held: Held, w: u64) -> Flow
     requires { ⌜ ArrayHolds (now kinds) held ⌝ }
-    ensures { λ r. ⌜ Leaves (now (kinds .exit)) r (moveOf (instrOf 6 w) (kindsOf held)) ⌝ }
+    ensures { λ r. ⌜ Leaves (now (kinds .exit)) r (moveOf (instrIn Binary w) (kindsOf held)) ⌝ }
 {
     let h = held.height;
     if h < 2 {

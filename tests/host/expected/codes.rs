@@ -3,7 +3,7 @@
 use super::shown_end;
 use crate::reference::check::check;
 use crate::reference::code::Instruction::{self, *};
-use crate::reference::code::{bytes, encode, BINARY, INSTRUCTION_BYTES, LOAD, PUSH_INT, PUSH_REAL, UNARY};
+use crate::reference::code::{bytes, encode, BINARY, INSTRUCTION_BYTES, LOAD, LOAD_INDEXED, PUSH_REAL, UNARY};
 use crate::reference::machine::run;
 use crate::reference::memory::{offset, Bank, MEMORY_BYTES};
 use crate::reference::operators::Binary::*;
@@ -109,23 +109,29 @@ fn faults() -> Vec<Case> {
 // Not so many instructions, or one that is unknown.
 fn unknown() -> Vec<Case> {
     let one = encode(int(1));
-    let mut spare = one;
-    spare[2] = 1;
+    let with_one_at = |byte: usize| {
+        let mut eight = one;
+        eight[byte] = 1;
+        eight
+    };
     vec![
         Case { instructions: 0, ..case("nothing", &[int(1)]) },
         Case { instructions: 2, ..case("beyond_the_buffer", &[int(1)]) },
         case("long_2049", &negations(2048)),
         raw("opcode_0", &[bytes(0, 0, 0)]),
-        raw("opcode_10", &[bytes(10, 0, 0)]),
+        raw("opcode_6", &[bytes(6, 0, 0)]),
+        raw("opcode_160", &[one, one, bytes(160, 0, 0)]),
         raw("unary_operator_8", &[one, bytes(UNARY, 8, 0)]),
         raw("binary_operator_20", &[one, one, bytes(BINARY, 20, 0)]),
         raw("bank_6", &[bytes(LOAD, 6, 0)]),
+        raw("bank_6_indexed", &[one, bytes(LOAD_INDEXED, 6, 0)]),
         raw("element_64_of_x", &[bytes(LOAD, Bank::X as u8, 64)]),
         raw("element_256_of_d", &[bytes(LOAD, Bank::D as u8, 256)]),
         raw("infinity_pushed", &[bytes(PUSH_REAL, 0, 0x7F80_0000)]),
         raw("nan_pushed", &[bytes(PUSH_REAL, 0, 0x7FC0_0001)]),
-        raw("spare_bytes", &[spare]),
-        raw("operand_of_a_push", &[bytes(PUSH_INT, 1, 1)]),
+        raw("byte_1_not_zero", &[with_one_at(1)]),
+        raw("byte_2_not_zero", &[with_one_at(2)]),
+        raw("byte_3_not_zero", &[with_one_at(3)]),
         raw("word_of_an_operator", &[one, bytes(UNARY, Prefix::Negate as u8, 1)]),
         raw("unknown_but_unreached", &[encode(int(3)), encode(Jump(1)), bytes(0, 0, 0)]),
     ]

@@ -23,29 +23,33 @@ pub enum Instruction {
 
 use Instruction::*;
 
-// The opcodes. Those of a class with operands, a bank or an operator, are told apart by the operand.
+// The page of opcodes. Each of the last four is the first of a class: the operand, a bank or an operator, is added to it.
 pub const PUSH_INT: u8 = 1;
 pub const PUSH_REAL: u8 = 2;
-pub const LOAD: u8 = 3;
-pub const LOAD_INDEXED: u8 = 4;
-pub const UNARY: u8 = 5;
-pub const BINARY: u8 = 6;
-pub const JUMP: u8 = 7;
-pub const JUMP_IF_FALSE: u8 = 8;
-pub const JUMP_IF_TRUE: u8 = 9;
+pub const JUMP: u8 = 3;
+pub const JUMP_IF_FALSE: u8 = 4;
+pub const JUMP_IF_TRUE: u8 = 5;
+pub const LOAD: u8 = 32;
+pub const LOAD_INDEXED: u8 = 64;
+pub const UNARY: u8 = 96;
+pub const BINARY: u8 = 128;
 
 #[rustfmt::skip]
 pub const OPCODES: [u8; 9] =
-    [PUSH_INT, PUSH_REAL, LOAD, LOAD_INDEXED, UNARY, BINARY, JUMP, JUMP_IF_FALSE, JUMP_IF_TRUE];
+    [PUSH_INT, PUSH_REAL, JUMP, JUMP_IF_FALSE, JUMP_IF_TRUE, LOAD, LOAD_INDEXED, UNARY, BINARY];
+
+// So many opcodes has a class.
+const CLASS: u8 = 32;
 
 /// Bytes 0 and 1.
 pub fn head(opcode: u8, operand: u8) -> [u8; 2] {
-    [opcode, operand]
+    [opcode + operand, 0]
 }
 
-// The opcode and the operand of bytes 0 and 1.
-fn parts([opcode, operand]: [u8; 2]) -> Option<(u8, usize)> {
-    Some((opcode, usize::from(operand)))
+// The first opcode of the class, and the operand, of bytes 0 and 1.
+fn parts([opcode, zero]: [u8; 2]) -> Option<(u8, usize)> {
+    let first = if opcode < CLASS { opcode } else { opcode / CLASS * CLASS };
+    (zero == 0).then_some((first, usize::from(opcode - first)))
 }
 
 /// Any eight bytes with zeros at 2 and 3, known or not.

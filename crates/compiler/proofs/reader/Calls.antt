@@ -7,6 +7,8 @@ use native.Mathlib.Omega.{arith}
 use lib.ListN.{length}
 use Rattle.values.specs.declared.Kind.{Kind}
 use Rattle.values.specs.declared.Kind.the-variants as K
+use Rattle.operators.specs.Functions.{functionArity}
+use Rattle.operators.proofs.Ranges.{in-range}
 use Rattle.operators.specs.Kinds.{join, unaryKind, unaryTakes, binaryKind, binaryTakes}
 use Rattle.tokens.specs.Scan.{Tok}
 use Rattle.token_table.specs.private.Table.{wordAt, tokensFrom, TokenWords}
@@ -16,7 +18,7 @@ use Rattle.grammar.specs.Parse.{Result, ok, andThen, callBody, expression, argu
 use Rattle.code.specs.declared.Instr.the-variants.{Unary, Binary, JumpIf}
 use Rattle.tree_code.specs.Code.{branchTail}
 use Rattle.draft.specs.private.Results.{Read, Done, readNext, readEnd, readKind, readWrong}
-use Rattle.draft.specs.private.Words.{binaryAt, functionAt, functionOp, isMark}
+use Rattle.draft.specs.private.Words.{functionAt, functionOp, functionPair, isMark}
 use Rattle.draft.specs.private.Draft.{putInstr, chosenCode}
 use Rattle.compiler.specs.private.Reading.{DraftHolds, SameResult, same-done, Span, span-done, ReaderAgrees, thenSymbol, callOf, Branches}
 use Rattle.compiler.proofs.reader.Looking.{There, there}
@@ -85,6 +87,32 @@ inside f d c {s} {at} {pc} {o} {o′} {r} e t i z b x p = record { span = b; sam
         rw (enter-inside d (λ e q. callBody (formOf (functionAt f)) p (λ m z. arguments n e m z) q) (h .splits) z, e)
         (x p n (omega (arith, h .splits .within)))
 
+-- ---- functions by the number of their arguments
+module _ (f : ℕ) (h : f < 9) where
+  pub one-argument : functionArity f ≡ 1 → f < 6
+  one-argument =
+      in-range (λ i. functionArity i ≡ 1 → i < 6) 0 9
+      (λ e. omega arith, (λ e. omega arith, (λ e. omega arith, (λ e. omega arith, (λ e. omega arith, (λ e. omega arith, (λ e. omega arith, (λ e. omega arith, (λ e. omega arith, tt)))))))))
+      f (omega arith) h
+
+  pub two-arguments : functionArity f ≡ 2 → (6 ≤ f) × (f < 8)
+  two-arguments =
+      in-range (λ i. functionArity i ≡ 2 → (6 ≤ i) × (i < 8)) 0 9
+      (λ e. absurd (omega arith), (λ e. absurd (omega arith), (λ e. absurd (omega arith), (λ e. absurd (omega arith), (λ e. absurd (omega arith), (λ e. absurd (omega arith), (λ e. (omega arith, omega arith), (λ e. (omega arith, omega arith), (λ e. absurd (omega arith), tt)))))))))
+      f (omega arith) h
+
+  pub more-arguments : (functionArity f ≡ 1 → ⊥) → 6 ≤ f
+  more-arguments =
+      in-range (λ i. (functionArity i ≡ 1 → ⊥) → 6 ≤ i) 0 9
+      (λ n. absurd (n refl), (λ n. absurd (n refl), (λ n. absurd (n refl), (λ n. absurd (n refl), (λ n. absurd (n refl), (λ n. absurd (n refl), (λ n. omega arith, (λ n. omega arith, (λ n. omega arith, tt)))))))))
+      f (omega arith) h
+
+  pub three-arguments : (functionArity f ≡ 1 → ⊥) → (functionArity f ≡ 2 → ⊥) → f ≡ 8
+  three-arguments =
+      in-range (λ i. (functionArity i ≡ 1 → ⊥) → (functionArity i ≡ 2 → ⊥) → i ≡ 8) 0 9
+      (λ n m. absurd (n refl), (λ n m. absurd (n refl), (λ n m. absurd (n refl), (λ n m. absurd (n refl), (λ n m. absurd (n refl), (λ n m. absurd (n refl), (λ n m. absurd (m refl), (λ n m. absurd (m refl), (λ n m. refl, tt)))))))))
+      f (omega arith) h
+
 -- a function of one argument
 record One (f : ℕ) : Type 0 where
   form : formOf (functionAt f) ≡ plain (of-one (functionOp f))
@@ -101,8 +129,8 @@ ones (suc (suc (suc (suc (suc (suc f)))))) h = absurd (omega arith)
 
 -- a function of two
 record Two (f : ℕ) : Type 0 where
-  form : formOf (functionAt f) ≡ plain (of-two (binaryAt (12 + f)))
-  any : (a b : Kind) → binaryTakes (binaryAt (12 + f)) a b ≡ true
+  form : formOf (functionAt f) ≡ plain (of-two (functionPair f))
+  any : (a b : Kind) → binaryTakes (functionPair f) a b ≡ true
 
 twos : (f : ℕ) → 6 ≤ f → f < 8 → Two f
 twos f l h = by (f - 6) (omega arith)
@@ -159,22 +187,22 @@ module _ (f d : ℕ) {s : List ℕ} {at pc : ℕ} {o o₁ : List ℕ} (t : Token
   module _ {j e : ℕ} {k : Kind} {w : Diagnostic} (x : Enclosed comma (d - 1) s (at + 1) pc o o₁ (Done j e k w)) where
     pub second-stopped : {o₂ : List ℕ} {r : Read} → 6 ≤ f → f < 8 → Enclosed closeParen (d - 1) s j e o₁ o₂ r → Stopped r → Called f d s at pc o o₂ r
     second-stopped l h y stop =
-        inside f d (of-two (binaryAt (12 + f))) (twos f l h .form) t i z (span-stopped stop (y .span))
-        (λ p. more-goes (d - 1) (λ us q. ok (callTree (of-two (binaryAt (12 + f))) p us) q) 0 x (λ u m. last-stops (d - 1) (λ us q. ok (callTree (of-two (binaryAt (12 + f))) p (more u us)) q) y stop))
+        inside f d (of-two (functionPair f)) (twos f l h .form) t i z (span-stopped stop (y .span))
+        (λ p. more-goes (d - 1) (λ us q. ok (callTree (of-two (functionPair f)) p us) q) 0 x (λ u m. last-stops (d - 1) (λ us q. ok (callTree (of-two (functionPair f)) p (more u us)) q) y stop))
 
-    pub second-done : {o₂ o₃ : List ℕ} {j′ e′ : ℕ} {k′ : Kind} {w′ : Diagnostic} → 6 ≤ f → f < 8 → Enclosed closeParen (d - 1) s j e o₁ o₂ (Done j′ e′ k′ w′) → o₃ ≡ putInstr o₂ e′ (Binary (binaryAt (12 + f)))
-        → Called f d s at pc o o₃ (Done j′ (e′ + 1) (binaryKind (binaryAt (12 + f)) k k′) (earlier w w′))
+    pub second-done : {o₂ o₃ : List ℕ} {j′ e′ : ℕ} {k′ : Kind} {w′ : Diagnostic} → 6 ≤ f → f < 8 → Enclosed closeParen (d - 1) s j e o₁ o₂ (Done j′ e′ k′ w′) → o₃ ≡ putInstr o₂ e′ (Binary (functionPair f))
+        → Called f d s at pc o o₃ (Done j′ (e′ + 1) (binaryKind (functionPair f) k k′) (earlier w w′))
     second-done {o₂} {o₃} {j′} {e′} {k′} {w′} l h y q =
-        inside f d (of-two (binaryAt (12 + f))) (twos f l h .form) t i z (reach (bounds (x .span)) (bounds (y .span)))
-        (λ p. more-goes (d - 1) (λ us q. ok (callTree (of-two (binaryAt (12 + f))) p us) q) 0 x (λ u m. last-goes (d - 1) (λ us q. ok (callTree (of-two (binaryAt (12 + f))) p (more u us)) q) y (done p u m)))
+        inside f d (of-two (functionPair f)) (twos f l h .form) t i z (reach (bounds (x .span)) (bounds (y .span)))
+        (λ p. more-goes (d - 1) (λ us q. ok (callTree (of-two (functionPair f)) p us) q) 0 x (λ u m. last-goes (d - 1) (λ us q. ok (callTree (of-two (functionPair f)) p (more u us)) q) y (done p u m)))
       where
-        reach : Bounds s (at + 1) pc j e → Bounds s j e j′ e′ → Span s at pc (Done j′ (e′ + 1) (binaryKind (binaryAt (12 + f)) k k′) (earlier w w′))
+        reach : Bounds s (at + 1) pc j e → Bounds s j e j′ e′ → Span s at pc (Done j′ (e′ + 1) (binaryKind (functionPair f) k k′) (earlier w w′))
         reach a b = span-done {j = j′} {e = e′ + 1} (omega arith) (b .within) (omega arith) (omega arith)
 
         done : (p : ℕ) (u : Tree) → DraftHolds pc o o₁ e k w u → (v : Tree) → DraftHolds e o₁ o₂ e′ k′ w′ v
-            → SameResult pc o o₃ s (Done j′ (e′ + 1) (binaryKind (binaryAt (12 + f)) k k′) (earlier w w′)) (ok (callTree (of-two (binaryAt (12 + f))) p (more u (one v))) (tokensFrom s j′))
+            → SameResult pc o o₃ s (Done j′ (e′ + 1) (binaryKind (functionPair f) k k′) (earlier w w′)) (ok (callTree (of-two (functionPair f)) p (more u (one v))) (tokensFrom s j′))
         done p u m v n =
-            let y = rw (twos f l h .any k k′) at (means-binary m p (binaryAt (12 + f)) n q) in
+            let y = rw (twos f l h .any k k′) at (means-binary m p (functionPair f) n q) in
             same-done y refl
 
   pub choice-reads : {o₂ : List ℕ} {r : Read} (c : ℕ) → f ≡ 8 → Enclosed comma (d - 1) s (at + 1) pc o o₁ (Done (readNext c) (readEnd c) (readKind c) (readWrong c)) → Branches (d - 1) s c o₁ o₂ r → Called f d s at pc o o₂ r

@@ -21,14 +21,15 @@ use Rattle.tokens.specs.declared.Function.the-variants.{Abs, ToReal, ToInt, Tru
 use Rattle.tokens.specs.declared.Token.{Token}
 use Rattle.tokens.specs.declared.Token.the-variants.{Number, Cell, Letter, Name, Symbol}
 use Rattle.tokens.specs.Scan.{Tok}
-use Rattle.token_table.specs.private.Table.{packFields, packToken, functionNumber, wordClass, wordOperand, wordNumber, wordPlace, entryOf, wordAt, tokensFrom, Sound, TokenWord, blank, token, TokenWords}
+use Rattle.token_table.specs.private.Table.{packToken, functionNumber, wordClass, wordOperand, wordNumber, wordPlace, entryOf, wordAt, tokensFrom, Sound, TokenWord, blank, token, TokenWords}
 use Rattle.token_table.specs.private.Table as Sound
 use Rattle.token_table.proofs.Laws.{tok, tokenClass, tokenOperand, tokenNumber, class-packed, operand-packed, number-packed, place-packed, unpacked, blank-end, from-is, from-end}
 use Rattle.grammar.specs.Tree.{Tree, literal, cell, clear, treeKind, diagnosticOf}
 use Rattle.grammar.specs.Symbols.{groups, groupNumber, group, isSymbol, Prefix, is, none, prefixOf}
 use Rattle.grammar.specs.Parse.{ok, binds, primary}
 use Rattle.tree_code.specs.Code.{codeOf}
-use Rattle.draft.specs.private.Words.{unaryAt, bankAt, functionAt, isMark, prefixNumber, groupIn, placeAt}
+use Rattle.code.specs.Encode.{joinWord}
+use Rattle.draft.specs.private.Words.{unaryAt, bankAt, functionAt, leafOpcode, isMark, prefixNumber, groupIn, placeAt}
 use Rattle.draft.specs.private.Draft.{putCode}
 use Rattle.compiler.specs.private.Reading.{DraftHolds}
 
@@ -241,7 +242,7 @@ pub record Leaf (s : List ℕ) (at c n x p : ℕ) : Type 0 where
   pub few : n < 6
   pub tree : Tree
   pub reads : (f d : ℕ) (xs : List Tok) → primary (suc f) d (tok token p) xs ≡ ok tree xs
-  pub means : (pc : ℕ) (o : List ℕ) → DraftHolds pc o (set o pc (packFields c n x 0)) (pc + 1) (cond (eqb c 1) Int (cond (eqb c 2) Real (bankKind (bankAt n)))) clear tree
+  pub means : (pc : ℕ) (o : List ℕ) → DraftHolds pc o (set o pc (joinWord (leafOpcode c n) x)) (pc + 1) (cond (eqb c 1) Int (cond (eqb c 2) Real (bankKind (bankAt n)))) clear tree
 
 -- what stands there, sorted by the class
 pub data Primary (s : List ℕ) (at n x p : ℕ) : ℕ → Type 0 where

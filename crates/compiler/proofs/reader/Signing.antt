@@ -13,13 +13,14 @@ use Rattle.operators.specs.declared.UnaryOp.{UnaryOp}
 use Rattle.operators.specs.Kinds.{unaryKind, unaryTakes}
 use Rattle.memory.specs.Cells.{bankKind}
 use Rattle.tokens.specs.Scan.{Tok}
-use Rattle.token_table.specs.private.Table.{packFields, wordPlace, wordAt, tokensFrom, TokenWords}
+use Rattle.token_table.specs.private.Table.{wordPlace, wordAt, tokensFrom, TokenWords}
 use Rattle.grammar.specs.Tree.{unary, Diagnostic, clear, earlier, unless, wrongKindAt}
 use Rattle.grammar.specs.Symbols.{none}
 use Rattle.grammar.specs.Parse.{ok, andThen, operand}
 use Rattle.code.specs.declared.Instr.the-variants.{Unary}
+use Rattle.code.specs.Encode.{joinWord}
 use Rattle.draft.specs.private.Results.{Read, Done}
-use Rattle.draft.specs.private.Words.{unaryAt, bankAt, prefixNumber, Signs}
+use Rattle.draft.specs.private.Words.{unaryAt, bankAt, leafOpcode, prefixNumber, Signs}
 use Rattle.draft.specs.private.Draft.{putInstr, Unaries}
 use Rattle.draft.specs.private.Draft as U
 use Rattle.compiler.specs.private.Reading.{SameResult, same-done, Span, span-done, ReaderAgrees, primaryOf}
@@ -44,7 +45,7 @@ operand-plain d {s} {at} {pc} {o} {o′} {r} h x = record { span = x .span; same
     go zero le = absurd (omega arith)
     go (suc f) le = rw (plain f d (tokensFrom s at) h) (x .same f (omega arith))
 
-pub operand-leaf : (d : ℕ) {s : List ℕ} {at pc c n x p : ℕ} {o o′ : List ℕ} (l : Leaf s at c n x p) → o′ ≡ set o pc (packFields c n x 0)
+pub operand-leaf : (d : ℕ) {s : List ℕ} {at pc c n x p : ℕ} {o o′ : List ℕ} (l : Leaf s at c n x p) → o′ ≡ set o pc (joinWord (leafOpcode c n) x)
     → Operand d s at pc o o′ (Done (at + 1) (pc + 1) (cond (eqb c 1) Int (cond (eqb c 2) Real (bankKind (bankAt n)))) clear)
 operand-leaf d {pc = pc} {o = o} l e = operand-plain d (ap headSign (l .splits .split) ∙ l .plain) (leaf-reads d l e)
 

@@ -13,14 +13,15 @@ use Rattle.memory.specs.Cells.{bankKind}
 use Rattle.tokens.specs.declared.Function.{Function}
 use Rattle.tokens.specs.declared.Token.the-variants.{Letter, Name, Symbol}
 use Rattle.tokens.specs.Scan.{Tok}
-use Rattle.token_table.specs.private.Table.{packFields, wordAt, tokensFrom, TokenWords}
+use Rattle.token_table.specs.private.Table.{wordAt, tokensFrom, TokenWords}
 use Rattle.token_table.proofs.Laws.{tok}
 use Rattle.grammar.specs.Tree.{Tree, Diagnostic, clear, indexed}
 use Rattle.grammar.specs.Symbols.{loosest, openParen, closeParen, openIndex, closeIndex}
 use Rattle.grammar.specs.Parse.{Result, ok, andThen, expect, enter, expression, primary, bracket}
 use Rattle.code.specs.declared.Instr.the-variants.{LoadIndexed}
+use Rattle.code.specs.Encode.{joinWord}
 use Rattle.draft.specs.private.Results.{Read, Done, Bad, Deep, isDone, further, readNext, readEnd, readKind, readWrong, readOf}
-use Rattle.draft.specs.private.Words.{bankAt, isMark}
+use Rattle.draft.specs.private.Words.{bankAt, leafOpcode, isMark}
 use Rattle.draft.specs.private.Draft.{putInstr}
 use Rattle.compiler.specs.private.Reading.{DraftHolds, SameResult, same-done, same-bad, same-deep, Span, span-done, span-bad, span-deep, ReaderAgrees, primaryOf, thenSymbol, callOf}
 use Rattle.compiler.proofs.reader.Looking.{Splits, headIs, look, mark, There, there, Leaf}
@@ -171,6 +172,6 @@ module _ (d : ℕ) {s : List ℕ} {at pc : ℕ} {o : List ℕ} where
         go zero le = absurd (omega arith)
         go (suc f) le = rw (h .split) (rw (h .split) at (x .same f (omega arith)))
 
-pub leaf-reads : (d : ℕ) {s : List ℕ} {at pc c n x p : ℕ} {o o′ : List ℕ} (l : Leaf s at c n x p) → o′ ≡ set o pc (packFields c n x 0)
+pub leaf-reads : (d : ℕ) {s : List ℕ} {at pc c n x p : ℕ} {o o′ : List ℕ} (l : Leaf s at c n x p) → o′ ≡ set o pc (joinWord (leafOpcode c n) x)
     → Reading d s at pc o o′ (Done (at + 1) (pc + 1) (cond (eqb c 1) Int (cond (eqb c 2) Real (bankKind (bankAt n)))) clear)
 leaf-reads d {pc = pc} {o = o} l e = primary-leaf d (l .tree) (l .splits) (λ f xs. l .reads f d xs) (rw e (l .means pc o))

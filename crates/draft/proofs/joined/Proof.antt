@@ -2,10 +2,11 @@
 use Prim.Native.Nat.{_≤_, _<_}
 use native.Mathlib.Omega.{arith}
 use borrow.Author.Tests.{lt-ltb, le-ltb}
-use borrow.Author.Needs.{needs}
 use Rattle.token_table.specs.private.Table.{wordOperand}
 use Rattle.draft.proofs.Numbers.{binary-at}
+use Rattle.draft.proofs.Typed.{binary-typed}
 use Rattle.draft.proofs.Words.{which}
+use borrow.Author.Needs.{needs}
 use Rattle.draft.proofs.joined.Statement.{statement}
 use Rattle.draft.proofs.joined.Tie as tie
 
@@ -26,6 +27,9 @@ end-of-requires c κs = search needs
 
 end-of-requires-2 : tie.Need-end-of-requires-2
 end-of-requires-2 c κs = search needs
+
+cast-settle : tie.Need-cast-settle
+cast-settle c = search needs
 
 settle-requires : tie.Need-settle-requires
 settle-requires c κs =
@@ -52,20 +56,23 @@ returns c =
     let l : 18 ≤ n = omega arith in
     rw (le-ltb n 18 l) (cc, cc (which n l (c .before .before .before .before .before .before .before .before .before .before .before .before .before .before .pre .0)))
 
+cast-op : tie.Need-cast-op
+cast-op c = search needs
+
 kind-of-requires : tie.Need-kind-of-requires
 kind-of-requires c κs = search needs
 
 kind-of-requires-2 : tie.Need-kind-of-requires-2
 kind-of-requires-2 c κs = search needs
 
-binary-takes-requires : tie.Need-binary-takes-requires
-binary-takes-requires c κs = search needs
+binary-kind-requires : tie.Need-binary-kind-requires
+binary-kind-requires c κs = search needs
 
 wrong-at-requires : tie.Need-wrong-at-requires
 wrong-at-requires c κs = search needs
 
-of-binary-requires : tie.Need-of-binary-requires
-of-binary-requires c κs = search needs
+add-added : tie.Need-add-added
+add-added c = search needs
 
 earlier-requires-2 : tie.Need-earlier-requires-2
 earlier-requires-2 c κs = search needs
@@ -78,9 +85,10 @@ same-length-2 c = search needs
 
 returns-2 : tie.Need-returns-2
 returns-2 c =
-    let n = wordOperand (c .before .before .before .before .before .before .before .before .before .before .before .before .before .before .before .before .args .w) in
+    let n = wordOperand (c .before .before .before .before .before .before .before .before .before .before .before .before .before .before .before .args .w) in
     let l : n < 18 = omega arith in
-    rw (lt-ltb n 18 l) (cc, cc (binary-at n (c .before .before .before .before .before .before .before .before .before .before .before .before .before .before .before .before .pre .0)))
+    let t = binary-typed n (c .before .before .before .before .before .before .before .before .before .before .before .before .before .before .before .pre .0) (c .before .before .before .before .before .before .before .before .before .before .before .before .before .operand-of .ensures) (c .before .before .before .before .before .before .before .before .kind-of .ensures .0) (c .before .before .before .before .before .before .before .kind-of2 .ensures .0) (c .before .before .before .before .before .before .binary-kind .ensures) in
+    rw (lt-ltb n 18 l) (cc (t .0, t .1), cc (binary-at n (c .before .before .before .before .before .before .before .before .before .before .before .before .before .before .before .pre .0)))
 
 pub joined-spec : {M : Type 1} → statement M
 joined-spec =
@@ -92,17 +100,19 @@ joined-spec =
     earlier-requires
     end-of-requires
     end-of-requires-2
+    cast-settle
     settle-requires
     next-of-requires
     add-done
     done-requires
     same-length
     returns
+    cast-op
     kind-of-requires
     kind-of-requires-2
-    binary-takes-requires
+    binary-kind-requires
     wrong-at-requires
-    of-binary-requires
+    add-added
     earlier-requires-2
     added-requires
     same-length-2

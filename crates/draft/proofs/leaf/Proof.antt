@@ -1,24 +1,16 @@
 -- `draft::leaf` meets its contract.
-use mathlib.Core.Path.{_∙_, sym, ap}
-use mathlib.Core.Logic.{⊎-elim}
-use lib.ListN.{set, length, length-set}
-use lib.Seq.{set-out}
 use borrow.Author.Needs.{needs}
-use Rattle.draft.proofs.Words.{placeless}
 use Rattle.draft.proofs.leaf.Statement.{statement}
 use Rattle.draft.proofs.leaf.Tie as tie
 
-mul-draft : tie.Need-mul-draft
-mul-draft c = search needs
+leaf-opcode-requires : tie.Need-leaf-opcode-requires
+leaf-opcode-requires c κs = search needs
 
-add-draft : tie.Need-add-draft
-add-draft c = search needs
+number-of-requires : tie.Need-number-of-requires
+number-of-requires c κs = search needs
 
-mul-draft-2 : tie.Need-mul-draft-2
-mul-draft-2 c = search needs
-
-slice-write-draft : tie.Need-slice-write-draft
-slice-write-draft c = search needs
+put-requires : tie.Need-put-requires
+put-requires c κs = search needs
 
 add-done : tie.Need-add-done
 add-done c = search needs
@@ -33,21 +25,18 @@ done-requires : tie.Need-done-requires
 done-requires c κs = search needs
 
 same-length : tie.Need-same-length
-same-length c = ⊎-elim (λ w. ap length (w .1) ∙ simp length-set) (λ w. ap length (w .1)) (c .before .before .if1 .came)
+same-length c = search needs
 
 returns : tie.Need-returns
-returns c =
-    let a = c .before .before .before .before .args in
-    (cc, ⊎-elim (λ w. w .1 ∙ ap (set (a .draft .now) (a .pc)) (placeless (a .w))) (λ w. w .1 ∙ sym (set-out _ _ _ (w .0 .left))) (c .before .before .if1 .came))
+returns c = (cc, cc)
 
 pub leaf-spec : {M : Type 1} → statement M
 leaf-spec =
     tie.close
     (tie.spec
-    mul-draft
-    add-draft
-    mul-draft-2
-    slice-write-draft
+    leaf-opcode-requires
+    number-of-requires
+    put-requires
     add-done
     add-done-2
     leaf-kind-requires

@@ -1,13 +1,16 @@
 -- `draft::paired` meets its contract.
-use Prim.Native.Nat.{_+_}
-use native.Mathlib.Omega.{arith}
-use borrow.Author.Needs.{needs}
+use Rattle.operators.specs.Functions.{functionOperator}
 use Rattle.draft.proofs.Numbers.{binary-at}
+use Rattle.draft.proofs.Typed.{binary-typed, binary-function}
+use borrow.Author.Needs.{needs}
 use Rattle.draft.proofs.paired.Statement.{statement}
 use Rattle.draft.proofs.paired.Tie as tie
 
-add-op : tie.Need-add-op
-add-op c = search needs
+operator-requires : tie.Need-operator-requires
+operator-requires c κs = search needs
+
+cast-op : tie.Need-cast-op
+cast-op c = search needs
 
 kind-of-requires : tie.Need-kind-of-requires
 kind-of-requires c κs = search needs
@@ -15,8 +18,8 @@ kind-of-requires c κs = search needs
 kind-of-requires-2 : tie.Need-kind-of-requires-2
 kind-of-requires-2 c κs = search needs
 
-of-binary-requires : tie.Need-of-binary-requires
-of-binary-requires c κs = search needs
+binary-kind-requires : tie.Need-binary-kind-requires
+binary-kind-requires c κs = search needs
 
 wrong-of-requires : tie.Need-wrong-of-requires
 wrong-of-requires c κs = search needs
@@ -27,6 +30,9 @@ wrong-of-requires-2 c κs = search needs
 earlier-requires : tie.Need-earlier-requires
 earlier-requires c κs = search needs
 
+add-added : tie.Need-add-added
+add-added c = search needs
+
 added-requires : tie.Need-added-requires
 added-requires c κs = search needs
 
@@ -34,19 +40,26 @@ same-length : tie.Need-same-length
 same-length c = search needs
 
 returns : tie.Need-returns
-returns c = (cc, cc (binary-at (12 + c .before .before .before .before .before .before .before .before .before .before .before .args .f) (omega arith)))
+returns c =
+    let s = c .before .before .before .before .before .before .before .before .before .before .before .before in
+    let n = functionOperator (s .args .f) in
+    let h = binary-function (s .args .f) (s .pre .0) in
+    let t = binary-typed n h (c .before .before .before .before .before .before .before .before .before .before .operator .ensures) (c .before .before .before .before .before .before .before .before .before .kind-of .ensures .0) (c .before .before .before .before .before .before .before .before .kind-of2 .ensures .0) (c .before .before .before .before .before .before .before .binary-kind .ensures) in
+    (cc (t .1), cc (binary-at n h))
 
 pub paired-spec : {M : Type 1} → statement M
 paired-spec =
     tie.close
     (tie.spec
-    add-op
+    operator-requires
+    cast-op
     kind-of-requires
     kind-of-requires-2
-    of-binary-requires
+    binary-kind-requires
     wrong-of-requires
     wrong-of-requires-2
     earlier-requires
+    add-added
     added-requires
     same-length
     returns)

@@ -1,11 +1,17 @@
 -- `draft::promoted` meets its contract, for each pair of kinds.
-use borrow.Author.Needs.{needs}
 use Rattle.draft.proofs.Words.{promoted-none, promoted-two, promoted-one}
+use borrow.Author.Needs.{needs}
 use Rattle.draft.proofs.promoted.Statement.{statement}
 use Rattle.draft.proofs.promoted.Tie as tie
 
 returns : tie.Need-returns
 returns c = promoted-none _ _ (c .if1 .taken)
+
+cast-to-real : tie.Need-cast-to-real
+cast-to-real c = search needs
+
+add-to-real : tie.Need-add-to-real
+add-to-real c = search needs
 
 put-requires : tie.Need-put-requires
 put-requires c κs = search needs
@@ -42,6 +48,8 @@ promoted-spec =
     tie.close
     (tie.spec
     returns
+    cast-to-real
+    add-to-real
     put-requires
     add-put
     put-requires-2

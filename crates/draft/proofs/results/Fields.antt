@@ -7,7 +7,8 @@ use lib.Dec.{eqb}
 use borrow.Author.Tests.{eqb-true, eqb-false, eq-eqb, ne-eqb}
 use Rattle.values.specs.declared.Kind.{Kind}
 use Rattle.grammar.specs.Tree.{Diagnostic}
-use Rattle.draft.specs.private.Results.{Read, Done, Bad, Deep, isDone, further, refusal, kindIs, diagnosed, readNext, readEnd, readKind, readWrong, readOf}
+use Rattle.operators.specs.Kinds.{numberKind}
+use Rattle.draft.specs.private.Results.{Read, Done, Bad, Deep, isDone, further, refusal, diagnosed, readNext, readEnd, readKind, readWrong, readOf}
 
 abbrev pub status : ℕ → ℕ
 status r = r / 2 ^ 33 % 4
@@ -104,7 +105,7 @@ module _ (r : ℕ) (h : readNext r < 65535) where
 
   further-kind : readKind (r + 1) ≡ readKind r
   unfolding readNext readKind
-  further-kind = let e : (r + 1) / 2 ^ 32 % 2 ≡ r / 2 ^ 32 % 2 = omega arith in ap kindIs e
+  further-kind = let e : (r + 1) / 2 ^ 32 % 2 ≡ r / 2 ^ 32 % 2 = omega arith in ap numberKind e
 
   further-wrong : readWrong (r + 1) ≡ readWrong r
   unfolding readNext readWrong
@@ -131,15 +132,15 @@ module _ (next end kind wrong : ℕ) (h : next < 65536) (l : end < 65536) (m : k
   unfolding readEnd
   packed-end = omega arith
 
-  packed-kind : readKind packed ≡ kindIs kind
+  packed-kind : readKind packed ≡ numberKind kind
   unfolding readKind
-  packed-kind = let e : packed / 2 ^ 32 % 2 ≡ kind = omega arith in ap kindIs e
+  packed-kind = let e : packed / 2 ^ 32 % 2 ≡ kind = omega arith in ap numberKind e
 
   packed-wrong : readWrong packed ≡ diagnosed wrong
   unfolding readWrong
   packed-wrong = let e : packed / 2 ^ 35 ≡ wrong = omega arith in ap diagnosed e
 
-  pub packed-is : readOf packed ≡ Done next end (kindIs kind) (diagnosed wrong)
+  pub packed-is : readOf packed ≡ Done next end (numberKind kind) (diagnosed wrong)
   packed-is = let s : status packed ≡ 0 = omega arith in made-done packed s packed-next packed-end packed-kind packed-wrong
 
 module _ (at : ℕ) (h : at < 65536) where

@@ -1,6 +1,6 @@
 -- `draft::settle` meets its contract: five words are stored.
-use borrow.Author.Needs.{needs}
 use Rattle.draft.proofs.Words.{settle-way}
+use borrow.Author.Needs.{needs}
 use Rattle.draft.proofs.settle.Statement.{statement}
 use Rattle.draft.proofs.settle.Tie as tie
 
@@ -31,9 +31,6 @@ add-put-4 c = search needs
 sub-put-2 : tie.Need-sub-put-2
 sub-put-2 c = search needs
 
-cast-put-2 : tie.Need-cast-put-2
-cast-put-2 c = search needs
-
 put-requires-3 : tie.Need-put-requires-3
 put-requires-3 c κs = search needs
 
@@ -55,12 +52,7 @@ same-length c = search needs
 returns : tie.Need-returns
 returns c =
     let s = c .before .before .before .before .before .before .before .before .before .before .before .before .before .before .before .before .before .before .before .before .before in
-    settle-way (s .args .draft .now) (s .args .j) (s .args .k) (s .pre .0) (s .pre .1)
-    (c .before .before .before .before .before .before .before .before .before .before .before .before .before .before .before .before .before .before .put .ensures)
-    (c .before .before .before .before .before .before .before .before .before .before .before .before .before .before .put2 .ensures)
-    (c .before .before .before .before .before .before .before .before .before .before .put3 .ensures)
-    (c .before .before .before .before .before .before .put4 .ensures)
-    (c .before .before .put5 .ensures)
+    settle-way (s .args .draft .now) (s .args .j) (s .args .k) (s .pre .0) (s .pre .1) (c .before .before .before .before .before .before .before .before .before .before .before .before .before .before .before .before .before .before .put .ensures) (c .before .before .before .before .before .before .before .before .before .before .before .before .before .before .put2 .ensures) (c .before .before .before .before .before .before .before .before .before .before .put3 .ensures) (c .before .before .before .before .before .before .put4 .ensures) (c .before .before .put5 .ensures)
 
 pub settle-spec : {M : Type 1} → statement M
 settle-spec =
@@ -75,7 +67,6 @@ settle-spec =
     put-requires-2
     add-put-4
     sub-put-2
-    cast-put-2
     put-requires-3
     add-put-5
     put-requires-4

@@ -1,38 +1,21 @@
--- For the contracts of private functions: instructions as words of 64 bits, and what is put into the draft.
-use mathlib.Core.Bool.{Bool, true, false, cond}
+-- For the contracts of private functions: what is put into the draft, an instruction to a word of 64 bits.
+use mathlib.Core.Bool.{Bool, cond}
 use mathlib.Core.List.{List, [], _∷_, _++_}
 use Prim.Native.Nat.{ℕ, suc, _+_, _-_}
 use lib.Dec.{eqb, ltb}
 use lib.ListN.{set}
-use lib.Ieee as Ieee
-use lib.Ieee.{binary32}
 use Rattle.values.specs.declared.Kind.{Kind}
 use Rattle.values.specs.declared.Kind.the-variants.{Int}
-use Rattle.values.specs.Patterns.{lowBits}
 use Rattle.operators.specs.Kinds.{unaryKind, unaryTakes, binaryKind, binaryTakes}
-use Rattle.operators.specs.Tables.{unaryNumber, binaryNumber}
 use Rattle.words.specs.Words.{bytesOf}
-use Rattle.memory.specs.Numbers.{bankNumber}
-use Rattle.token_table.specs.private.Table.{packFields, wordPlace, wordAt}
+use Rattle.token_table.specs.private.Table.{wordPlace, wordAt}
 use Rattle.code.specs.declared.Instr.{Instr}
-use Rattle.code.specs.declared.Instr.the-variants.{PushInt, PushReal, Load, LoadIndexed, Unary, Binary, Jump, JumpIf, Unknown}
+use Rattle.code.specs.declared.Instr.the-variants.{Unary, Binary, Jump, JumpIf}
+use Rattle.code.specs.Encode.{codeWord}
 use Rattle.grammar.specs.Tree.{Diagnostic, clear, unless, earlier, wrongKindAt}
 use Rattle.tree_code.specs.Code.{truthTail, branchTailSkip, branchTail}
 use Rattle.draft.specs.private.Results.{Read, Done}
 use Rattle.draft.specs.private.Words.{unaryAt, binaryAt, prefixNumber}
-
--- an instruction as a word: a literal's and a cell's are their tokens' words without the place
-abbrev pub codeWord : Instr → ℕ
-codeWord (PushInt z) = packFields 1 0 (lowBits 32 z) 0
-codeWord (PushReal x) = packFields 2 0 (Ieee.toBits binary32 x) 0
-codeWord (Load b i) = packFields 3 (bankNumber b) i 0
-codeWord (LoadIndexed b) = packFields 4 (bankNumber b) 0 0
-codeWord (Unary o) = packFields 5 (unaryNumber o) 0 0
-codeWord (Binary o) = packFields 6 (binaryNumber o) 0 0
-codeWord (Jump d) = packFields 7 0 d 0
-codeWord (JumpIf false d) = packFields 8 0 d 0
-codeWord (JumpIf true d) = packFields 9 0 d 0
-codeWord Unknown = packFields 0 0 0 0
 
 abbrev pub codeWords : List Instr → List ℕ
 codeWords [] = []

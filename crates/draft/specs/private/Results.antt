@@ -3,7 +3,7 @@ use mathlib.Core.Bool.{Bool, true, false, cond}
 use Prim.Native.Nat.{ℕ, _+_, _/_, _%_, _^_}
 use lib.Dec.{eqb, ltb}
 use Rattle.values.specs.declared.Kind.{Kind}
-use Rattle.values.specs.declared.Kind.the-variants.{Int, Real}
+use Rattle.operators.specs.Kinds.{numberKind}
 use Rattle.grammar.specs.Tree.{Diagnostic, clear, at}
 
 -- where in the table and in the draft reading got to, the kind of what was read and what is wrong with it;
@@ -30,10 +30,7 @@ refusal (Done j e k w) = 7
 refusal (Bad i) = 7
 refusal (Deep i) = 8
 
--- a kind and a diagnostic as numbers: place times 16 plus answer, so the earlier diagnostic is the lesser number; from 2^20 on there is none
-abbrev pub kindIs : ℕ → Kind
-kindIs n = cond (eqb n 0) Int Real
-
+-- a diagnostic as a number: place times 16 plus answer, so the earlier diagnostic is the lesser number; from 2^20 on there is none
 abbrev pub placePart : ℕ → ℕ
 placePart n = n / 16
 
@@ -51,7 +48,7 @@ unfoldable pub readEnd : ℕ → ℕ
 readEnd r = r / 65536 % 65536
 
 unfoldable pub readKind : ℕ → Kind
-readKind r = kindIs (r / 2 ^ 32 % 2)
+readKind r = numberKind (r / 2 ^ 32 % 2)
 
 unfoldable pub readWrong : ℕ → Diagnostic
 readWrong r = diagnosed (r / 2 ^ 35)

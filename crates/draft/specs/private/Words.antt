@@ -1,7 +1,7 @@
 -- For the contracts of private functions: what is asked of a token's word.
 use mathlib.Core.Path.{_≡_}
 use mathlib.Core.Bool.{Bool, false, cond}
-use mathlib.Core.List.{List, [], _∷_}
+use mathlib.Core.List.{List}
 use Prim.Native.Nat.{ℕ, _+_, _*_, _%_, _≤_, _<_}
 use lib.Dec.{eqb, ltb}
 use lib.ListN.{length, getD}
@@ -12,6 +12,7 @@ use Rattle.operators.specs.declared.UnaryOp.the-variants as U
 use Rattle.operators.specs.declared.BinaryOp.{BinaryOp}
 use Rattle.operators.specs.declared.BinaryOp.the-variants as B
 use Rattle.operators.specs.Tables.{unaryOps, binaryOps}
+use Rattle.operators.specs.Functions.{functionOperator}
 use Rattle.memory.specs.declared.Bank.{Bank}
 use Rattle.memory.specs.declared.Bank.the-variants.{X}
 use Rattle.memory.specs.Cells.{bankKind}
@@ -20,7 +21,8 @@ use Rattle.tokens.specs.declared.Function.{Function}
 use Rattle.tokens.specs.declared.Function.the-variants.{Abs}
 use Rattle.tokens.specs.Words.{functions}
 use Rattle.token_table.specs.private.Table.{wordClass, wordOperand, wordPlace, wordAt}
-use Rattle.grammar.specs.Symbols.{groupNumber}
+use Rattle.grammar.specs.Symbols.{minus, tilde, bang, groupNumber}
+use Rattle.code.specs.Instructions.{PUSH-INT, PUSH-REAL, LOAD}
 
 -- operators, banks and functions by number
 abbrev pub unaryAt : ℕ → UnaryOp
@@ -35,9 +37,12 @@ bankAt n = getD banks n X
 abbrev pub functionAt : ℕ → Function
 functionAt n = getD functions n Abs
 
--- the operator of a function of one argument
+-- the operator of a function of one argument, and of one of two
 abbrev pub functionOp : ℕ → UnaryOp
-functionOp n = getD (U.Abs ∷ U.ToReal ∷ U.Trunc ∷ U.Trunc ∷ U.Round ∷ U.Frac ∷ []) n U.Neg
+functionOp f = unaryAt (functionOperator f)
+
+abbrev pub functionPair : ℕ → BinaryOp
+functionPair f = binaryAt (functionOperator f)
 
 -- a number or a cell
 abbrev pub isLeaf : ℕ → Bool
@@ -46,13 +51,17 @@ isLeaf w = cond (eqb (wordClass w) 0) false (ltb (wordClass w) 4)
 abbrev pub leafKind : ℕ → Kind
 leafKind w = cond (eqb (wordClass w) 1) Int (cond (eqb (wordClass w) 2) Real (bankKind (bankAt (wordOperand w))))
 
+-- the opcode of a token of the class c with the operand n, which is a number or a cell
+abbrev pub leafOpcode : ℕ → ℕ → ℕ
+leafOpcode c n = cond (eqb c 1) PUSH-INT (cond (eqb c 2) PUSH-REAL (LOAD + n))
+
 -- the symbol n
 abbrev pub isMark : ℕ → ℕ → Bool
 isMark n w = eqb (w % 65536) (6 + 256 * n)
 
 -- the number of a unary operator, or 3
 abbrev pub prefixNumber : ℕ → ℕ
-prefixNumber w = cond (eqb (w % 65536) 1286) 0 (cond (eqb (w % 65536) 5126) 1 (cond (eqb (w % 65536) 5382) 2 3))
+prefixNumber w = cond (isMark minus w) 0 (cond (isMark tilde w) 1 (cond (isMark bang w) 2 3))
 
 -- the group of a binary operator, or 0
 abbrev pub groupIn : ℕ → ℕ

@@ -6,7 +6,8 @@ use Rattle.operators.proofs.Arms.{first, past}
 use Rattle.memory.specs.declared.Bank.the-variants.{X, C, «V», N, D, R}
 use Rattle.memory.specs.Numbers.{bankNumbered}
 use Rattle.memory.specs.Environment.{memoryOf}
-use Rattle.machine.specs.private.Steps.{operandOf, wordOf}
+use Rattle.code.specs.Instructions.{wordOf}
+use Rattle.code.specs.private.Classes.{numberOf}
 use Rattle.machine.proofs.Performs.{from-bank, no-load}
 use Rattle.machine.proofs.load.Statement.{statement}
 use Rattle.machine.proofs.load.Tie as tie
@@ -14,8 +15,8 @@ use Rattle.machine.proofs.load.Tie as tie
 word-of-requires : tie.Need-word-of-requires
 word-of-requires c κs = search needs
 
-operand-of-requires : tie.Need-operand-of-requires
-operand-of-requires c κs = search needs
+number-of-requires : tie.Need-number-of-requires
+number-of-requires c κs = search needs
 
 load-from-requires : tie.Need-load-from-requires
 load-from-requires c κs = search needs
@@ -39,35 +40,61 @@ stuck-step-requires : tie.Need-stuck-step-requires
 stuck-step-requires c κs = search needs
 
 returns : tie.Need-returns
-returns c = λ l r. from-bank (memoryOf (now (c .before .before .before .before .before .args .image))) (c .before .before .before .before .before .args .h) l r (operandOf (c .before .before .before .before .before .args .w)) (wordOf (c .before .before .before .before .before .args .w)) X (ap bankNumbered (sym (c .before .before .operand-of .ensures) ∙ c .before .match .keys1)) (rw (c .before .before .before .word-of .ensures) at (c .load-from .ensures))
+returns c = λ l r.
+    let a = c .before .before .before .before .before .args in
+    let k = numberOf (a .w) in
+    from-bank (memoryOf (now (a .image))) (a .h) l r k (wordOf (a .w)) X (ap bankNumbered (sym (c .before .before .number-of .ensures) ∙ c .before .match .keys1))
+    (rw (c .before .before .before .word-of .ensures) at (c .load-from .ensures))
 
 returns-2 : tie.Need-returns-2
-returns-2 c = λ l r. from-bank (memoryOf (now (c .before .before .before .before .before .args .image))) (c .before .before .before .before .before .args .h) l r (operandOf (c .before .before .before .before .before .args .w)) (wordOf (c .before .before .before .before .before .args .w)) C (ap bankNumbered (sym (c .before .before .operand-of .ensures) ∙ c .before .match .keys2)) (rw (c .before .before .before .word-of .ensures) at (c .load-from2 .ensures))
+returns-2 c = λ l r.
+    let a = c .before .before .before .before .before .args in
+    let k = numberOf (a .w) in
+    from-bank (memoryOf (now (a .image))) (a .h) l r k (wordOf (a .w)) C (ap bankNumbered (sym (c .before .before .number-of .ensures) ∙ c .before .match .keys2))
+    (rw (c .before .before .before .word-of .ensures) at (c .load-from2 .ensures))
 
 returns-3 : tie.Need-returns-3
-returns-3 c = λ l r. from-bank (memoryOf (now (c .before .before .before .before .before .args .image))) (c .before .before .before .before .before .args .h) l r (operandOf (c .before .before .before .before .before .args .w)) (wordOf (c .before .before .before .before .before .args .w)) «V» (ap bankNumbered (sym (c .before .before .operand-of .ensures) ∙ c .before .match .keys3)) (rw (c .before .before .before .word-of .ensures) at (c .load-from3 .ensures))
+returns-3 c = λ l r.
+    let a = c .before .before .before .before .before .args in
+    let k = numberOf (a .w) in
+    from-bank (memoryOf (now (a .image))) (a .h) l r k (wordOf (a .w)) «V» (ap bankNumbered (sym (c .before .before .number-of .ensures) ∙ c .before .match .keys3))
+    (rw (c .before .before .before .word-of .ensures) at (c .load-from3 .ensures))
 
 returns-4 : tie.Need-returns-4
-returns-4 c = λ l r. from-bank (memoryOf (now (c .before .before .before .before .before .args .image))) (c .before .before .before .before .before .args .h) l r (operandOf (c .before .before .before .before .before .args .w)) (wordOf (c .before .before .before .before .before .args .w)) N (ap bankNumbered (sym (c .before .before .operand-of .ensures) ∙ c .before .match .keys4)) (rw (c .before .before .before .word-of .ensures) at (c .load-from4 .ensures))
+returns-4 c = λ l r.
+    let a = c .before .before .before .before .before .args in
+    let k = numberOf (a .w) in
+    from-bank (memoryOf (now (a .image))) (a .h) l r k (wordOf (a .w)) N (ap bankNumbered (sym (c .before .before .number-of .ensures) ∙ c .before .match .keys4))
+    (rw (c .before .before .before .word-of .ensures) at (c .load-from4 .ensures))
 
 returns-5 : tie.Need-returns-5
-returns-5 c = λ l r. from-bank (memoryOf (now (c .before .before .before .before .before .args .image))) (c .before .before .before .before .before .args .h) l r (operandOf (c .before .before .before .before .before .args .w)) (wordOf (c .before .before .before .before .before .args .w)) D (ap bankNumbered (sym (c .before .before .operand-of .ensures) ∙ c .before .match .keys5)) (rw (c .before .before .before .word-of .ensures) at (c .load-from5 .ensures))
+returns-5 c = λ l r.
+    let a = c .before .before .before .before .before .args in
+    let k = numberOf (a .w) in
+    from-bank (memoryOf (now (a .image))) (a .h) l r k (wordOf (a .w)) D (ap bankNumbered (sym (c .before .before .number-of .ensures) ∙ c .before .match .keys5))
+    (rw (c .before .before .before .word-of .ensures) at (c .load-from5 .ensures))
 
 returns-6 : tie.Need-returns-6
-returns-6 c = λ l r. from-bank (memoryOf (now (c .before .before .before .before .before .args .image))) (c .before .before .before .before .before .args .h) l r (operandOf (c .before .before .before .before .before .args .w)) (wordOf (c .before .before .before .before .before .args .w)) R (ap bankNumbered (sym (c .before .before .operand-of .ensures) ∙ c .before .match .keys6)) (rw (c .before .before .before .word-of .ensures) at (c .load-from6 .ensures))
+returns-6 c = λ l r.
+    let a = c .before .before .before .before .before .args in
+    let k = numberOf (a .w) in
+    from-bank (memoryOf (now (a .image))) (a .h) l r k (wordOf (a .w)) R (ap bankNumbered (sym (c .before .before .number-of .ensures) ∙ c .before .match .keys6))
+    (rw (c .before .before .before .word-of .ensures) at (c .load-from6 .ensures))
 
 returns-7 : tie.Need-returns-7
 returns-7 c = λ l r.
+    let a = c .before .before .before .before .before .args in
+    let k = numberOf (a .w) in
     let rest = c .before .match .rest in
     let large = past 5 (past 4 (past 3 (past 2 (past 1 (first (rest .0 .0 .0 .0 .0 .1)) (rest .0 .0 .0 .0 .1)) (rest .0 .0 .0 .1)) (rest .0 .0 .1)) (rest .0 .1)) (rest .1) in
-    c .stuck-step .ensures ∙ no-load (memoryOf (now (c .before .before .before .before .before .args .image))) (c .before .before .before .before .before .args .h) l r (operandOf (c .before .before .before .before .before .args .w)) (wordOf (c .before .before .before .before .before .args .w)) (rw (c .before .before .operand-of .ensures) at large)
+    c .stuck-step .ensures ∙ no-load (memoryOf (now (a .image))) (a .h) l r k (wordOf (a .w)) (rw (c .before .before .number-of .ensures) at large)
 
 pub load-spec : {M : Type 1} → statement M
 load-spec =
     tie.close
     (tie.spec
     word-of-requires
-    operand-of-requires
+    number-of-requires
     load-from-requires
     load-from-requires-2
     load-from-requires-3

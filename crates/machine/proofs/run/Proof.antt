@@ -9,9 +9,8 @@ use denote.Ref.{now}
 use Rattle.words.specs.Laws.{Bytes}
 use Rattle.memory.specs.Environment.{memoryOf}
 use Rattle.machine.specs.Machine.{maxHeight}
-use Rattle.machine.proofs.Held.{held, held-finish}
-use Rattle.machine.proofs.Numbered.{is-int, is-real, is-load, is-indexed, is-unary, is-binary, is-jump, is-jump-false, is-jump-true, is-none}
-use Rattle.machine.proofs.Rest.{Stands, starts, lesser-left, lesser-right, finishes}
+use Rattle.machine.proofs.Held.{none, held, held-finish}
+use Rattle.machine.proofs.Rest.{Stands, starts, minimum-left, minimum-right, finishes}
 use Rattle.machine.proofs.Turn.{Turn, performed, turn, onward, fails, lower, nearer}
 use Rattle.machine.proofs.run.Statement.{statement}
 use Rattle.machine.proofs.run.Tie as tie
@@ -25,36 +24,36 @@ abbrev μ-loop : tie.MeasureT-loop
 
 -- the instruction at the place has been performed, and has made a step of the values held
 made : (c : tie.At-match-came Inv-loop μ-loop) →
-    let l = c .before .before .before .loop in
-    let a = c .before .before .before .before .before .before .before .args in
+    let l = c .before .before .before .before .loop in
+    let a = c .before .before .before .before .before .before .before .before .args in
     Turn (memoryOf (now (a .image))) (now (a .code)) (a .n) (l .place) (l .h) (l .stack) (l .count) (c .match .step)
 made c =
-    let l = c .before .before .before .loop in
-    let a = c .before .before .before .before .before .before .before .args in
-    let w = c .before .fetch .result in
+    let l = c .before .before .before .before .loop in
+    let a = c .before .before .before .before .before .before .before .before .args in
+    let w = c .before .before .fetch .result in
     let E = memoryOf (now (a .image)) in
-    let bytes : Bytes (now (a .code)) = λ j. omega (arith, c .before .before .before .before .before .before .shared-slice-known .given j) in
-    turn (l .h) (l .stack) (omega arith) (l .inv .5) bytes (c .before .fetch .ensures)
-    (⊎-elim (λ s. s .2 ∙ performed E (l .h) (l .stack) w (is-int w (s .0 .keys1)) refl refl (s .1 .ensures E _ _))
-    (⊎-elim (λ s. s .2 ∙ performed E (l .h) (l .stack) w (is-real w (s .0 .keys2)) refl refl (s .1 .ensures E _ _))
-    (⊎-elim (λ s. s .2 ∙ performed E (l .h) (l .stack) w (is-load w (s .0 .keys3)) refl refl (s .1 .ensures _ _))
-    (⊎-elim (λ s. s .4 ∙ performed E (l .h) (l .stack) w (is-indexed w (s .0 .keys4)) refl (s .1 .ensures) (s .3 .ensures _))
-    (⊎-elim (λ s. s .4 ∙ performed E (l .h) (l .stack) w (is-unary w (s .0 .keys5)) refl (s .1 .ensures) (s .3 .ensures E _))
-    (⊎-elim (λ s. s .6 ∙ performed E (l .h) (l .stack) w (is-binary w (s .0 .keys6)) (s .1 .ensures) (s .3 .ensures) (s .5 .ensures E))
-    (⊎-elim (λ s. s .2 ∙ performed E (l .h) (l .stack) w (is-jump w (s .0 .keys7)) refl refl (s .1 .ensures E _ _))
-    (⊎-elim (λ s. s .4 ∙ performed E (l .h) (l .stack) w (is-jump-false w (s .0 .keys8)) refl (s .1 .ensures) (s .3 .ensures E _))
-    (⊎-elim (λ s. s .4 ∙ performed E (l .h) (l .stack) w (is-jump-true w (s .0 .keys9)) refl (s .1 .ensures) (s .3 .ensures E _))
-    (λ s.
-    let r = s .0 .rest in
-    s .2 ∙ performed E (l .h) (l .stack) w (is-none w (r .0 .0 .0 .0 .0 .0 .0 .0 .1) (r .0 .0 .0 .0 .0 .0 .0 .1) (r .0 .0 .0 .0 .0 .0 .1) (r .0 .0 .0 .0 .0 .1) (r .0 .0 .0 .0 .1) (r .0 .0 .0 .1) (r .0 .0 .1) (r .0 .1) (r .1)) refl refl (s .1 .ensures)))))))))) (c .match .came))
+    let bytes : Bytes (now (a .code)) = λ j. omega (arith, c .before .before .before .before .before .before .before .shared-slice-known .given j) in
+    let class = c .before .class-of .ensures in
+    turn (l .h) (l .stack) (omega arith) (l .inv .5) bytes (c .before .before .fetch .ensures)
+    (⊎-elim (λ s. s .3 ∙ performed E (l .h) (l .stack) w class (s .1 .given .1) refl refl (s .2 .ensures E none none))
+    (⊎-elim (λ s. s .3 ∙ performed E (l .h) (l .stack) w class (s .1 .given .1) refl refl (s .2 .ensures E _ _))
+    (⊎-elim (λ s. s .3 ∙ performed E (l .h) (l .stack) w class (s .1 .given .1) refl refl (s .2 .ensures E none none))
+    (⊎-elim (λ s. s .5 ∙ performed E (l .h) (l .stack) w class (s .1 .given .1) refl (s .2 .ensures) (s .4 .ensures E none))
+    (⊎-elim (λ s. s .5 ∙ performed E (l .h) (l .stack) w class (s .1 .given .1) refl (s .2 .ensures) (s .4 .ensures E none))
+    (⊎-elim (λ s. s .3 ∙ performed E (l .h) (l .stack) w class (s .1 .given .1) refl refl (s .2 .ensures _ _))
+    (⊎-elim (λ s. s .5 ∙ performed E (l .h) (l .stack) w class (s .1 .given .1) refl (s .2 .ensures) (s .4 .ensures _))
+    (⊎-elim (λ s. s .5 ∙ performed E (l .h) (l .stack) w class (s .1 .given .1) refl (s .2 .ensures) (s .4 .ensures E _))
+    (⊎-elim (λ s. s .7 ∙ performed E (l .h) (l .stack) w class (s .1 .given .1) (s .2 .ensures) (s .4 .ensures) (s .6 .ensures E))
+    (λ s. s .3 ∙ performed E (l .h) (l .stack) w class (s .1 .given .1) refl refl (s .2 .ensures))))))))))
+    (c .match .came))
 
-lesser-requires : tie.Need-lesser-requires Inv-loop μ-loop
-lesser-requires c κs = search needs
+min-requires : tie.Need-min-requires Inv-loop μ-loop
+min-requires c κs = search needs
 
 loop-holds : tie.Need-loop-holds Inv-loop μ-loop
 unfolding held
 loop-holds c =
-    (refl, omega arith, omega arith, rw (c .lesser .ensures) (lesser-left _ _), rw (c .lesser .ensures) (lesser-right _ _), starts _ _ _)
+    (refl, omega arith, omega arith, rw (c .min .ensures) (minimum-left _ _), rw (c .min .ensures) (minimum-right _ _), starts _ _ _)
 
 fetch-requires : tie.Need-fetch-requires Inv-loop μ-loop
 fetch-requires c κs = search needs
@@ -62,68 +61,32 @@ fetch-requires c κs = search needs
 add-count : tie.Need-add-count Inv-loop μ-loop
 add-count c = omega arith
 
-cast-match : tie.Need-cast-match Inv-loop μ-loop
-cast-match c = omega arith
+class-of-requires : tie.Need-class-of-requires Inv-loop μ-loop
+class-of-requires c κs = search needs
+
+enum-told : tie.Need-enum-told Inv-loop μ-loop
+enum-told c = search needs
 
 push-int-requires : tie.Need-push-int-requires Inv-loop μ-loop
 push-int-requires c κs = search needs
 
+enum-told-2 : tie.Need-enum-told-2 Inv-loop μ-loop
+enum-told-2 c = search needs
+
 push-real-requires : tie.Need-push-real-requires Inv-loop μ-loop
 push-real-requires c κs = search needs
 
-load-requires : tie.Need-load-requires Inv-loop μ-loop
-load-requires c κs = search needs
-
-from-top-requires : tie.Need-from-top-requires Inv-loop μ-loop
-from-top-requires c κs = search needs
-
-mul-load-indexed : tie.Need-mul-load-indexed Inv-loop μ-loop
-mul-load-indexed c = omega arith
-
-array-copy-out-load-indexed : tie.Need-array-copy-out-load-indexed Inv-loop μ-loop
-array-copy-out-load-indexed c = omega arith
-
-load-indexed-requires : tie.Need-load-indexed-requires Inv-loop μ-loop
-load-indexed-requires c κs = search needs
-
-from-top-requires-2 : tie.Need-from-top-requires-2 Inv-loop μ-loop
-from-top-requires-2 c κs = search needs
-
-mul-unary : tie.Need-mul-unary Inv-loop μ-loop
-mul-unary c = omega arith
-
-array-copy-out-unary : tie.Need-array-copy-out-unary Inv-loop μ-loop
-array-copy-out-unary c = omega arith
-
-unary-requires : tie.Need-unary-requires Inv-loop μ-loop
-unary-requires c κs = search needs
-
-from-top-requires-3 : tie.Need-from-top-requires-3 Inv-loop μ-loop
-from-top-requires-3 c κs = search needs
-
-mul-binary : tie.Need-mul-binary Inv-loop μ-loop
-mul-binary c = omega arith
-
-array-copy-out-binary : tie.Need-array-copy-out-binary Inv-loop μ-loop
-array-copy-out-binary c = omega arith
-
-from-top-requires-4 : tie.Need-from-top-requires-4 Inv-loop μ-loop
-from-top-requires-4 c κs = search needs
-
-mul-binary-2 : tie.Need-mul-binary-2 Inv-loop μ-loop
-mul-binary-2 c = omega arith
-
-array-copy-out-binary-2 : tie.Need-array-copy-out-binary-2 Inv-loop μ-loop
-array-copy-out-binary-2 c = omega arith
-
-binary-requires : tie.Need-binary-requires Inv-loop μ-loop
-binary-requires c κs = search needs
+enum-told-3 : tie.Need-enum-told-3 Inv-loop μ-loop
+enum-told-3 c = search needs
 
 jump-requires : tie.Need-jump-requires Inv-loop μ-loop
 jump-requires c κs = search needs
 
-from-top-requires-5 : tie.Need-from-top-requires-5 Inv-loop μ-loop
-from-top-requires-5 c κs = search needs
+enum-told-4 : tie.Need-enum-told-4 Inv-loop μ-loop
+enum-told-4 c = search needs
+
+from-top-requires : tie.Need-from-top-requires Inv-loop μ-loop
+from-top-requires c κs = search needs
 
 mul-jump-if : tie.Need-mul-jump-if Inv-loop μ-loop
 mul-jump-if c = omega arith
@@ -134,8 +97,11 @@ array-copy-out-jump-if c = omega arith
 jump-if-requires : tie.Need-jump-if-requires Inv-loop μ-loop
 jump-if-requires c κs = search needs
 
-from-top-requires-6 : tie.Need-from-top-requires-6 Inv-loop μ-loop
-from-top-requires-6 c κs = search needs
+enum-told-5 : tie.Need-enum-told-5 Inv-loop μ-loop
+enum-told-5 c = search needs
+
+from-top-requires-2 : tie.Need-from-top-requires-2 Inv-loop μ-loop
+from-top-requires-2 c κs = search needs
 
 mul-jump-if-2 : tie.Need-mul-jump-if-2 Inv-loop μ-loop
 mul-jump-if-2 c = omega arith
@@ -146,6 +112,69 @@ array-copy-out-jump-if-2 c = omega arith
 jump-if-requires-2 : tie.Need-jump-if-requires-2 Inv-loop μ-loop
 jump-if-requires-2 c κs = search needs
 
+enum-told-6 : tie.Need-enum-told-6 Inv-loop μ-loop
+enum-told-6 c = search needs
+
+load-requires : tie.Need-load-requires Inv-loop μ-loop
+load-requires c κs = search needs
+
+enum-told-7 : tie.Need-enum-told-7 Inv-loop μ-loop
+enum-told-7 c = search needs
+
+from-top-requires-3 : tie.Need-from-top-requires-3 Inv-loop μ-loop
+from-top-requires-3 c κs = search needs
+
+mul-load-indexed : tie.Need-mul-load-indexed Inv-loop μ-loop
+mul-load-indexed c = omega arith
+
+array-copy-out-load-indexed : tie.Need-array-copy-out-load-indexed Inv-loop μ-loop
+array-copy-out-load-indexed c = omega arith
+
+load-indexed-requires : tie.Need-load-indexed-requires Inv-loop μ-loop
+load-indexed-requires c κs = search needs
+
+enum-told-8 : tie.Need-enum-told-8 Inv-loop μ-loop
+enum-told-8 c = search needs
+
+from-top-requires-4 : tie.Need-from-top-requires-4 Inv-loop μ-loop
+from-top-requires-4 c κs = search needs
+
+mul-unary : tie.Need-mul-unary Inv-loop μ-loop
+mul-unary c = omega arith
+
+array-copy-out-unary : tie.Need-array-copy-out-unary Inv-loop μ-loop
+array-copy-out-unary c = omega arith
+
+unary-requires : tie.Need-unary-requires Inv-loop μ-loop
+unary-requires c κs = search needs
+
+enum-told-9 : tie.Need-enum-told-9 Inv-loop μ-loop
+enum-told-9 c = search needs
+
+from-top-requires-5 : tie.Need-from-top-requires-5 Inv-loop μ-loop
+from-top-requires-5 c κs = search needs
+
+mul-binary : tie.Need-mul-binary Inv-loop μ-loop
+mul-binary c = omega arith
+
+array-copy-out-binary : tie.Need-array-copy-out-binary Inv-loop μ-loop
+array-copy-out-binary c = omega arith
+
+from-top-requires-6 : tie.Need-from-top-requires-6 Inv-loop μ-loop
+from-top-requires-6 c κs = search needs
+
+mul-binary-2 : tie.Need-mul-binary-2 Inv-loop μ-loop
+mul-binary-2 c = omega arith
+
+array-copy-out-binary-2 : tie.Need-array-copy-out-binary-2 Inv-loop μ-loop
+array-copy-out-binary-2 c = omega arith
+
+binary-requires : tie.Need-binary-requires Inv-loop μ-loop
+binary-requires c κs = search needs
+
+enum-told-10 : tie.Need-enum-told-10 Inv-loop μ-loop
+enum-told-10 c = search needs
+
 stuck-step-requires : tie.Need-stuck-step-requires Inv-loop μ-loop
 stuck-step-requires c κs = search needs
 
@@ -155,38 +184,38 @@ add-place c = let q = nearer (made (c .before)) in omega arith
 add-place-2 : tie.Need-add-place-2 Inv-loop μ-loop
 add-place-2 c = let q = nearer (made (c .before)) in omega arith
 
-enum-told : tie.Need-enum-told Inv-loop μ-loop
-enum-told c = search needs
+enum-told-11 : tie.Need-enum-told-11 Inv-loop μ-loop
+enum-told-11 c = search needs
 
 mul-stack : tie.Need-mul-stack Inv-loop μ-loop
-mul-stack c = let q = (onward (made (c .before .before .before)) (c .enum-told .given .1)) .0 in omega arith
+mul-stack c = let q = (onward (made (c .before .before .before)) (c .enum-told11 .given .1)) .0 in omega arith
 
 array-set-from-stack : tie.Need-array-set-from-stack Inv-loop μ-loop
-array-set-from-stack c = let q = (onward (made (c .before .before .before)) (c .enum-told .given .1)) .0 in omega arith
+array-set-from-stack c = let q = (onward (made (c .before .before .before)) (c .enum-told11 .given .1)) .0 in omega arith
 
 add-h : tie.Need-add-h Inv-loop μ-loop
-add-h c = let q = (onward (made (c .before .before .before)) (c .enum-told .given .1)) .0 in omega arith
+add-h c = let q = (onward (made (c .before .before .before)) (c .enum-told11 .given .1)) .0 in omega arith
 
 loop-less : tie.Need-loop-less Inv-loop μ-loop
 loop-less c = omega arith
 
 loop-again : tie.Need-loop-again Inv-loop μ-loop
 loop-again c =
-    let l = c .before .before .before .before .before .before .loop in
-    let on = onward (made (c .before .before .before)) (c .enum-told .given .1) in
+    let l = c .before .before .before .before .before .before .before .loop in
+    let on = onward (made (c .before .before .before)) (c .enum-told11 .given .1) in
     (simp length-set (l .inv .0), omega (arith, on .0), omega arith, l .inv .3, l .inv .4, on .1 (l .inv .0))
 
-enum-told-2 : tie.Need-enum-told-2 Inv-loop μ-loop
-enum-told-2 c = search needs
+enum-told-12 : tie.Need-enum-told-12 Inv-loop μ-loop
+enum-told-12 c = search needs
 
 loop-less-2 : tie.Need-loop-less-2 Inv-loop μ-loop
 loop-less-2 c = omega arith
 
 loop-again-2 : tie.Need-loop-again-2 Inv-loop μ-loop
 loop-again-2 c =
-    let l = c .before .before .before .before .before .before .loop in
+    let l = c .before .before .before .before .before .before .before .loop in
     let t = made (c .before .before .before) in
-    (l .inv .0, omega (arith, lower t), omega arith, l .inv .3, l .inv .4, onward t (c .enum-told2 .given .1))
+    (l .inv .0, omega (arith, lower t), omega arith, l .inv .3, l .inv .4, onward t (c .enum-told12 .given .1))
 
 failed-requires : tie.Need-failed-requires Inv-loop μ-loop
 failed-requires c κs = search needs
@@ -203,7 +232,7 @@ finished-requires c κs = omega arith
 returns-2 : tie.Need-returns-2 Inv-loop μ-loop
 returns-2 c =
     let l = c .before .before .before .loop in
-    c .finished .ensures ∙ finishes (l .h) _ (l .inv .5) (rw (c .before .before .before .before .lesser .ensures) at (c .before .before .loop-test .left)) (held-finish (l .h) (l .stack))
+    c .finished .ensures ∙ finishes (l .h) _ (l .inv .5) (rw (c .before .before .before .before .min .ensures) at (c .before .before .loop-test .left)) (held-finish (l .h) (l .stack))
 
 pub run-spec : {M : Type 1} → statement M
 run-spec =
@@ -211,48 +240,58 @@ run-spec =
     (tie.spec
     Inv-loop
     μ-loop
-    lesser-requires
+    min-requires
     loop-holds
     fetch-requires
     add-count
-    cast-match
+    class-of-requires
+    enum-told
     push-int-requires
+    enum-told-2
     push-real-requires
-    load-requires
-    from-top-requires
-    mul-load-indexed
-    array-copy-out-load-indexed
-    load-indexed-requires
-    from-top-requires-2
-    mul-unary
-    array-copy-out-unary
-    unary-requires
-    from-top-requires-3
-    mul-binary
-    array-copy-out-binary
-    from-top-requires-4
-    mul-binary-2
-    array-copy-out-binary-2
-    binary-requires
+    enum-told-3
     jump-requires
-    from-top-requires-5
+    enum-told-4
+    from-top-requires
     mul-jump-if
     array-copy-out-jump-if
     jump-if-requires
-    from-top-requires-6
+    enum-told-5
+    from-top-requires-2
     mul-jump-if-2
     array-copy-out-jump-if-2
     jump-if-requires-2
+    enum-told-6
+    load-requires
+    enum-told-7
+    from-top-requires-3
+    mul-load-indexed
+    array-copy-out-load-indexed
+    load-indexed-requires
+    enum-told-8
+    from-top-requires-4
+    mul-unary
+    array-copy-out-unary
+    unary-requires
+    enum-told-9
+    from-top-requires-5
+    mul-binary
+    array-copy-out-binary
+    from-top-requires-6
+    mul-binary-2
+    array-copy-out-binary-2
+    binary-requires
+    enum-told-10
     stuck-step-requires
     add-place
     add-place-2
-    enum-told
+    enum-told-11
     mul-stack
     array-set-from-stack
     add-h
     loop-less
     loop-again
-    enum-told-2
+    enum-told-12
     loop-less-2
     loop-again-2
     failed-requires

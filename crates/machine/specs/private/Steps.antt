@@ -1,7 +1,7 @@
 -- How the code works out `act` on an array of which the first h values are held. For the contracts of the private functions; a reader believes Machine alone.
 use mathlib.Core.Path.{_≡_}
 use mathlib.Core.Bool.{Bool, cond, Bool·beq}
-use Prim.Native.Nat.{ℕ, _+_, _-_, _/_, _%_}
+use Prim.Native.Nat.{ℕ, _+_, _-_}
 use lib.Dec.{eqb, ltb}
 use lib.IntN.{pos}
 use Rattle.values.specs.declared.Value.{Value}
@@ -10,16 +10,12 @@ use Rattle.values.specs.declared.Fault.{Fault}
 use Rattle.values.specs.declared.Fault.the-variants.{Overflow}
 use Rattle.values.specs.declared.Outcome.{Outcome}
 use Rattle.values.specs.declared.Outcome.the-variants as Outcome
-use Rattle.values.specs.Patterns.{signedOf}
-use Rattle.operators.specs.Tables.{unaryOf, binaryOf}
 use Rattle.operators.specs.Operators.{unaryRule, binaryRule, truthRule}
 use Rattle.memory.specs.declared.Bank.{Bank}
 use Rattle.memory.specs.Layout.{layoutOf}
-use Rattle.memory.specs.Numbers.{bankNumbered}
 use Rattle.memory.specs.Environment.{Environment}
 use Rattle.code.specs.declared.Instr.{Instr}
 use Rattle.code.specs.declared.Instr.the-variants.{PushInt, PushReal, Load, LoadIndexed, Unary, Binary, Jump, JumpIf, Unknown}
-use Rattle.code.specs.Instructions.{alone, pushReal, loadOf, indexedOf, unaryInstr, binaryInstr}
 use Rattle.machine.specs.declared.Ended.{Ended}
 use Rattle.machine.specs.declared.Ended.the-variants.{Done, Stopped, Stuck}
 use Rattle.machine.specs.declared.Ran.{Ran}
@@ -28,40 +24,8 @@ use Rattle.machine.specs.declared.How.the-variants as How
 use Rattle.machine.specs.declared.Step.{Step}
 use Rattle.machine.specs.Machine.{maxHeight}
 
--- the operand and the word of an instruction's number; the bytes that must be 0 count as the operand's
-abbrev pub operandOf : ℕ → ℕ
-operandOf w = w / 256 % 16777216
-
-abbrev pub wordOf : ℕ → ℕ
-wordOf w = w / 4294967296
-
--- the instruction of a number, by its class
-abbrev pub intBy : ℕ → Instr
-intBy w = alone (operandOf w) (PushInt (signedOf 32 (wordOf w)))
-
-abbrev pub realBy : ℕ → Instr
-realBy w = alone (operandOf w) (pushReal (wordOf w))
-
-abbrev pub loadBy : ℕ → Instr
-loadBy w = loadOf (bankNumbered (operandOf w)) (wordOf w)
-
-abbrev pub indexedBy : ℕ → Instr
-indexedBy w = alone (wordOf w) (indexedOf (bankNumbered (operandOf w)))
-
-abbrev pub unaryBy : ℕ → Instr
-unaryBy w = alone (wordOf w) (unaryInstr (unaryOf (operandOf w)))
-
-abbrev pub binaryBy : ℕ → Instr
-binaryBy w = alone (wordOf w) (binaryInstr (binaryOf (operandOf w)))
-
-abbrev pub jumpBy : ℕ → Instr
-jumpBy w = alone (operandOf w) (Jump (wordOf w))
-
-abbrev pub jumpIfBy : Bool → ℕ → Instr
-jumpIfBy t w = alone (operandOf w) (JumpIf t (wordOf w))
-
-abbrev pub lesserOf : ℕ → ℕ → ℕ
-lesserOf a b = cond (ltb a b) a b
+abbrev pub minimum : ℕ → ℕ → ℕ
+minimum a b = cond (ltb a b) a b
 
 -- ---- the four kinds of step
 abbrev pub stuckStep : Step

@@ -6,12 +6,12 @@ use lib.ListN.{length}
 use denote.Ref.{now}
 use borrow.Author.Needs.{needs}
 use borrow.Author.Tests.{not-true, not-false}
-use Rattle.words.specs.Laws.{Bytes}
+use Rattle.code.specs.Instructions.{instructionOf}
+use Rattle.code.proofs.Parts.{decode-fetched}
 use Rattle.operators.proofs.Arms.{first as some}
-use Rattle.verifier.specs.private.Shapes.{State, unreached, holds, instrBy, kindsOf, stateAt, stateOf, tableOf}
+use Rattle.verifier.specs.private.Shapes.{State, unreached, holds, kindsOf, stateAt, stateOf, tableOf}
 use Rattle.verifier.proofs.Checking.{too-short, Passing, first, Came, turn, fails, agreed, disagreed, landed, lost, ends}
 use Rattle.verifier.proofs.Merging.{sized, resized}
-use Rattle.verifier.proofs.Numbers.{decode-by}
 use Rattle.verifier.proofs.Stepping.{state-holds}
 use Rattle.verifier.proofs.checked.Statement.{statement}
 use Rattle.verifier.proofs.checked.Tie as tie
@@ -56,8 +56,7 @@ brought m = let l = m .step .last .1 .1 .1 .1 .1 in tableOf (l .0) (l .1 .0) (l 
 came : (m : M) → Came (entry m .args .code .now) (entry m .args .n) (at-loop m .loop .place + 1) (brought m) (stateOf (m .step .result))
 came m =
     let code = now (entry m .args .code) in
-    let bytes : Bytes code = λ j. omega (arith, at-loop m .before .before .before .before .before .shared-slice-known .given j) in
-    turn code (entry m .args .n) {after = brought m} (m .before .before .before .before .before .before .loop-test .taken) (decode-by code (at-loop m .loop .place) bytes ∙ ap instrBy (sym (m .before .before .before .before .before .fetch .ensures))) (at-loop m .loop .inv .knows)
+    turn code (entry m .args .n) {after = brought m} (m .before .before .before .before .before .before .loop-test .taken) (decode-fetched code (at-loop m .loop .place) ∙ ap instructionOf (sym (m .before .before .before .before .before .fetch .ensures))) (at-loop m .loop .inv .knows)
     (m .step .ensures .1 .1)
 
 came-not : (m : M) → m .step .result .reach ≡ 1 → stateOf (m .step .result) ≡ unreached

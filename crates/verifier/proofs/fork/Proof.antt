@@ -3,15 +3,18 @@ use mathlib.Core.Path.{sym, _∙_}
 use Prim.Native.Nat.{_-_}
 use native.Mathlib.Omega.{arith}
 use borrow.Author.Needs.{needs}
-use borrow.Author.Tests.{not-true, not-false}
+use borrow.Author.Tests.{leb-true, not-true, not-false}
+use Rattle.code.specs.Instructions.{wordOf}
 use Rattle.verifier.proofs.Bits.{neat-popped}
 use Rattle.verifier.proofs.Held.{keeps-popped}
-use Rattle.verifier.proofs.Stepping.{stays, fork-short, fork-strays, fork-lands, fork-fails}
+use Rattle.verifier.proofs.Stepping.{fork-short, fork-strays, fork-lands, fork-fails}
 use Rattle.verifier.proofs.fork.Statement.{statement}
 use Rattle.verifier.proofs.fork.Tie as tie
 
 returns : tie.Need-returns
-returns c = (λ a k. k, (c .before .before .before .before .before .pre .1, λ t. fork-short (c .before .before .before .before .before .args .w) _ t (c .before .before .before .before .before .args .held) (c .if1 .taken)))
+returns c =
+    let start = c .before .before .before .before .before in
+    (λ a k. k, (start .pre .1, λ t. fork-short _ _ t (start .args .held) (c .if1 .taken)))
 
 sub-stays : tie.Need-sub-stays
 sub-stays c = search needs
@@ -20,21 +23,49 @@ stays-requires : tie.Need-stays-requires
 stays-requires c κs = search needs
 
 returns-2 : tie.Need-returns-2
-returns-2 c = (λ a k. k, (c .before .before .before .before .before .before .before .pre .1, λ t. fork-strays (c .before .before .before .before .before .before .before .args .w) _ t (c .before .before .before .before .before .before .before .args .held) (sym (c .before .stays .ensures) ∙ not-true _ (c .if2 .taken))))
+returns-2 c =
+    let at-stays = c .before in
+    let start = at-stays .before .before .before .before .before .before in (
+      λ a k. k,
+      (
+        start .pre .1,
+        λ t. fork-strays _ _ t (start .args .held) (sym (at-stays .stays .ensures) ∙ not-true _
+            (c .if2 .taken)),
+      ),
+    )
 
 popped-requires : tie.Need-popped-requires
 popped-requires c κs = search needs
 
-word-requires : tie.Need-word-requires
-word-requires c κs = search needs
+word-of-requires : tie.Need-word-of-requires
+word-of-requires c κs = search needs
+
+cast-target : tie.Need-cast-target
+cast-target c = search needs
 
 add-target : tie.Need-add-target
 add-target c = search needs
 
 merge-requires : tie.Need-merge-requires
 merge-requires c κs =
-    let e = sym (c .before .before .before .before .before .before .stays .ensures) ∙ not-false _ (c .before .before .before .before .before .if2 .left) in
-    (neat-popped (omega arith) (c .before .before .before .before .popped .ensures) (c .before .before .before .before .before .before .before .before .before .before .before .before .pre .0 .0), (omega (arith, stays (c .before .before .before .before .before .before .before .before .before .before .before .before .args .w) (c .before .before .before .before .before .before .before .before .before .before .before .before .args .n - c .before .before .before .before .before .before .before .before .before .before .before .before .args .next) e .1, c .before .before .before .word .ensures, c .before .before .before .before .before .before .before .before .before .before .before .before .pre .0 .1), c .before .before .before .before .before .before .before .before .before .before .before .before .pre .1))
+    let at-word-of = c .before .before .before in
+    let at-popped = at-word-of .before in
+    let at-if2 = at-popped .before in
+    let at-stays = at-if2 .before in
+    let start = at-stays .before .before .before .before .before .before in (
+      neat-popped (omega arith) (at-popped .popped .ensures) (start .pre .0 .0),
+      (
+        omega (
+          arith,
+          leb-true
+              (wordOf (start .args .w)) (start .args .n - start .args .next) (sym (at-stays .stays .ensures) ∙ not-false _
+              (at-if2 .if2 .left)),
+          at-word-of .word-of .ensures,
+          start .pre .0 .1,
+        ),
+        start .pre .1,
+      ),
+    )
 
 same-length : tie.Need-same-length
 same-length c = search needs
@@ -46,7 +77,21 @@ same-length-3 : tie.Need-same-length-3
 same-length-3 c = search needs
 
 returns-3 : tie.Need-returns-3
-returns-3 c = (λ a k. keeps-popped k (omega arith) (c .before .before .before .before .before .before .before .before .before .before .before .before .popped .ensures), (c .before .before .before .before .before .before .before .merge .ensures .0, λ t. fork-lands (c .before .before .before .before .before .before .before .before .before .before .before .before .before .before .before .before .before .before .before .before .args .w) _ t (c .before .before .before .before .before .before .before .before .before .before .before .before .before .before .before .before .before .before .before .before .args .held) (omega arith) (c .before .before .before .before .before .before .before .before .before .before .before .before .popped .ensures) (sym (c .before .before .before .before .before .before .before .before .before .before .before .before .before .before .stays .ensures) ∙ not-false _ (c .before .before .before .before .before .before .before .before .before .before .before .before .before .if2 .left)) (c .before .before .before .before .before .before .before .before .before .before .before .word .ensures) (c .if3 .taken) (c .before .before .before .before .before .before .before .merge .ensures .1)))
+returns-3 c =
+    let at-merge = c .before .before .before .before .before .before .before in
+    let at-word-of = at-merge .before .before .before .before in
+    let at-popped = at-word-of .before in
+    let at-if2 = at-popped .before in
+    let at-stays = at-if2 .before in
+    let start = at-stays .before .before .before .before .before .before in (
+      λ a k. keeps-popped k (omega arith) (at-popped .popped .ensures),
+      (
+        at-merge .merge .ensures .0,
+        λ t. fork-lands _ _ t
+            (start .args .held) (omega arith) (at-popped .popped .ensures) (sym (at-stays .stays .ensures) ∙ not-false _
+            (at-if2 .if2 .left)) (c .if3 .taken) (rw (at-word-of .word-of .ensures) at (at-merge .merge .ensures .1)),
+      ),
+    )
 
 same-length-4 : tie.Need-same-length-4
 same-length-4 c = search needs
@@ -58,7 +103,19 @@ same-length-6 : tie.Need-same-length-6
 same-length-6 c = search needs
 
 returns-4 : tie.Need-returns-4
-returns-4 c = (λ a k. keeps-popped k (omega arith) (c .before .before .before .before .before .before .before .before .before .before .before .before .popped .ensures), (c .before .before .before .before .before .before .before .merge .ensures .0, λ t. fork-fails (c .before .before .before .before .before .before .before .before .before .before .before .before .before .before .before .before .before .before .before .before .args .w) _ t (c .before .before .before .before .before .before .before .before .before .before .before .before .before .before .before .before .before .before .before .before .args .held) (omega arith) (c .before .before .before .before .before .before .before .before .before .before .before .before .popped .ensures) (sym (c .before .before .before .before .before .before .before .before .before .before .before .before .before .before .stays .ensures) ∙ not-false _ (c .before .before .before .before .before .before .before .before .before .before .before .before .before .if2 .left)) (c .before .before .before .before .before .before .before .before .before .before .before .word .ensures) (c .if3 .left) (c .before .before .before .before .before .before .before .merge .ensures .1)))
+returns-4 c =
+    let at-merge = c .before .before .before .before .before .before .before in
+    let at-word-of = at-merge .before .before .before .before in
+    let at-popped = at-word-of .before in
+    let start = at-popped .before .before .before .before .before .before .before .before in (
+      λ a k. keeps-popped k (omega arith) (at-popped .popped .ensures),
+      (
+        at-merge .merge .ensures .0,
+        λ t. fork-fails _ _ t
+            (start .args .held) (omega arith) (at-popped .popped .ensures) (c .if3 .left) (rw (at-word-of .word-of .ensures) at
+            (at-merge .merge .ensures .1)),
+      ),
+    )
 
 pub fork-spec : {M : Type 1} → statement M
 fork-spec =
@@ -69,7 +126,8 @@ fork-spec =
     stays-requires
     returns-2
     popped-requires
-    word-requires
+    word-of-requires
+    cast-target
     add-target
     merge-requires
     same-length

@@ -3,8 +3,9 @@ use mathlib.Core.Path.{sym, _∙_}
 use Prim.Native.Nat.{_-_}
 use native.Mathlib.Omega.{arith}
 use borrow.Author.Needs.{needs}
-use borrow.Author.Tests.{not-true, not-false}
-use Rattle.verifier.proofs.Stepping.{stays, leap-strays, leap-lands, leap-fails}
+use borrow.Author.Tests.{leb-true, not-true, not-false}
+use Rattle.code.specs.Instructions.{wordOf}
+use Rattle.verifier.proofs.Stepping.{leap-strays, leap-lands, leap-fails}
 use Rattle.verifier.proofs.jump.Statement.{statement}
 use Rattle.verifier.proofs.jump.Tie as tie
 
@@ -15,18 +16,38 @@ stays-requires : tie.Need-stays-requires
 stays-requires c κs = search needs
 
 returns : tie.Need-returns
-returns c = (λ a k. k, (c .before .before .before .before .before .pre .1, leap-strays _ _ (sym (c .before .stays .ensures) ∙ not-true _ (c .if1 .taken))))
+returns c =
+    let at-stays = c .before in
+    let start = at-stays .before .before .before .before in
+    (λ a k. k, (start .pre .1, leap-strays _ _ (sym (at-stays .stays .ensures) ∙ not-true _ (c .if1 .taken))))
 
-word-requires : tie.Need-word-requires
-word-requires c κs = search needs
+word-of-requires : tie.Need-word-of-requires
+word-of-requires c κs = search needs
+
+cast-target : tie.Need-cast-target
+cast-target c = search needs
 
 add-target : tie.Need-add-target
 add-target c = search needs
 
 merge-requires : tie.Need-merge-requires
 merge-requires c κs =
-    let e = sym (c .before .before .before .before .before .stays .ensures) ∙ not-false _ (c .before .before .before .before .if1 .left) in
-    (c .before .before .before .before .before .before .before .before .before .pre .0 .0, (omega (arith, stays (c .before .before .before .before .before .before .before .before .before .args .w) (c .before .before .before .before .before .before .before .before .before .args .n - c .before .before .before .before .before .before .before .before .before .args .next) e .1, c .before .before .before .word .ensures, c .before .before .before .before .before .before .before .before .before .pre .0 .1), c .before .before .before .before .before .before .before .before .before .pre .1))
+    let at-word-of = c .before .before .before in
+    let at-if1 = at-word-of .before in
+    let at-stays = at-if1 .before in
+    let start = at-stays .before .before .before .before in (
+      start .pre .0 .0,
+      (
+        omega (
+          arith,
+          leb-true (wordOf (start .args .w)) (start .args .n - start .args .next)
+              (sym (at-stays .stays .ensures) ∙ not-false _ (at-if1 .if1 .left)),
+          at-word-of .word-of .ensures,
+          start .pre .0 .1,
+        ),
+        start .pre .1,
+      ),
+    )
 
 same-length : tie.Need-same-length
 same-length c = search needs
@@ -38,7 +59,18 @@ same-length-3 : tie.Need-same-length-3
 same-length-3 c = search needs
 
 returns-2 : tie.Need-returns-2
-returns-2 c = (λ a k. k, (c .before .before .before .before .before .before .before .merge .ensures .0, leap-lands _ _ (sym (c .before .before .before .before .before .before .before .before .before .before .before .before .before .stays .ensures) ∙ not-false _ (c .before .before .before .before .before .before .before .before .before .before .before .before .if1 .left)) (c .before .before .before .before .before .before .before .before .before .before .before .word .ensures) (c .if2 .taken) (c .before .before .before .before .before .before .before .merge .ensures .1)))
+returns-2 c =
+    let at-merge = c .before .before .before .before .before .before .before in
+    let at-word-of = at-merge .before .before .before .before in
+    let at-if1 = at-word-of .before in
+    let at-stays = at-if1 .before in (
+      λ a k. k,
+      (
+        at-merge .merge .ensures .0,
+        leap-lands _ _ (sym (at-stays .stays .ensures) ∙ not-false _
+            (at-if1 .if1 .left)) (c .if2 .taken) (rw (at-word-of .word-of .ensures) at (at-merge .merge .ensures .1)),
+      ),
+    )
 
 same-length-4 : tie.Need-same-length-4
 same-length-4 c = search needs
@@ -50,7 +82,16 @@ same-length-6 : tie.Need-same-length-6
 same-length-6 c = search needs
 
 returns-3 : tie.Need-returns-3
-returns-3 c = (λ a k. k, (c .before .before .before .before .before .before .before .merge .ensures .0, leap-fails _ _ (sym (c .before .before .before .before .before .before .before .before .before .before .before .before .before .stays .ensures) ∙ not-false _ (c .before .before .before .before .before .before .before .before .before .before .before .before .if1 .left)) (c .before .before .before .before .before .before .before .before .before .before .before .word .ensures) (c .if2 .left) (c .before .before .before .before .before .before .before .merge .ensures .1)))
+returns-3 c =
+    let at-merge = c .before .before .before .before .before .before .before in
+    let at-word-of = at-merge .before .before .before .before in (
+      λ a k. k,
+      (
+        at-merge .merge .ensures .0,
+        leap-fails _ _ (c .if2 .left) (rw (at-word-of .word-of .ensures) at
+            (at-merge .merge .ensures .1)),
+      ),
+    )
 
 pub jump-spec : {M : Type 1} → statement M
 jump-spec =
@@ -59,7 +100,8 @@ jump-spec =
     sub-stays
     stays-requires
     returns
-    word-requires
+    word-of-requires
+    cast-target
     add-target
     merge-requires
     same-length

@@ -1,10 +1,10 @@
--- Which instructions are known: those that act on two integers, and jumps that stay within the code.
-use mathlib.Core.Path.{_≡_, refl, sym, _∙_}
+-- Which instructions are known: those that act on two integers, apart from jumps.
+use mathlib.Core.Path.{_≡_, refl, sym, ap, _∙_}
 use mathlib.Core.Bool.{Bool, true, false, cond}
 use mathlib.Core.List.{[], _∷_}
-use Prim.Native.Nat.{ℕ, _≤_, _<_}
+use Prim.Native.Nat.{ℕ}
 use native.Mathlib.Omega.{arith}
-use lib.Dec.{eqb, ltb, leb}
+use lib.Dec.{ltb}
 use Rattle.values.specs.declared.Kind.the-variants.{Int}
 use Rattle.operators.specs.declared.UnaryOp.{UnaryOp}
 use Rattle.operators.specs.declared.UnaryOp.the-variants.{Neg, Complement, Not, Abs, ToReal, Trunc, Round, Frac}
@@ -13,10 +13,12 @@ use Rattle.operators.specs.declared.BinaryOp.the-variants.{Arith, Power, Shift,
 use Rattle.operators.specs.Kinds.{unaryTakes, binaryTakes}
 use Rattle.code.specs.declared.Instr.{Instr}
 use Rattle.code.specs.declared.Instr.the-variants.{PushInt, PushReal, Load, LoadIndexed, Unary, Binary, Jump, JumpIf, Unknown}
-use Rattle.code.specs.Instructions.{instruction}
+use Rattle.code.specs.declared.Class.{Class}
+use Rattle.code.specs.Instructions.{opcodeOf, instructionOf}
+use Rattle.code.specs.private.Classes.{classOf, instrIn}
+use Rattle.code.proofs.Page.{number-class}
 use Rattle.verifier.specs.Typing.{Shape, illTyped, next, moveOf, wellFormed}
 use Rattle.verifier.specs.private.Shapes.{LeavesKind, ReplacesKind, ReplacesTwo}
-use Rattle.verifier.proofs.Moves.{between}
 
 abbrev two : Shape
 two = Int ∷ (Int ∷ [])
@@ -70,26 +72,11 @@ module _ (m : ℕ) where
     pub pairs-known : ReplacesTwo i 0 0 n → ltb n 2 ≡ wellFormed m i
     pairs-known f = acts i (ltb n 2) _ (f .is [])
 
-  -- a jump, of the operand a and the distance d
-  pub alone-known : (b : Bool) (i : Instr) → wellFormed m (cond b i Unknown) ≡ cond b (wellFormed m i) false
-  alone-known true i = refl
-  alone-known false i = refl
+-- ---- by its class c, which is k, the number n of the eight bytes is an instruction
 
-  module _ (a d : ℕ) where
-    abbrev Stays : ℕ → Type 0
-    Stays o = wellFormed m (instruction o a d) ≡ cond (eqb a 0) (leb d m) false
+module _ (n : ℕ) {c : Class} (k : Class) (e : c ≡ classOf (opcodeOf n)) (q : c ≡ k) where
+  pub in-class : instructionOf n ≡ instrIn k n
+  in-class = number-class n ∙ ap (λ x. instrIn x n) (sym e ∙ q)
 
-    jump-known : Stays 7
-    unfolding instruction
-    jump-known = alone-known (eqb a 0) (Jump d)
-
-    if-false-known : Stays 8
-    unfolding instruction
-    if-false-known = alone-known (eqb a 0) (JumpIf false d)
-
-    if-true-known : Stays 9
-    unfolding instruction
-    if-true-known = alone-known (eqb a 0) (JumpIf true d)
-
-    pub jumps-known : {o : ℕ} {r : Bool} → r ≡ cond (eqb a 0) (leb d m) false → 7 ≤ o → o < 10 → r ≡ wellFormed m (instruction o a d)
-    jumps-known e l h = e ∙ sym (between Stays 7 3 (jump-known, (if-false-known, (if-true-known, tt))) l h)
+  pub known-by : (m : ℕ) {r : Bool} → r ≡ wellFormed m (instrIn k n) → r ≡ wellFormed m (instructionOf n)
+  known-by m h = h ∙ ap (wellFormed m) (sym in-class)

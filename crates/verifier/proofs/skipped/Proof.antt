@@ -1,11 +1,9 @@
 -- `verifier::skipped` meets its contract: at each turn, the way so far has no jump and only known instructions.
-use mathlib.Core.Path.{_≡_, sym, _∙_}
+use mathlib.Core.Path.{sym, _∙_}
 use Prim.Native.Nat.{_-_}
 use native.Mathlib.Omega.{arith}
-use denote.Ref.{now}
 use borrow.Author.Needs.{needs}
 use borrow.Author.Tests.{not-true, not-false}
-use Rattle.words.specs.Laws.{Bytes}
 use Rattle.verifier.specs.private.Pass.{Skipping}
 use Rattle.verifier.proofs.Stepping.{skipping-none, skipping-more, stands-at}
 use Rattle.verifier.proofs.skipped.Statement.{statement}
@@ -40,9 +38,7 @@ known-requires c κs = search needs
 
 returns-2 : tie.Need-returns-2 Inv-loop μ-loop
 returns-2 c =
-    let a = c .before .before .before .before .before .before .before .before .before .args in
-    let bytes : Bytes (now (a .code)) = λ j. omega (arith, c .before .before .before .before .before .before .before .before .shared-slice-known .given j) in
-    record { way = c .before .before .before .before .before .before .loop .inv; last = λ e l. sym (stands-at _ _ _ bytes (c .before .before .fetch .ensures) (c .before .known .ensures)) ∙ not-true _ (c .if3 .taken) }
+    record { way = c .before .before .before .before .before .before .loop .inv; last = λ e l. sym (stands-at _ _ _ (c .before .before .fetch .ensures) (c .before .known .ensures)) ∙ not-true _ (c .if3 .taken) }
 
 add-place : tie.Need-add-place Inv-loop μ-loop
 add-place c = omega arith
@@ -52,9 +48,7 @@ loop-less c = omega arith
 
 loop-again : tie.Need-loop-again Inv-loop μ-loop
 loop-again c =
-    let a = c .before .before .before .before .before .before .before .before .before .args in
-    let bytes : Bytes (now (a .code)) = λ j. omega (arith, c .before .before .before .before .before .before .before .before .shared-slice-known .given j) in
-    skipping-more (c .before .before .before .before .before .before .loop .inv) (omega arith) (c .before .before .before .before .if1 .taken) (sym (stands-at _ _ _ bytes (c .before .before .fetch .ensures) (c .before .known .ensures)) ∙ not-false _ (c .if3 .left))
+    skipping-more (c .before .before .before .before .before .before .loop .inv) (omega arith) (c .before .before .before .before .if1 .taken) (sym (stands-at _ _ _ (c .before .before .fetch .ensures) (c .before .known .ensures)) ∙ not-false _ (c .if3 .left))
 
 returns-3 : tie.Need-returns-3 Inv-loop μ-loop
 returns-3 c = record { way = c .before .before .loop .inv; last = λ e l. absurd (c .if1 .left e) }

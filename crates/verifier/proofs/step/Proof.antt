@@ -1,18 +1,24 @@
--- `verifier::step` meets its contract: an arm for each opcode.
+-- `verifier::step` meets its contract: an arm for each class.
 use mathlib.Core.Path.{refl}
-use native.Mathlib.Omega.{arith}
+use mathlib.Core.Bool.{true, false}
 use borrow.Author.Needs.{needs}
-use Rattle.operators.proofs.Arms.{past}
-use Rattle.verifier.proofs.Numbers.{no-opcode, past-opcodes}
-use Rattle.verifier.proofs.Stepping.{typed-keeps, typed-steps, fork-by, none-stuck}
+use Rattle.code.specs.Instructions.{wordOf}
+use Rattle.verifier.specs.private.Pass.{stuck}
+use Rattle.verifier.proofs.Stepping.{typed-keeps, typed-steps, int-moves, none-moves, steps-by}
 use Rattle.verifier.proofs.step.Statement.{statement}
 use Rattle.verifier.proofs.step.Tie as tie
 
-int-kind-requires : tie.Need-int-kind-requires
-int-kind-requires c κs = search needs
+class-of-requires : tie.Need-class-of-requires
+class-of-requires c κs = search needs
+
+enum-told : tie.Need-enum-told
+enum-told c = search needs
 
 push-requires : tie.Need-push-requires
 push-requires c κs = search needs
+
+enum-told-2 : tie.Need-enum-told-2
+enum-told-2 c = search needs
 
 real-kind-requires : tie.Need-real-kind-requires
 real-kind-requires c κs = search needs
@@ -20,44 +26,80 @@ real-kind-requires c κs = search needs
 push-requires-2 : tie.Need-push-requires-2
 push-requires-2 c κs = search needs
 
+enum-told-3 : tie.Need-enum-told-3
+enum-told-3 c = search needs
+
+jump-requires : tie.Need-jump-requires
+jump-requires c κs = search needs
+
+enum-told-4 : tie.Need-enum-told-4
+enum-told-4 c = search needs
+
+fork-requires : tie.Need-fork-requires
+fork-requires c κs = search needs
+
+enum-told-5 : tie.Need-enum-told-5
+enum-told-5 c = search needs
+
+fork-requires-2 : tie.Need-fork-requires-2
+fork-requires-2 c κs = search needs
+
+enum-told-6 : tie.Need-enum-told-6
+enum-told-6 c = search needs
+
 load-kind-requires : tie.Need-load-kind-requires
 load-kind-requires c κs = search needs
 
 push-requires-3 : tie.Need-push-requires-3
 push-requires-3 c κs = search needs
 
+enum-told-7 : tie.Need-enum-told-7
+enum-told-7 c = search needs
+
 indexed-requires : tie.Need-indexed-requires
 indexed-requires c κs = search needs
+
+enum-told-8 : tie.Need-enum-told-8
+enum-told-8 c = search needs
 
 unary-requires : tie.Need-unary-requires
 unary-requires c κs = search needs
 
+enum-told-9 : tie.Need-enum-told-9
+enum-told-9 c = search needs
+
 binary-requires : tie.Need-binary-requires
 binary-requires c κs = search needs
 
-jump-requires : tie.Need-jump-requires
-jump-requires c κs = search needs
-
-fork-requires : tie.Need-fork-requires
-fork-requires c κs = search needs
+enum-told-10 : tie.Need-enum-told-10
+enum-told-10 c = search needs
 
 returns : tie.Need-returns
-returns c = (typed-keeps (c .push .ensures), (c .before .before .before .before .before .before .before .pre .1 .1, rw (c .before .before .before .match .keys1) (typed-steps (c .before .int-kind .ensures .is _) (c .push .ensures))))
+returns c =
+    let at-enum-told = c .before .before in
+    let at-class-of = at-enum-told .before .before in
+    let start = at-class-of .before .before .before .before in (
+      typed-keeps (c .push .ensures),
+      (
+        start .pre .1 .1,
+        steps-by _ _ (at-class-of .class-of .ensures)
+            (at-enum-told .enum-told .given .1) (typed-steps (int-moves (wordOf (start .args .w)) _) (c .push .ensures)),
+      ),
+    )
 
 returns-2 : tie.Need-returns-2
-returns-2 c = (typed-keeps (c .push2 .ensures), (c .before .before .before .before .before .before .before .pre .1 .1, rw (c .before .before .before .match .keys2) (typed-steps (c .before .real-kind .ensures .is _) (c .push2 .ensures))))
-
-returns-3 : tie.Need-returns-3
-returns-3 c = (typed-keeps (c .push3 .ensures), (c .before .before .before .before .before .before .before .pre .1 .1, rw (c .before .before .before .match .keys3) (typed-steps (c .before .load-kind .ensures .is _) (c .push3 .ensures))))
-
-returns-4 : tie.Need-returns-4
-returns-4 c = (typed-keeps (c .indexed .ensures), (c .before .before .before .before .before .before .pre .1 .1, rw (c .before .before .match .keys4) (typed-steps refl (c .indexed .ensures))))
-
-returns-5 : tie.Need-returns-5
-returns-5 c = (typed-keeps (c .unary .ensures), (c .before .before .before .before .before .before .pre .1 .1, rw (c .before .before .match .keys5) (typed-steps refl (c .unary .ensures))))
-
-returns-6 : tie.Need-returns-6
-returns-6 c = (typed-keeps (c .binary .ensures), (c .before .before .before .before .before .before .pre .1 .1, rw (c .before .before .match .keys6) (typed-steps refl (c .binary .ensures))))
+returns-2 c =
+    let at-real-kind = c .before in
+    let at-enum-told2 = at-real-kind .before .before in
+    let at-class-of = at-enum-told2 .before .before in
+    let start = at-class-of .before .before .before .before in (
+      typed-keeps (c .push2 .ensures),
+      (
+        start .pre .1 .1,
+        steps-by _ _ (at-class-of .class-of .ensures)
+            (at-enum-told2 .enum-told2 .given .1) (typed-steps (at-real-kind .real-kind .ensures .is _) (c .push2 .ensures)),
+      ),
+    )
 
 same-length : tie.Need-same-length
 same-length c = search needs
@@ -68,8 +110,19 @@ same-length-2 c = search needs
 same-length-3 : tie.Need-same-length-3
 same-length-3 c = search needs
 
-returns-7 : tie.Need-returns-7
-returns-7 c = (c .before .before .before .before .before .before .jump .ensures .0 _ (c .before .before .before .before .before .before .before .before .before .before .before .before .before .before .pre .0), (c .before .before .before .before .before .before .jump .ensures .1 .0, rw (c .before .before .before .before .before .before .before .before .before .before .match .keys7) (c .before .before .before .before .before .before .jump .ensures .1 .1)))
+returns-3 : tie.Need-returns-3
+returns-3 c =
+    let at-jump = c .before .before .before .before .before .before in
+    let at-enum-told3 = at-jump .before .before .before .before in
+    let at-class-of = at-enum-told3 .before .before in
+    let start = at-class-of .before .before .before .before in (
+      at-jump .jump .ensures .0 _ (start .pre .0),
+      (
+        at-jump .jump .ensures .1 .0,
+        steps-by _ _ (at-class-of .class-of .ensures)
+            (at-enum-told3 .enum-told3 .given .1) (at-jump .jump .ensures .1 .1),
+      ),
+    )
 
 same-length-4 : tie.Need-same-length-4
 same-length-4 c = search needs
@@ -80,48 +133,150 @@ same-length-5 c = search needs
 same-length-6 : tie.Need-same-length-6
 same-length-6 c = search needs
 
+returns-4 : tie.Need-returns-4
+returns-4 c =
+    let at-fork = c .before .before .before .before .before .before in
+    let at-enum-told4 = at-fork .before .before .before .before in
+    let at-class-of = at-enum-told4 .before .before in
+    let start = at-class-of .before .before .before .before in (
+      at-fork .fork .ensures .0 _ (start .pre .0),
+      (
+        at-fork .fork .ensures .1 .0,
+        steps-by _ _ (at-class-of .class-of .ensures)
+            (at-enum-told4 .enum-told4 .given .1) (at-fork .fork .ensures .1 .1 false),
+      ),
+    )
+
+same-length-7 : tie.Need-same-length-7
+same-length-7 c = search needs
+
+same-length-8 : tie.Need-same-length-8
+same-length-8 c = search needs
+
+same-length-9 : tie.Need-same-length-9
+same-length-9 c = search needs
+
+returns-5 : tie.Need-returns-5
+returns-5 c =
+    let at-fork2 = c .before .before .before .before .before .before in
+    let at-enum-told5 = at-fork2 .before .before .before .before in
+    let at-class-of = at-enum-told5 .before .before in
+    let start = at-class-of .before .before .before .before in (
+      at-fork2 .fork2 .ensures .0 _ (start .pre .0),
+      (
+        at-fork2 .fork2 .ensures .1 .0,
+        steps-by _ _ (at-class-of .class-of .ensures)
+            (at-enum-told5 .enum-told5 .given .1) (at-fork2 .fork2 .ensures .1 .1 true),
+      ),
+    )
+
+returns-6 : tie.Need-returns-6
+returns-6 c =
+    let at-load-kind = c .before in
+    let at-enum-told6 = at-load-kind .before .before in
+    let at-class-of = at-enum-told6 .before .before in
+    let start = at-class-of .before .before .before .before in (
+      typed-keeps (c .push3 .ensures),
+      (
+        start .pre .1 .1,
+        steps-by _ _ (at-class-of .class-of .ensures)
+            (at-enum-told6 .enum-told6 .given .1) (typed-steps (at-load-kind .load-kind .ensures .is _) (c .push3 .ensures)),
+      ),
+    )
+
+returns-7 : tie.Need-returns-7
+returns-7 c =
+    let at-enum-told7 = c .before .before in
+    let at-class-of = at-enum-told7 .before .before in
+    let start = at-class-of .before .before .before .before in (
+      typed-keeps (c .indexed .ensures),
+      (
+        start .pre .1 .1,
+        steps-by _ _ (at-class-of .class-of .ensures)
+            (at-enum-told7 .enum-told7 .given .1) (typed-steps refl (c .indexed .ensures)),
+      ),
+    )
+
 returns-8 : tie.Need-returns-8
 returns-8 c =
-    let r = c .before .before .before .before .before .before .before .before .before .before .before .before .match .rest in
-    let l = past 7 (past 6 (past 5 (past 4 (past 3 (past 2 (past 1 (c .before .before .before .before .before .before .before .before .before .before .before .if1 .left) (r .0 .0 .0 .0 .0 .0 .1)) (r .0 .0 .0 .0 .0 .1)) (r .0 .0 .0 .0 .1)) (r .0 .0 .0 .1)) (r .0 .0 .1)) (r .0 .1)) (r .1) in
-    (c .before .before .before .before .before .before .fork .ensures .0 _ (c .before .before .before .before .before .before .before .before .before .before .before .before .before .before .before .before .pre .0), (c .before .before .before .before .before .before .fork .ensures .1 .0, fork-by _ _ l (c .before .before .before .before .before .before .before .before .before .before .if2 .taken) (c .before .before .before .before .before .before .fork .ensures .1 .1)))
+    let at-enum-told8 = c .before .before in
+    let at-class-of = at-enum-told8 .before .before in
+    let start = at-class-of .before .before .before .before in (
+      typed-keeps (c .unary .ensures),
+      (
+        start .pre .1 .1,
+        steps-by _ _ (at-class-of .class-of .ensures)
+            (at-enum-told8 .enum-told8 .given .1) (typed-steps refl (c .unary .ensures)),
+      ),
+    )
 
 returns-9 : tie.Need-returns-9
 returns-9 c =
-    let r = c .before .match .rest in
-    (c .before .before .before .before .before .pre .0, (c .before .before .before .before .before .pre .1 .1, none-stuck (no-opcode _ _ (r .0 .0 .0 .0 .0 .0 .1) (r .0 .0 .0 .0 .0 .1) (r .0 .0 .0 .0 .1) (r .0 .0 .0 .1) (r .0 .0 .1) (r .0 .1) (r .1) (λ e. omega arith) (λ e. omega arith))))
+    let at-enum-told9 = c .before .before in
+    let at-class-of = at-enum-told9 .before .before in
+    let start = at-class-of .before .before .before .before in (
+      typed-keeps (c .binary .ensures),
+      (
+        start .pre .1 .1,
+        steps-by _ _ (at-class-of .class-of .ensures)
+            (at-enum-told9 .enum-told9 .given .1) (typed-steps refl (c .binary .ensures)),
+      ),
+    )
 
 returns-10 : tie.Need-returns-10
-returns-10 c = (c .before .before .before .before .before .before .pre .0, (c .before .before .before .before .before .before .pre .1 .1, none-stuck (past-opcodes _ _ (c .if2 .left))))
+returns-10 c =
+    let at-class-of = c .before .before in
+    let start = at-class-of .before .before .before .before in (
+      start .pre .0,
+      (
+        start .pre .1 .1,
+        steps-by _ _ (at-class-of .class-of .ensures) (c .enum-told10 .given .1)
+            (stuck (none-moves _)),
+      ),
+    )
 
 pub step-spec : {M : Type 1} → statement M
 step-spec =
     tie.close
     (tie.spec
-    int-kind-requires
+    class-of-requires
+    enum-told
     push-requires
+    enum-told-2
     real-kind-requires
     push-requires-2
+    enum-told-3
+    jump-requires
+    enum-told-4
+    fork-requires
+    enum-told-5
+    fork-requires-2
+    enum-told-6
     load-kind-requires
     push-requires-3
+    enum-told-7
     indexed-requires
+    enum-told-8
     unary-requires
+    enum-told-9
     binary-requires
-    jump-requires
-    fork-requires
+    enum-told-10
     returns
     returns-2
-    returns-3
-    returns-4
-    returns-5
-    returns-6
     same-length
     same-length-2
     same-length-3
-    returns-7
+    returns-3
     same-length-4
     same-length-5
     same-length-6
+    returns-4
+    same-length-7
+    same-length-8
+    same-length-9
+    returns-5
+    returns-6
+    returns-7
     returns-8
     returns-9
     returns-10)

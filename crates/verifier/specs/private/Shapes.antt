@@ -1,52 +1,21 @@
--- How the code has what the definitions speak of: an instruction as the number of its eight bytes; kinds in an array of 128 numbers of which the first count, 0 for
--- an integer, beside it the same as bits, and bits alone for a place that jumps go to. For the contracts of private functions, as Pass is; a reader believes Typing,
--- Accepts, Stack and Safety.
+-- How the code has what the definitions speak of: kinds in an array of 128 numbers of which the first count, 0 for an integer, beside it the same as bits, and bits
+-- alone for a place that jumps go to. For the contracts of private functions, as Pass is; a reader believes Typing, Accepts, Stack and Safety.
 use mathlib.Core.Path.{_≡_}
-use mathlib.Core.Bool.{Bool, false, _&&_, cond}
+use mathlib.Core.Bool.{cond}
 use mathlib.Core.List.{List, [], _∷_}
 use Prim.Native.Nat.{ℕ, zero, suc, _+_, _-_, _*_, _/_, _%_, _^_, _≤_, _<_}
-use lib.Dec.{eqb, ltb, leb}
+use lib.Dec.{ltb}
 use lib.ListN.{length, getD}
-use Rattle.values.specs.declared.Kind.{Kind}
-use Rattle.values.specs.declared.Kind.the-variants.{Int, Real}
-use Rattle.operators.specs.Kinds.{isInt, join}
-use Rattle.memory.specs.declared.Bank.the-variants.{X}
+pub use Rattle.operators.specs.Kinds.{numberKind, kindNumber}
+use Rattle.memory.specs.declared.numbers.BankOf.{BankOf}
+use Rattle.memory.specs.declared.numbers.BankOf.the-variants as BankOf
+use Rattle.memory.specs.Layout.{layoutOf}
 use Rattle.memory.specs.Cells.{bankKind}
-use Rattle.memory.specs.Numbers.{banks}
 use Rattle.code.specs.declared.Instr.{Instr}
-use Rattle.code.specs.Instructions.{instruction}
 use Rattle.verifier.specs.declared.packing.Held.{Held}
 use Rattle.verifier.specs.declared.typing.Flow.{Flow}
 use Rattle.verifier.specs.Typing.{Shape, Move, illTyped, next, pushKind, moveOf}
 pub use Rattle.verifier.specs.Verdicts.{State, rejected, unreached, holds}
-
--- ---- an instruction as a number: the opcode, behind it the operand with the two bytes that must be 0, and the word
-
-abbrev pub operandOf : ℕ → ℕ
-operandOf w = w / 256 % 16777216
-
-abbrev pub wordOf : ℕ → ℕ
-wordOf w = w / 4294967296
-
--- with the opcode o, or its own
-abbrev pub instrOf : ℕ → ℕ → Instr
-instrOf o w = instruction o (operandOf w) (wordOf w)
-
-abbrev pub instrBy : ℕ → Instr
-instrBy w = instrOf (w % 256) w
-
--- a jump of which m instructions follow stands
-abbrev pub staying : ℕ → ℕ → Bool
-staying m w = cond (eqb (operandOf w) 0) (leb (wordOf w) m) false
-
--- ---- kinds as numbers
-
-abbrev pub numberKind : ℕ → Kind
-numberKind n = cond (eqb n 0) Int Real
-
-abbrev pub kindNumber : Kind → ℕ
-kindNumber Int = 0
-kindNumber Real = 1
 
 -- ---- what an instruction leaves: the number of a kind, or more than 1 for nothing
 
@@ -55,19 +24,6 @@ leaving n s = cond (ltb n 2) (next (numberKind n ∷ s)) illTyped
 
 abbrev pub pushNumber : ℕ → Shape → Move
 pushNumber n s = cond (ltb n 2) (pushKind (numberKind n) s) illTyped
-
--- the kind k itself, and what two kinds can make
-pub record Itself (k n : ℕ) : Type 0 where
-  pub is : (s : Shape) → leaving n s ≡ next (numberKind k ∷ s)
-
-abbrev pub joint : Kind → Kind → Shape → Move
-joint j k s = next (join j k ∷ s)
-
-abbrev pub bothIntegers : Kind → Kind → Shape → Move
-bothIntegers j k s = cond (isInt j && isInt k) (next (Int ∷ s)) illTyped
-
-pub record Makes (f : Kind → Kind → Shape → Move) (j k n : ℕ) : Type 0 where
-  pub is : (s : Shape) → leaving n s ≡ f (numberKind j) (numberKind k) s
 
 -- an instruction that leaves it in the place of nothing, of a value of the kind k, or of two, j below k
 pub record LeavesKind (i : Instr) (n : ℕ) : Type 0 where
@@ -79,10 +35,10 @@ pub record ReplacesKind (i : Instr) (k n : ℕ) : Type 0 where
 pub record ReplacesTwo (i : Instr) (j k n : ℕ) : Type 0 where
   pub is : (s : Shape) → moveOf i (numberKind k ∷ (numberKind j ∷ s)) ≡ leaving n s
 
--- the kind of a bank by number
-pub data Banked (b : ℕ) : ℕ → Type 0 where
-  has : {n : ℕ} → b < 6 → n < 2 → numberKind n ≡ bankKind (getD banks b X) → Banked b n
-  lacks : 6 ≤ b → Banked b 2
+-- a load of an element leaves its bank's kind
+abbrev pub elementTyped : BankOf → ℕ → ℕ
+elementTyped (BankOf.Is b) i = cond (ltb i (layoutOf b .elements)) (kindNumber (bankKind b)) 2
+elementTyped BankOf.Nothing i = 2
 
 -- ---- kinds as numbers in the array, and as bits
 

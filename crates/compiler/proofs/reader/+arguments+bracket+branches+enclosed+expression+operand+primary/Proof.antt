@@ -17,7 +17,7 @@ use Rattle.compiler.proofs.reader.Binding.{stopped, met, unmet}
 use Rattle.compiler.proofs.reader.Steps.{being, as-done, moved, reached, enclosed-stopped, enclosed-closed, enclosed-open, shut-reads, full-reads, bracket-inside, primary-end, letter-stopped, letter-done, primary-name, primary-symbol, leaf-reads}
 use Rattle.compiler.proofs.reader.Signing.{Operand, operand-leaf, operand-stopped, operand-signed}
 use Rattle.compiler.proofs.reader.Climbing.{Climb, reserved-few, climb-stopped, climb-starts, loop-none, loop-loose, loop-operator, loop-stopped, loop-joined}
-use Rattle.compiler.proofs.reader.Calls.{branches-as, only-stopped, only-done, first-stopped, second-stopped, second-done, choice-reads, branch-stopped, other-stopped, other-done}
+use Rattle.compiler.proofs.reader.Calls.{one-argument, two-arguments, more-arguments, three-arguments, branches-as, only-stopped, only-done, first-stopped, second-stopped, second-done, choice-reads, branch-stopped, other-stopped, other-done}
 use Rattle.draft.proofs.results.Fields.{done-next}
 use borrow.Fn.Kinds.{In}
 use borrow.Fn.PlainCycle.{Measures, is, falls, and}
@@ -42,6 +42,7 @@ use Rattle.compiler.proofs.reader.+arguments+bracket+branches+enclosed+
 use Rattle.compiler.proofs.reader.primary.Reads as primary
 use Rattle.compiler.proofs.reader.primary.Kinds as primary-kinds
 use Rattle.compiler.proofs.reader.+arguments+bracket+branches+enclosed+expression+operand+primary.Lts-primary as primary-lts
+use Rattle.operators.proofs.functions.arity.Reads as arity-reads
 use Rattle.draft.proofs.ahead.expected.Reads as expected-reads
 use Rattle.draft.proofs.ahead.group_in.Reads as group-in-reads
 use Rattle.draft.proofs.ahead.is_leaf.Reads as is-leaf-reads
@@ -140,7 +141,7 @@ abbrev primary-below : ℕ → In 2 primary-kinds.ps
 primary-below t = and 2 primary-kinds.ps (falls 2 primary-kinds.ps _<_ μ-primary t) primary.Pre
 
 abbrev arguments-calls : ℕ → arguments-lts.Claims
-arguments-calls t = (expected-reads.Asked, expected-reads.Learnt, bad-reads.Asked, bad-reads.Learnt, deep-reads.Asked, deep-reads.Learnt, enclosed-below t, enclosed.Post, is-done-reads.Asked, is-done-reads.Learnt, applied-reads.Asked, applied-reads.Learnt, next-of-reads.Asked, next-of-reads.Learnt, end-of-reads.Asked, end-of-reads.Learnt, paired-reads.Asked, paired-reads.Learnt, branches-below t, branches.Post)
+arguments-calls t = (expected-reads.Asked, expected-reads.Learnt, bad-reads.Asked, bad-reads.Learnt, deep-reads.Asked, deep-reads.Learnt, arity-reads.Asked, arity-reads.Learnt, enclosed-below t, enclosed.Post, is-done-reads.Asked, is-done-reads.Learnt, applied-reads.Asked, applied-reads.Learnt, next-of-reads.Asked, next-of-reads.Learnt, end-of-reads.Asked, end-of-reads.Learnt, paired-reads.Asked, paired-reads.Learnt, branches-below t, branches.Post)
 
 abbrev bracket-calls : ℕ → bracket-lts.Claims
 bracket-calls t = (expected-reads.Asked, expected-reads.Learnt, bad-reads.Asked, bad-reads.Learnt, deep-reads.Asked, deep-reads.Learnt, enclosed-below t, enclosed.Post)
@@ -186,6 +187,9 @@ arguments-returns-2 t c =
     let s = c .before .before .before .before .before .before in
     λ p. being (c .deep .ensures) (full-reads (s .args .room) openParen (λ n e q. callBody (formOf (functionAt (s .args .f))) p (λ m z. argumentsOf n e m z) q) (s .pre .1 .0 .tokens) (s .pre .1 .0 .within) (met (c .before .before .before .expected .ensures) (c .before .before .if1 .left)) (c .before .if2 .taken))
 
+arguments-arity-requires : (t : ℕ) → arguments-lts.Need-arity-requires (arguments-calls t) (arguments-at t) arguments.Post
+arguments-arity-requires t c κs = search needs
+
 arguments-add-enclosed : (t : ℕ) → arguments-lts.Need-add-enclosed (arguments-calls t) (arguments-at t) arguments.Post
 arguments-add-enclosed t c = search needs
 
@@ -194,8 +198,8 @@ arguments-sub-enclosed t c = search needs
 
 arguments-enclosed-requires : (t : ℕ) → arguments-lts.Need-enclosed-requires (arguments-calls t) (arguments-at t) arguments.Post
 arguments-enclosed-requires t c κs =
-    let s = c .before .before .before .before .before .before .before in
-    let h = there openParen (s .args .table .now) (s .args .at) (s .pre .1 .0 .tokens) (met (c .before .before .before .before .expected .ensures) (c .before .before .before .if1 .left)) .splits .within in
+    let s = c .before .before .before .before .before .before .before .before in
+    let h = there openParen (s .args .table .now) (s .args .at) (s .pre .1 .0 .tokens) (met (c .before .before .before .before .before .expected .ensures) (c .before .before .before .before .if1 .left)) .splits .within in
     (omega (arith, s .pre .0), record { tokens = s .pre .1 .0 .tokens; small = s .pre .1 .0 .small; within = omega arith; room = omega (arith, s .pre .1 .0 .room) })
 
 arguments-is-done-requires : (t : ℕ) → arguments-lts.Need-is-done-requires (arguments-calls t) (arguments-at t) arguments.Post
@@ -206,22 +210,22 @@ arguments-same-length t c = search needs
 
 arguments-returns-3 : (t : ℕ) → arguments-lts.Need-returns-3 (arguments-calls t) (arguments-at t) arguments.Post
 arguments-returns-3 t c =
-    let s = c .before .before .before .before .before .before .before .before .before .before .before .before in
-    only-stopped (s .args .f) (s .args .room) (s .pre .1 .0 .tokens) (met (c .before .before .before .before .before .before .before .before .before .expected .ensures) (c .before .before .before .before .before .before .before .before .if1 .left)) (c .before .before .before .before .before .before .before .if2 .left) (c .before .before .before .before .before .before .if3 .taken) (c .before .before .before .before .enclosed .ensures) (stopped _ (unmet (c .before .is-done .ensures) (c .if4 .taken)))
+    let s = c .before .before .before .before .before .before .before .before .before .before .before .before .before in
+    only-stopped (s .args .f) (s .args .room) (s .pre .1 .0 .tokens) (met (c .before .before .before .before .before .before .before .before .before .before .expected .ensures) (c .before .before .before .before .before .before .before .before .before .if1 .left)) (c .before .before .before .before .before .before .before .before .if2 .left) (one-argument (s .args .f) (s .pre .1 .1) (sym (c .before .before .before .before .before .before .before .arity .ensures) ∙ c .before .before .before .before .before .before .if3 .taken)) (c .before .before .before .before .enclosed .ensures) (stopped _ (unmet (c .before .is-done .ensures) (c .if4 .taken)))
 
 arguments-applied-requires : (t : ℕ) → arguments-lts.Need-applied-requires (arguments-calls t) (arguments-at t) arguments.Post
 arguments-applied-requires t c κs =
-    let s = c .before .before .before .before .before .before .before .before .before .before .before .before .before in
+    let s = c .before .before .before .before .before .before .before .before .before .before .before .before .before .before in
     let b = reached (c .before .before .before .before .before .enclosed .result) (met (c .before .before .is-done .ensures) (c .before .if4 .left)) (c .before .before .before .before .before .enclosed .ensures .span) in
-    (c .before .before .before .before .before .before .before .if3 .taken, omega (arith, b .slack, b .within, s .pre .1 .0 .room))
+    (sym (c .before .before .before .before .before .before .before .before .arity .ensures) ∙ c .before .before .before .before .before .before .before .if3 .taken, omega (arith, b .slack, b .within, s .pre .1 .0 .room))
 
 arguments-same-length-2 : (t : ℕ) → arguments-lts.Need-same-length-2 (arguments-calls t) (arguments-at t) arguments.Post
 arguments-same-length-2 t c = search needs
 
 arguments-returns-4 : (t : ℕ) → arguments-lts.Need-returns-4 (arguments-calls t) (arguments-at t) arguments.Post
 arguments-returns-4 t c =
-    let s = c .before .before .before .before .before .before .before .before .before .before .before .before .before .before .before .before in
-    λ p. being (c .before .before .applied .ensures .0) (only-done (s .args .f) (s .args .room) (s .pre .1 .0 .tokens) (met (c .before .before .before .before .before .before .before .before .before .before .before .before .before .expected .ensures) (c .before .before .before .before .before .before .before .before .before .before .before .before .if1 .left)) (c .before .before .before .before .before .before .before .before .before .before .before .if2 .left) (c .before .before .before .before .before .before .before .before .before .before .if3 .taken) (as-done (c .before .before .before .before .before .before .before .before .enclosed .result) (met (c .before .before .before .before .before .is-done .ensures) (c .before .before .before .before .if4 .left)) (c .before .before .before .before .before .before .before .before .enclosed .ensures)) (c .before .before .applied .ensures .1) p)
+    let s = c .before .before .before .before .before .before .before .before .before .before .before .before .before .before .before .before .before in
+    λ p. being (c .before .before .applied .ensures .0) (only-done (s .args .f) (s .args .room) (s .pre .1 .0 .tokens) (met (c .before .before .before .before .before .before .before .before .before .before .before .before .before .before .expected .ensures) (c .before .before .before .before .before .before .before .before .before .before .before .before .before .if1 .left)) (c .before .before .before .before .before .before .before .before .before .before .before .before .if2 .left) (one-argument (s .args .f) (s .pre .1 .1) (sym (c .before .before .before .before .before .before .before .before .before .before .before .arity .ensures) ∙ c .before .before .before .before .before .before .before .before .before .before .if3 .taken)) (as-done (c .before .before .before .before .before .before .before .before .enclosed .result) (met (c .before .before .before .before .before .is-done .ensures) (c .before .before .before .before .if4 .left)) (c .before .before .before .before .before .before .before .before .enclosed .ensures)) (c .before .before .applied .ensures .1) p)
 
 arguments-add-enclosed-2 : (t : ℕ) → arguments-lts.Need-add-enclosed-2 (arguments-calls t) (arguments-at t) arguments.Post
 arguments-add-enclosed-2 t c = search needs
@@ -231,8 +235,8 @@ arguments-sub-enclosed-2 t c = search needs
 
 arguments-enclosed-requires-2 : (t : ℕ) → arguments-lts.Need-enclosed-requires-2 (arguments-calls t) (arguments-at t) arguments.Post
 arguments-enclosed-requires-2 t c κs =
-    let s = c .before .before .before .before .before .before .before in
-    let h = there openParen (s .args .table .now) (s .args .at) (s .pre .1 .0 .tokens) (met (c .before .before .before .before .expected .ensures) (c .before .before .before .if1 .left)) .splits .within in
+    let s = c .before .before .before .before .before .before .before .before in
+    let h = there openParen (s .args .table .now) (s .args .at) (s .pre .1 .0 .tokens) (met (c .before .before .before .before .before .expected .ensures) (c .before .before .before .before .if1 .left)) .splits .within in
     (omega (arith, s .pre .0), record { tokens = s .pre .1 .0 .tokens; small = s .pre .1 .0 .small; within = omega arith; room = omega (arith, s .pre .1 .0 .room) })
 
 arguments-is-done-requires-2 : (t : ℕ) → arguments-lts.Need-is-done-requires-2 (arguments-calls t) (arguments-at t) arguments.Post
@@ -243,8 +247,8 @@ arguments-same-length-3 t c = search needs
 
 arguments-returns-5 : (t : ℕ) → arguments-lts.Need-returns-5 (arguments-calls t) (arguments-at t) arguments.Post
 arguments-returns-5 t c =
-    let s = c .before .before .before .before .before .before .before .before .before .before .before .before in
-    first-stopped (s .args .f) (s .args .room) (s .pre .1 .0 .tokens) (met (c .before .before .before .before .before .before .before .before .before .expected .ensures) (c .before .before .before .before .before .before .before .before .if1 .left)) (c .before .before .before .before .before .before .before .if2 .left) (c .before .before .before .before .before .before .if3 .left) (s .pre .1 .1) (c .before .before .before .before .enclosed2 .ensures) (stopped _ (unmet (c .before .is-done2 .ensures) (c .if5 .taken)))
+    let s = c .before .before .before .before .before .before .before .before .before .before .before .before .before in
+    first-stopped (s .args .f) (s .args .room) (s .pre .1 .0 .tokens) (met (c .before .before .before .before .before .before .before .before .before .before .expected .ensures) (c .before .before .before .before .before .before .before .before .before .if1 .left)) (c .before .before .before .before .before .before .before .before .if2 .left) (more-arguments (s .args .f) (s .pre .1 .1) (λ e. c .before .before .before .before .before .before .if3 .left (c .before .before .before .before .before .before .before .arity .ensures ∙ e))) (s .pre .1 .1) (c .before .before .before .before .enclosed2 .ensures) (stopped _ (unmet (c .before .is-done2 .ensures) (c .if5 .taken)))
 
 arguments-next-of-requires : (t : ℕ) → arguments-lts.Need-next-of-requires (arguments-calls t) (arguments-at t) arguments.Post
 arguments-next-of-requires t c κs = search needs
@@ -257,8 +261,8 @@ arguments-sub-enclosed-3 t c = search needs
 
 arguments-enclosed-requires-3 : (t : ℕ) → arguments-lts.Need-enclosed-requires-3 (arguments-calls t) (arguments-at t) arguments.Post
 arguments-enclosed-requires-3 t c κs =
-    let s = c .before .before .before .before .before .before .before .before .before .before .before .before .before .before .before .before in
-    let h = there openParen (s .args .table .now) (s .args .at) (s .pre .1 .0 .tokens) (met (c .before .before .before .before .before .before .before .before .before .before .before .before .before .expected .ensures) (c .before .before .before .before .before .before .before .before .before .before .before .before .if1 .left)) .splits .within in
+    let s = c .before .before .before .before .before .before .before .before .before .before .before .before .before .before .before .before .before in
+    let h = there openParen (s .args .table .now) (s .args .at) (s .pre .1 .0 .tokens) (met (c .before .before .before .before .before .before .before .before .before .before .before .before .before .before .expected .ensures) (c .before .before .before .before .before .before .before .before .before .before .before .before .before .if1 .left)) .splits .within in
     let b = reached (c .before .before .before .before .before .before .before .before .enclosed2 .result) (met (c .before .before .before .before .before .is-done2 .ensures) (c .before .before .before .before .if5 .left)) (c .before .before .before .before .before .before .before .before .enclosed2 .ensures .span) in
     (omega (arith, s .pre .0, b .ahead, b .within, c .before .before .next-of .ensures .0), record { tokens = s .pre .1 .0 .tokens; small = s .pre .1 .0 .small; within = omega (arith, b .within, c .before .before .next-of .ensures .0); room = omega (arith, s .pre .1 .0 .room, b .slack, c .before .before .next-of .ensures .0, c .before .end-of .ensures .0) })
 
@@ -270,30 +274,30 @@ arguments-same-length-4 t c = search needs
 
 arguments-returns-6 : (t : ℕ) → arguments-lts.Need-returns-6 (arguments-calls t) (arguments-at t) arguments.Post
 arguments-returns-6 t c =
-    let s = c .before .before .before .before .before .before .before .before .before .before .before .before .before .before .before .before .before .before .before .before .before in
-    second-stopped (s .args .f) (s .args .room) (s .pre .1 .0 .tokens) (met (c .before .before .before .before .before .before .before .before .before .before .before .before .before .before .before .before .before .before .expected .ensures) (c .before .before .before .before .before .before .before .before .before .before .before .before .before .before .before .before .before .if1 .left)) (c .before .before .before .before .before .before .before .before .before .before .before .before .before .before .before .before .if2 .left) (as-done (c .before .before .before .before .before .before .before .before .before .before .before .before .before .enclosed2 .result) (met (c .before .before .before .before .before .before .before .before .before .before .is-done2 .ensures) (c .before .before .before .before .before .before .before .before .before .if5 .left)) (c .before .before .before .before .before .before .before .before .before .before .before .before .before .enclosed2 .ensures)) (c .before .before .before .before .before .before .before .before .before .before .before .before .before .before .before .if3 .left) (c .before .before .before .before .before .before .before .before .if6 .taken) (moved (c .before .before .before .before .before .before .before .next-of .ensures .0) (c .before .before .before .before .before .before .end-of .ensures .0) (c .before .before .before .before .enclosed3 .ensures)) (stopped _ (unmet (c .before .is-done3 .ensures) (c .if7 .taken)))
+    let s = c .before .before .before .before .before .before .before .before .before .before .before .before .before .before .before .before .before .before .before .before .before .before in
+    second-stopped (s .args .f) (s .args .room) (s .pre .1 .0 .tokens) (met (c .before .before .before .before .before .before .before .before .before .before .before .before .before .before .before .before .before .before .before .expected .ensures) (c .before .before .before .before .before .before .before .before .before .before .before .before .before .before .before .before .before .before .if1 .left)) (c .before .before .before .before .before .before .before .before .before .before .before .before .before .before .before .before .before .if2 .left) (as-done (c .before .before .before .before .before .before .before .before .before .before .before .before .before .enclosed2 .result) (met (c .before .before .before .before .before .before .before .before .before .before .is-done2 .ensures) (c .before .before .before .before .before .before .before .before .before .if5 .left)) (c .before .before .before .before .before .before .before .before .before .before .before .before .before .enclosed2 .ensures)) (two-arguments (s .args .f) (s .pre .1 .1) (sym (c .before .before .before .before .before .before .before .before .before .before .before .before .before .before .before .before .arity .ensures) ∙ c .before .before .before .before .before .before .before .before .if6 .taken) .0) (two-arguments (s .args .f) (s .pre .1 .1) (sym (c .before .before .before .before .before .before .before .before .before .before .before .before .before .before .before .before .arity .ensures) ∙ c .before .before .before .before .before .before .before .before .if6 .taken) .1) (moved (c .before .before .before .before .before .before .before .next-of .ensures .0) (c .before .before .before .before .before .before .end-of .ensures .0) (c .before .before .before .before .enclosed3 .ensures)) (stopped _ (unmet (c .before .is-done3 .ensures) (c .if7 .taken)))
 
 arguments-paired-requires : (t : ℕ) → arguments-lts.Need-paired-requires (arguments-calls t) (arguments-at t) arguments.Post
 arguments-paired-requires t c κs =
-    let s = c .before .before .before .before .before .before .before .before .before .before .before .before .before .before .before .before .before .before .before .before .before .before in
+    let s = c .before .before .before .before .before .before .before .before .before .before .before .before .before .before .before .before .before .before .before .before .before .before .before in
     let b = reached (c .before .before .before .before .before .before .before .before .before .before .before .before .before .before .enclosed2 .result) (met (c .before .before .before .before .before .before .before .before .before .before .before .is-done2 .ensures) (c .before .before .before .before .before .before .before .before .before .before .if5 .left)) (c .before .before .before .before .before .before .before .before .before .before .before .before .before .before .enclosed2 .ensures .span) in
     let d = reached (c .before .before .before .before .before .enclosed3 .result) (met (c .before .before .is-done3 .ensures) (c .before .if7 .left)) (c .before .before .before .before .before .enclosed3 .ensures .span) in
-    (c .before .before .before .before .before .before .before .before .before .before .before .before .before .before .before .before .if3 .left, c .before .before .before .before .before .before .before .before .before .if6 .taken, omega (arith, s .pre .1 .0 .room, b .slack, d .slack, d .within, c .before .before .before .before .before .before .before .before .next-of .ensures .0, c .before .before .before .before .before .before .before .end-of .ensures .0))
+    (sym (c .before .before .before .before .before .before .before .before .before .before .before .before .before .before .before .before .before .arity .ensures) ∙ c .before .before .before .before .before .before .before .before .before .if6 .taken, omega (arith, s .pre .1 .0 .room, b .slack, d .slack, d .within, c .before .before .before .before .before .before .before .before .next-of .ensures .0, c .before .before .before .before .before .before .before .end-of .ensures .0))
 
 arguments-same-length-5 : (t : ℕ) → arguments-lts.Need-same-length-5 (arguments-calls t) (arguments-at t) arguments.Post
 arguments-same-length-5 t c = search needs
 
 arguments-returns-7 : (t : ℕ) → arguments-lts.Need-returns-7 (arguments-calls t) (arguments-at t) arguments.Post
 arguments-returns-7 t c =
-    let s = c .before .before .before .before .before .before .before .before .before .before .before .before .before .before .before .before .before .before .before .before .before .before .before .before .before in
-    λ p. being (c .before .before .paired .ensures .0) (second-done (s .args .f) (s .args .room) (s .pre .1 .0 .tokens) (met (c .before .before .before .before .before .before .before .before .before .before .before .before .before .before .before .before .before .before .before .before .before .before .expected .ensures) (c .before .before .before .before .before .before .before .before .before .before .before .before .before .before .before .before .before .before .before .before .before .if1 .left)) (c .before .before .before .before .before .before .before .before .before .before .before .before .before .before .before .before .before .before .before .before .if2 .left) (as-done (c .before .before .before .before .before .before .before .before .before .before .before .before .before .before .before .before .before .enclosed2 .result) (met (c .before .before .before .before .before .before .before .before .before .before .before .before .before .before .is-done2 .ensures) (c .before .before .before .before .before .before .before .before .before .before .before .before .before .if5 .left)) (c .before .before .before .before .before .before .before .before .before .before .before .before .before .before .before .before .before .enclosed2 .ensures)) (c .before .before .before .before .before .before .before .before .before .before .before .before .before .before .before .before .before .before .before .if3 .left) (c .before .before .before .before .before .before .before .before .before .before .before .before .if6 .taken) (as-done (c .before .before .before .before .before .before .before .before .enclosed3 .result) (met (c .before .before .before .before .before .is-done3 .ensures) (c .before .before .before .before .if7 .left)) (moved (c .before .before .before .before .before .before .before .before .before .before .before .next-of .ensures .0) (c .before .before .before .before .before .before .before .before .before .before .end-of .ensures .0) (c .before .before .before .before .before .before .before .before .enclosed3 .ensures))) (c .before .before .paired .ensures .1) p)
+    let s = c .before .before .before .before .before .before .before .before .before .before .before .before .before .before .before .before .before .before .before .before .before .before .before .before .before .before in
+    λ p. being (c .before .before .paired .ensures .0) (second-done (s .args .f) (s .args .room) (s .pre .1 .0 .tokens) (met (c .before .before .before .before .before .before .before .before .before .before .before .before .before .before .before .before .before .before .before .before .before .before .before .expected .ensures) (c .before .before .before .before .before .before .before .before .before .before .before .before .before .before .before .before .before .before .before .before .before .before .if1 .left)) (c .before .before .before .before .before .before .before .before .before .before .before .before .before .before .before .before .before .before .before .before .before .if2 .left) (as-done (c .before .before .before .before .before .before .before .before .before .before .before .before .before .before .before .before .before .enclosed2 .result) (met (c .before .before .before .before .before .before .before .before .before .before .before .before .before .before .is-done2 .ensures) (c .before .before .before .before .before .before .before .before .before .before .before .before .before .if5 .left)) (c .before .before .before .before .before .before .before .before .before .before .before .before .before .before .before .before .before .enclosed2 .ensures)) (two-arguments (s .args .f) (s .pre .1 .1) (sym (c .before .before .before .before .before .before .before .before .before .before .before .before .before .before .before .before .before .before .before .before .arity .ensures) ∙ c .before .before .before .before .before .before .before .before .before .before .before .before .if6 .taken) .0) (two-arguments (s .args .f) (s .pre .1 .1) (sym (c .before .before .before .before .before .before .before .before .before .before .before .before .before .before .before .before .before .before .before .before .arity .ensures) ∙ c .before .before .before .before .before .before .before .before .before .before .before .before .if6 .taken) .1) (as-done (c .before .before .before .before .before .before .before .before .enclosed3 .result) (met (c .before .before .before .before .before .is-done3 .ensures) (c .before .before .before .before .if7 .left)) (moved (c .before .before .before .before .before .before .before .before .before .before .before .next-of .ensures .0) (c .before .before .before .before .before .before .before .before .before .before .end-of .ensures .0) (c .before .before .before .before .before .before .before .before .enclosed3 .ensures))) (c .before .before .paired .ensures .1) p)
 
 arguments-sub-branches : (t : ℕ) → arguments-lts.Need-sub-branches (arguments-calls t) (arguments-at t) arguments.Post
 arguments-sub-branches t c = search needs
 
 arguments-branches-requires : (t : ℕ) → arguments-lts.Need-branches-requires (arguments-calls t) (arguments-at t) arguments.Post
 arguments-branches-requires t c κs =
-    let s = c .before .before .before .before .before .before .before .before .before .before .before .before .before .before in
+    let s = c .before .before .before .before .before .before .before .before .before .before .before .before .before .before .before in
     let b = reached (c .before .before .before .before .before .before .enclosed2 .result) (met (c .before .before .before .is-done2 .ensures) (c .before .before .if5 .left)) (c .before .before .before .before .before .before .enclosed2 .ensures .span) in
     (omega (arith, s .pre .0, b .ahead, b .within), record { tokens = s .pre .1 .0 .tokens; small = s .pre .1 .0 .small; within = b .within; room = omega (arith, s .pre .1 .0 .room, b .slack) })
 
@@ -302,8 +306,8 @@ arguments-same-length-6 t c = search needs
 
 arguments-returns-8 : (t : ℕ) → arguments-lts.Need-returns-8 (arguments-calls t) (arguments-at t) arguments.Post
 arguments-returns-8 t c =
-    let s = c .before .before .before .before .before .before .before .before .before .before .before .before .before .before .before .before .before in
-    choice-reads (s .args .f) (s .args .room) (s .pre .1 .0 .tokens) (met (c .before .before .before .before .before .before .before .before .before .before .before .before .before .before .expected .ensures) (c .before .before .before .before .before .before .before .before .before .before .before .before .before .if1 .left)) (c .before .before .before .before .before .before .before .before .before .before .before .before .if2 .left) (c .before .before .before .before .before .before .before .before .before .enclosed2 .result) (omega (arith, s .pre .1 .1, c .before .before .before .before .if6 .left)) (as-done (c .before .before .before .before .before .before .before .before .before .enclosed2 .result) (met (c .before .before .before .before .before .before .is-done2 .ensures) (c .before .before .before .before .before .if5 .left)) (c .before .before .before .before .before .before .before .before .before .enclosed2 .ensures)) (c .before .before .branches .ensures)
+    let s = c .before .before .before .before .before .before .before .before .before .before .before .before .before .before .before .before .before .before in
+    choice-reads (s .args .f) (s .args .room) (s .pre .1 .0 .tokens) (met (c .before .before .before .before .before .before .before .before .before .before .before .before .before .before .before .expected .ensures) (c .before .before .before .before .before .before .before .before .before .before .before .before .before .before .if1 .left)) (c .before .before .before .before .before .before .before .before .before .before .before .before .before .if2 .left) (c .before .before .before .before .before .before .before .before .before .enclosed2 .result) (three-arguments (s .args .f) (s .pre .1 .1) (λ e. c .before .before .before .before .before .before .before .before .before .before .before .if3 .left (c .before .before .before .before .before .before .before .before .before .before .before .before .arity .ensures ∙ e)) (λ e. c .before .before .before .before .if6 .left (c .before .before .before .before .before .before .before .before .before .before .before .before .arity .ensures ∙ e))) (as-done (c .before .before .before .before .before .before .before .before .before .enclosed2 .result) (met (c .before .before .before .before .before .before .is-done2 .ensures) (c .before .before .before .before .before .if5 .left)) (c .before .before .before .before .before .before .before .before .before .enclosed2 .ensures)) (c .before .before .branches .ensures)
 
 bracket-expected-requires : (t : ℕ) → bracket-lts.Need-expected-requires (bracket-calls t) (bracket-at t) bracket.Post
 bracket-expected-requires t c κs = search needs
@@ -770,6 +774,7 @@ pub +arguments+bracket+branches+enclosed+expression+operand+primary-spec : {M : 
     (arguments-returns t)
     (arguments-deep-requires t)
     (arguments-returns-2 t)
+    (arguments-arity-requires t)
     (arguments-add-enclosed t)
     (arguments-sub-enclosed t)
     (arguments-enclosed-requires t)

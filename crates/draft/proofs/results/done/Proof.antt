@@ -1,6 +1,6 @@
 -- `results::done` meets its contract: the fields of the word are those that it was made of.
-use borrow.Author.Needs.{needs}
 use Rattle.draft.proofs.results.Fields.{packed-is}
+use borrow.Author.Needs.{needs}
 use Rattle.draft.proofs.results.done.Statement.{statement}
 use Rattle.draft.proofs.results.done.Tie as tie
 

@@ -1,23 +1,20 @@
--- `verifier::kinds::real_kind` meets its contract: an operand must be 0, and the pattern a finite single's.
+-- `verifier::kinds::real_kind` meets its contract: the pattern is a finite single's, or not.
 use borrow.Author.Needs.{needs}
-use Rattle.verifier.proofs.kinds.Classes.{real-not, real-infinite, real-is}
+use Rattle.verifier.proofs.kinds.Classes.{pushed-real, unpushed-real}
 use Rattle.verifier.proofs.kinds.real_kind.Statement.{statement}
 use Rattle.verifier.proofs.kinds.real_kind.Tie as tie
 
-operand-requires : tie.Need-operand-requires
-operand-requires c κs = search needs
+word-of-requires : tie.Need-word-of-requires
+word-of-requires c κs = search needs
+
+is-finite-single-requires : tie.Need-is-finite-single-requires
+is-finite-single-requires c κs = search needs
 
 returns : tie.Need-returns
-returns c = rw (← c .before .operand .ensures) (real-not _ _ (c .if1 .taken))
-
-word-requires : tie.Need-word-requires
-word-requires c κs = search needs
+returns c = pushed-real _ (c .before .before .word-of .ensures) (c .before .is-finite-single .ensures) (c .if1 .taken)
 
 returns-2 : tie.Need-returns-2
-returns-2 c = rw (← c .before .before .before .operand .ensures, ← c .before .word .ensures) (real-infinite _ _ (c .before .before .if1 .left) (c .if2 .taken))
-
-returns-3 : tie.Need-returns-3
-returns-3 c = rw (← c .before .before .before .operand .ensures, ← c .before .word .ensures) (real-is _ _ (c .before .before .if1 .left) (c .if2 .left))
+returns-2 c = unpushed-real _ (c .before .before .word-of .ensures) (c .before .is-finite-single .ensures) (c .if1 .left)
 
 pub real-kind-spec : {M : Type 1} → statement M
-real-kind-spec = tie.close (tie.spec operand-requires returns word-requires returns-2 returns-3)
+real-kind-spec = tie.close (tie.spec word-of-requires is-finite-single-requires returns returns-2)

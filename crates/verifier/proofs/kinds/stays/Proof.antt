@@ -1,20 +1,18 @@
--- `verifier::kinds::stays` meets its contract: an operand must be 0, and the distance within what follows.
+-- `verifier::kinds::stays` meets its contract.
+use mathlib.Core.Path.{ap}
+use lib.Dec.{leb}
 use borrow.Author.Needs.{needs}
-use borrow.Author.Tests.{ne-eqb}
 use Rattle.verifier.proofs.kinds.stays.Statement.{statement}
 use Rattle.verifier.proofs.kinds.stays.Tie as tie
 
-operand-requires : tie.Need-operand-requires
-operand-requires c κs = search needs
+word-of-requires : tie.Need-word-of-requires
+word-of-requires c κs = search needs
+
+cast-result : tie.Need-cast-result
+cast-result c = search needs
 
 returns : tie.Need-returns
-returns c = rw (← c .before .operand .ensures, ne-eqb _ 0 (c .if1 .taken))
-
-word-requires : tie.Need-word-requires
-word-requires c κs = search needs
-
-returns-2 : tie.Need-returns-2
-returns-2 c = rw (← c .before .before .operand .ensures, ← c .word .ensures, c .before .if1 .left)
+returns c = ap (λ d. leb d (c .before .args .left)) (c .word-of .ensures)
 
 pub stays-spec : {M : Type 1} → statement M
-stays-spec = tie.close (tie.spec operand-requires returns word-requires returns-2)
+stays-spec = tie.close (tie.spec word-of-requires cast-result returns)

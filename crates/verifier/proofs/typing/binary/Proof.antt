@@ -6,7 +6,7 @@ use Rattle.verifier.proofs.typing.binary.Statement.{statement}
 use Rattle.verifier.proofs.typing.binary.Tie as tie
 
 returns : tie.Need-returns
-returns c = short (c .before .pre) (binary-short _ _ _ (c .if1 .taken))
+returns c = short (c .before .pre) (binary-short (c .before .args .held) (c .before .args .w) (c .if1 .taken))
 
 element-copy-out-binary-kind : tie.Need-element-copy-out-binary-kind
 element-copy-out-binary-kind c = search needs
@@ -24,10 +24,17 @@ popped-requires : tie.Need-popped-requires
 popped-requires c κs = search needs
 
 replace-requires : tie.Need-replace-requires
-replace-requires c κs = (keeps-popped (c .before .before .before .before .before .before .pre) (omega arith) (c .popped .ensures), omega (arith, c .popped .ensures .height))
+replace-requires c κs =
+    let start = c .before .before .before .before .before .before in
+    (keeps-popped (start .pre) (omega arith) (c .popped .ensures), omega (arith, c .popped .ensures .height))
 
 returns-2 : tie.Need-returns-2
-returns-2 c = taken-two (c .before .before .before .before .before .before .before .pre) (omega arith) (c .before .popped .ensures) (c .before .before .before .binary-kind .ensures) (c .replace .ensures)
+returns-2 c =
+    let at-popped = c .before in
+    let at-binary-kind = at-popped .before .before in
+    let start = at-binary-kind .before .before .before .before in
+    taken-two (start .pre) (omega arith) (at-popped .popped .ensures) (at-binary-kind .binary-kind .ensures)
+    (c .replace .ensures)
 
 pub binary-spec : {M : Type 1} → statement M
 binary-spec =

@@ -6,7 +6,7 @@ use Rattle.verifier.proofs.typing.indexed.Statement.{statement}
 use Rattle.verifier.proofs.typing.indexed.Tie as tie
 
 returns : tie.Need-returns
-returns c = short (c .before .before .pre) (indexed-short _ _ _ (c .if1 .taken))
+returns c = short (c .before .before .pre) (indexed-short (c .before .before .args .held) (c .before .before .args .w) (c .if1 .taken))
 
 indexed-kind-requires : tie.Need-indexed-kind-requires
 indexed-kind-requires c κs = search needs

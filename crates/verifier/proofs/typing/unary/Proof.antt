@@ -6,7 +6,7 @@ use Rattle.verifier.proofs.typing.unary.Statement.{statement}
 use Rattle.verifier.proofs.typing.unary.Tie as tie
 
 returns : tie.Need-returns
-returns c = short (c .before .pre) (unary-short _ _ _ (c .if1 .taken))
+returns c = short (c .before .pre) (unary-short (c .before .args .held) (c .before .args .w) (c .if1 .taken))
 
 element-copy-out-k : tie.Need-element-copy-out-k
 element-copy-out-k c = search needs

@@ -1,0 +1,84 @@
+-- What is told of an operator, a bank or a function by its number, where the number is one.
+use mathlib.Core.Path.{_≡_, refl}
+use mathlib.Core.List.{List, [], _∷_}
+use Prim.Native.Nat.{ℕ, zero, suc, _%_, _<_}
+use native.Mathlib.Nat.{not-suc-le-zero, le-of-suc-le-suc}
+use native.Mathlib.Omega.{arith}
+use lib.Dec.{ltb, lit<}
+use lib.ListN.{length, getD}
+use borrow.Author.Tests.{lt-ltb}
+use Rattle.reals.specs.declared.ArithOp.the-variants.{Add, Sub, Mul, Div, Rem}
+use Rattle.values.specs.declared.Kind.{Kind}
+use Rattle.values.specs.declared.Kind.the-variants.{Int, Real}
+use Rattle.values.specs.declared.BitOp.the-variants.{And, Or, Xor}
+use Rattle.values.specs.declared.ShiftOp.the-variants.{Left, Right, RightZero}
+use Rattle.values.specs.declared.CompareOp.the-variants.{Lt, Gt, Le, Ge, Eq, Ne}
+use Rattle.values.specs.declared.ChoiceOp.the-variants.{Max, Min}
+use Rattle.operators.specs.declared.UnaryOp.{UnaryOp}
+use Rattle.operators.specs.declared.UnaryOp.the-variants as U
+use Rattle.operators.specs.declared.BinaryOp.{BinaryOp}
+use Rattle.operators.specs.declared.BinaryOp.the-variants as B
+use Rattle.operators.specs.Tables.{binaryOps, unaryNumber, binaryNumber, unaryOf, binaryOf}
+use Rattle.operators.specs.Kinds.{join, numberKind, kindNumber, unaryKind, unaryTakes, binaryKind, binaryTakes, unaryTyped, binaryTyped}
+use Rattle.operators.specs.Functions.{Call, unary, binary, branch, none, callOf, callArity, callOperator, functionArity, functionOperator}
+use Rattle.operators.proofs.Typed.{kind-small, typed-taken, typed-kind}
+use Rattle.memory.specs.Cells.{bankKind}
+use Rattle.memory.specs.Numbers.{bankNumbered, bankTyped}
+use Rattle.draft.specs.private.Words.{unaryAt, binaryAt, bankAt}
+
+pub number-kind : (k : Kind) → numberKind (kindNumber k) ≡ k
+number-kind Int = refl
+number-kind Real = refl
+
+pub joined-kind : {a b j k : Kind} {r : ℕ} → a ≡ j → b ≡ k → r ≡ kindNumber (join a b) → (numberKind r ≡ join j k) × (r < 2)
+joined-kind {j = j} {k} d e q = rw (q, d, e) (number-kind (join j k), kind-small (join j k))
+
+pub bank-kind : (n : ℕ) → n < 6 → {m r : ℕ} → m ≡ n → r ≡ bankTyped (bankNumbered m) → (numberKind r ≡ bankKind (bankAt n)) × (r < 2)
+bank-kind n h e q = rw (q, e, lt-ltb n 6 h) (number-kind (bankKind (bankAt n)), kind-small (bankKind (bankAt n)))
+
+-- ---- what operators make of kinds
+pub unary-typed : (n : ℕ) → n < 8 → {m r : ℕ} {j k : Kind} → m ≡ n → j ≡ k → r ≡ unaryTyped (unaryOf m) j → (ltb r 2 ≡ unaryTakes (unaryAt n) k) × (numberKind (r % 2) ≡ unaryKind (unaryAt n) k)
+unary-typed n h {k = k} e d q =
+    let o = unaryAt n in
+    rw (q, e, d, lt-ltb n 8 h) (typed-taken (unaryTakes o k) (unaryKind o k), typed-kind (unaryTakes o k) (unaryKind o k))
+
+same-default : {A : Type 0} (l : List A) (d e : A) (n : ℕ) → n < length l → getD l n d ≡ getD l n e
+same-default [] d e n h = absurd (not-suc-le-zero h)
+same-default (a ∷ l) d e zero h = refl
+same-default (a ∷ l) d e (suc n) h = same-default l d e n (le-of-suc-le-suc h)
+
+pub binary-typed : (n : ℕ) → n < 20 → {m r : ℕ} {i j k l : Kind} → m ≡ n → i ≡ k → j ≡ l → r ≡ binaryTyped (binaryOf m) i j
+    → (ltb r 2 ≡ binaryTakes (binaryAt n) k l) × (numberKind (r % 2) ≡ binaryKind (binaryAt n) k l)
+binary-typed n h {k = k} {l} e d b q =
+    let o = binaryAt n in
+    rw (q, e, d, b, lt-ltb n 20 h, same-default binaryOps (B.Arith Add) B.Power n h) (typed-taken (binaryTakes o k l) (binaryKind o k l), typed-kind (binaryTakes o k l) (binaryKind o k l))
+
+-- ---- the operators of functions
+unary-below : (o : UnaryOp) → unaryNumber o < 8
+unary-below o = elim o [ U.Neg ↦ lit< tt | U.Complement ↦ lit< tt | U.Not ↦ lit< tt | U.Abs ↦ lit< tt | U.ToReal ↦ lit< tt | U.Trunc ↦ lit< tt | U.Round ↦ lit< tt | U.Frac ↦ lit< tt ]
+
+binary-below : (o : BinaryOp) → binaryNumber o < 20
+binary-below B.Power = lit< tt
+binary-below (B.Arith o) = elim o [ Add ↦ lit< tt | Sub ↦ lit< tt | Mul ↦ lit< tt | Div ↦ lit< tt | Rem ↦ lit< tt ]
+binary-below (B.Shift o) = elim o [ Left ↦ lit< tt | Right ↦ lit< tt | RightZero ↦ lit< tt ]
+binary-below (B.Compare o) = elim o [ Lt ↦ lit< tt | Gt ↦ lit< tt | Le ↦ lit< tt | Ge ↦ lit< tt | Eq ↦ lit< tt | Ne ↦ lit< tt ]
+binary-below (B.Bits o) = elim o [ And ↦ lit< tt | Or ↦ lit< tt | Xor ↦ lit< tt ]
+binary-below (B.Choice o) = elim o [ Max ↦ lit< tt | Min ↦ lit< tt ]
+
+one-operator : (c : Call) → callArity c ≡ 1 → callOperator c < 8
+one-operator (unary o) e = unary-below o
+one-operator (binary o) e = absurd (omega arith)
+one-operator branch e = absurd (omega arith)
+one-operator none e = absurd (omega arith)
+
+two-operator : (c : Call) → callArity c ≡ 2 → callOperator c < 20
+two-operator (unary o) e = absurd (omega arith)
+two-operator (binary o) e = binary-below o
+two-operator branch e = absurd (omega arith)
+two-operator none e = absurd (omega arith)
+
+pub unary-function : (f : ℕ) → functionArity f ≡ 1 → functionOperator f < 8
+unary-function f e = one-operator (callOf f) e
+
+pub binary-function : (f : ℕ) → functionArity f ≡ 2 → functionOperator f < 20
+binary-function f e = two-operator (callOf f) e

@@ -1,0 +1,13 @@
+-- `operators::kinds::kind` meets its contract.
+use borrow.Author.Tests.{ne-eqb}
+use Rattle.operators.proofs.kinds.kind.Statement.{statement}
+use Rattle.operators.proofs.kinds.kind.Tie as tie
+
+returns : tie.Need-returns
+returns c = rw (c .if1 .taken)
+
+returns-2 : tie.Need-returns-2
+returns-2 c = rw (ne-eqb _ 0 (c .if1 .left))
+
+pub kind-spec : {M : Type 1} → statement M
+kind-spec = tie.close (tie.spec returns returns-2)
