@@ -31,7 +31,9 @@ pub enum Token {
     End,
 }
 
-const TENS: [f32; 7] = [1.0, 10.0, 100.0, 1000.0, 10000.0, 100000.0, 1000000.0];
+const MOST_DIGITS: usize = 9;
+const MOST_EXPONENT: i32 = 20;
+const TENS: [f32; 11] = [1.0, 1e1, 1e2, 1e3, 1e4, 1e5, 1e6, 1e7, 1e8, 1e9, 1e10];
 
 pub fn kind_of(bank: u8) -> Kind {
     if bank == REAL_BANK {
@@ -61,7 +63,7 @@ pub fn word(run: &[u8]) -> Option<Token> {
     Some(Token::Cell(bank, element(bank, &run[1..])?))
 }
 
-/// The token of a run of letters, digits and dots that starts with a digit.
+/// The token of a numeral: digits, a real, or hexadecimal digits behind `0x`.
 pub fn numeral(run: &[u8]) -> Result<Token, u32> {
     let mut n: u64 = 0;
     let mut dot = None;
@@ -71,7 +73,7 @@ pub fn numeral(run: &[u8]) -> Result<Token, u32> {
         } else if b == b'.' && dot.is_none() {
             dot = Some(i);
         } else {
-            return hexadecimal(run);
+            return if b == b'E' { exponent(run, i, dot, n) } else { hexadecimal(run) };
         }
     }
     let Some(d) = dot else {
@@ -81,11 +83,45 @@ pub fn numeral(run: &[u8]) -> Result<Token, u32> {
     if places == 0 {
         return Err(4);
     }
-    if run.len() > 8 {
+    if run.len() > MOST_DIGITS + 1 {
         return Err(5);
     }
-    // both are exact, so that one division rounds to the nearest
-    Ok(Token::Number(Kind::Real, (n as f32 / TENS[places]).to_bits()))
+    Ok(real(run, n, -(places as i32)))
+}
+
+/// A real literal with an `E` at e, after a mantissa that makes n.
+fn exponent(run: &[u8], e: usize, dot: Option<usize>, n: u64) -> Result<Token, u32> {
+    let places = dot.map_or(0, |d| e - d - 1);
+    let (negative, digits) = match run.get(e + 1) {
+        Some(b'-') => (true, &run[e + 2..]),
+        Some(b'+') => (false, &run[e + 2..]),
+        _ => (false, &run[e + 1..]),
+    };
+    if dot == Some(e - 1) || digits.is_empty() || !digits.iter().all(u8::is_ascii_digit) {
+        return Err(4);
+    }
+    let size = digits.iter().fold(0, |m, b| (10 * m + (b - b'0') as i32).min(MOST_EXPONENT + 1));
+    if e - dot.is_some() as usize > MOST_DIGITS || size > MOST_EXPONENT {
+        return Err(5);
+    }
+    Ok(real(run, n, if negative { -size } else { size } - places as i32))
+}
+
+/// n * 10^scale, which the run spells.
+fn real(run: &[u8], n: u64, scale: i32) -> Token {
+    let x: f32 = if n <= 1 << 24 && scale.abs() <= 10 {
+        // both are exact, so that one operation rounds to the nearest
+        if scale < 0 { n as f32 / TENS[-scale as usize] } else { n as f32 * TENS[scale as usize] }
+    } else {
+        std::str::from_utf8(run).unwrap().parse().unwrap()
+    };
+    Token::Number(Kind::Real, x.to_bits())
+}
+
+/// Digits, or digits, a dot and digits.
+fn is_mantissa(run: &[u8]) -> bool {
+    let mut parts = run.splitn(2, |b| *b == b'.');
+    parts.all(|p| !p.is_empty() && p.iter().all(u8::is_ascii_digit))
 }
 
 fn hexadecimal(run: &[u8]) -> Result<Token, u32> {
@@ -206,8 +242,16 @@ impl Scanner<'_> {
         let text = self.text;
         let number = text[at].is_ascii_digit();
         let mut end = at + 1;
-        while end < text.len() && (text[end].is_ascii_alphanumeric() || number && text[end] == b'.') {
+        let belongs = |b: u8| b.is_ascii_alphanumeric() || number && b == b'.';
+        while end < text.len() && belongs(text[end]) {
             end += 1;
+        }
+        let signed = end < text.len() && matches!(text[end], b'+' | b'-') && text[end - 1] == b'E';
+        if number && signed && is_mantissa(&text[at..end - 1]) {
+            end += 1;
+            while end < text.len() && belongs(text[end]) {
+                end += 1;
+            }
         }
         self.end = end;
         let run = &text[at..end];

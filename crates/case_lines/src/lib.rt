@@ -32,7 +32,7 @@ pub fn put_decimal(line: &mut [u8; 512], at: usize, n: u64) -> usize {
 }
 
 // Eight digits.
-fn put_hex(line: &mut [u8; 512], at: usize, n: u32) -> usize {
+pub fn put_hex(line: &mut [u8; 512], at: usize, n: u32) -> usize {
     if 504 < at {
         return at;
     }

@@ -4,25 +4,26 @@ use mathlib.Core.Bool.{Bool, true, false, cond, _&&_, false≢true}
 use mathlib.Core.List.{List, [], _∷_}
 use Prim.Native.Nat.{ℕ, suc, _+_, _≤_, _<_}
 use native.Mathlib.Omega.{arith}
-use lib.Dec.{eqb, leb}
+use lib.Dec.{eqb}
 use lib.ListN.{length, take, drop, length-take}
 use Rattle.values.specs.declared.Value.{Value}
 use Rattle.memory.specs.declared.names.Letter.{Letter as BankLetter}
 use Rattle.memory.specs.declared.names.Letter.the-variants as L
 use Rattle.memory.specs.declared.names.Named.{Named}
 use Rattle.memory.specs.declared.names.Named.the-variants as A
-use Rattle.memory.specs.Names.{isDigit, decimalValue, letterBank, namedRule}
+use Rattle.memory.specs.Names.{isDigit, letterBank, namedRule}
 use Rattle.tokens.specs.declared.Function.{Function}
 use Rattle.tokens.specs.declared.Token.{Token}
 use Rattle.tokens.specs.declared.Token.the-variants.{Number}
 use Rattle.tokens.specs.declared.Scanned.{Scanned}
 use Rattle.tokens.specs.declared.Scanned.the-variants.{Good, Bad}
-use Rattle.tokens.specs.Bytes.{all, isLetter, isWord, isRun, runLen, isHex}
+use Rattle.tokens.specs.Bytes.{isLetter, isWord, runLen}
 use Rattle.tokens.specs.Symbols.{equalBytes, symbolCount, longest}
-use Rattle.tokens.specs.Numerals.{nonEmpty, decimalDigits, hexOf, isHexRun, notDot, realOf, numeralOf}
+use Rattle.tokens.specs.Numerals.{numeralOf, numeralLen}
 use Rattle.tokens.specs.Words.{nameOf, functionNamed, functions, letterWord, cellWord, otherWord, wordToken}
-use Rattle.tokens.specs.Scan.{Lexeme, Found, Wrong, End, lexeme, runLexeme, lexemeOf, blanks, lexemeAt}
+use Rattle.tokens.specs.Scan.{Lexeme, Found, Wrong, End, lexeme, runLexeme, numeralLexeme, lexemeOf, blanks, lexemeAt}
 use Rattle.tokens.proofs.Laws.{found}
+use Rattle.tokens.proofs.numerals.Values.{NumberOrRefused, number, refused, number-or-refused}
 use Rattle.tree_code.specs.Demand.{bytesOfToken}
 
 -- n bytes, if they are any, have room for what they are judged to be
@@ -53,16 +54,12 @@ module _ (n : ℕ) where
   a-number : {v : Value} → Room n (Good (Number v))
   a-number = good (λ h. h)
 
-  a-hex : (cs : List ℕ) → Room n (hexOf cs)
-  a-hex cs = either (nonEmpty cs && all isHex cs) (either (leb (length cs) 8) a-number bad) bad
-
-  a-real : (cs ds : List ℕ) → Room n (realOf cs ds)
-  a-real cs ds = either (decimalDigits cs && decimalDigits ds) (either (leb (length cs + length ds) 7) a-number bad) bad
+  of-numeral : {r : Scanned} → NumberOrRefused r → Room n r
+  of-numeral (number v) = a-number
+  of-numeral (refused a l h) = bad
 
   a-numeral : (cs : List ℕ) → Room n (numeralOf cs)
-  a-numeral cs =
-      either (decimalDigits cs) (either (leb (decimalValue cs) 2147483647) a-number bad)
-      (either (isHexRun cs) (a-hex (drop 2 cs)) (a-real (take (runLen notDot cs) cs) (drop (suc (runLen notDot cs)) cs)))
+  a-numeral cs = of-numeral (number-or-refused cs)
 
   -- ---- words
   a-letter : (l : BankLetter) → Room n (letterWord l)
@@ -102,11 +99,14 @@ run test f room cs p =
     let n = runLen test cs in
     judged p n (room n (take n cs) (rw length-take (omega arith)))
 
+a-run : (cs : List ℕ) (p : ℕ) → Takes (numeralLexeme cs p)
+a-run cs p = judged p (numeralLen cs) (a-numeral (numeralLen cs) (take (numeralLen cs) cs))
+
 takes : (cs : List ℕ) (p : ℕ) → Takes (lexemeOf cs p)
 unfolding lexemeOf
 takes [] p = end
 takes (c ∷ cs) p =
-    when Takes (isDigit c) (λ d. run isRun numeralOf (λ n ds l. a-numeral n ds) (c ∷ cs) p)
+    when Takes (isDigit c) (λ d. a-run (c ∷ cs) p)
     (when Takes (isLetter c) (λ d. run isWord wordToken a-word (c ∷ cs) p)
     (when Takes (eqb (longest (c ∷ cs)) symbolCount) (λ e. wrong) (token _ p _ (λ l. omega arith))))
 

@@ -84,7 +84,7 @@ fn scanned_form(s: Scanned) -> Form
     }
 }
 
-// `0x` and eight digits, read as a formula's numeral is.
+// `0x` and eight digits, read as a formula's are.
 fn hexadecimal(text: &[u8]) -> Form
     ensures { λ r. ⌜ r ≡ hexForm (now (text .entry)) ⌝ }
 {
@@ -97,7 +97,7 @@ fn hexadecimal(text: &[u8]) -> Form
     if text[1] != b'x' {
         return Form::Other;
     }
-    scanned_form(tokens::numerals::numeral(text))
+    scanned_form(tokens::numerals::hexadecimal(&text[2..]))
 }
 
 pub fn pattern_of(bank: Bank, text: &[u8]) -> Form

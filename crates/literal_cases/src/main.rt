@@ -4,16 +4,10 @@
 // One digit; a tie between two singles, and twice it; and the most nines of a mantissa.
 const MANTISSAS: [u32; 5] = [1, 9, 16777217, 33554434, 999999999];
 
-const DIGITS: [u8; 16] = *b"0123456789ABCDEF";
-
 // A space, and the pattern at a scale.
 fn put_pattern(line: &mut [u8; 512], at: usize, n: u32, scale: i32) -> usize {
-    let pattern = literals::pattern(n, scale);
-    let mut end = case_lines::put(line, at, b' ');
-    for k in 0usize..8 {
-        end = case_lines::put(line, end, DIGITS[((pattern >> (28 - 4 * k)) % 16) as usize]);
-    }
-    end
+    let end = case_lines::put(line, at, b' ');
+    case_lines::put_hex(line, end, literals::pattern(n, scale))
 }
 
 fn scales(n: u32) {

@@ -1,11 +1,11 @@
 -- The refusals of a text are 3 to 9: bytes that are no token are 4, 5 or 6. A fault's number is 11 to 14, and its own.
 use mathlib.Core.Path.{_≡_, refl, sym, ap, _∙_}
 use mathlib.Core.Logic.{_⊎_, ⊎-elim}
-use mathlib.Core.Bool.{Bool, true, false, _&&_, cond}
+use mathlib.Core.Bool.{Bool, true, false, cond}
 use mathlib.Core.List.{List, [], _∷_}
 use Prim.Native.Nat.{ℕ, zero, suc, _+_, _≤_}
 use native.Mathlib.Omega.{arith}
-use lib.Dec.{eqb, leb}
+use lib.Dec.{eqb}
 use lib.ListN.{length, take, drop}
 use Rattle.values.specs.declared.Fault.{Fault}
 use Rattle.values.specs.declared.Fault.the-variants.{DividedByZero, Overflow, OutOfRange, IndexError}
@@ -14,16 +14,18 @@ use Rattle.memory.specs.declared.names.Letter.{Letter}
 use Rattle.memory.specs.declared.names.Letter.the-variants as L
 use Rattle.memory.specs.declared.names.Named.{Named}
 use Rattle.memory.specs.declared.names.Named.the-variants as A
-use Rattle.memory.specs.Names.{isDigit, decimalValue, letterBank, namedRule}
+use Rattle.memory.specs.Names.{isDigit, letterBank, namedRule}
 use Rattle.tokens.specs.declared.Function.{Function}
 use Rattle.tokens.specs.declared.Token.{Token}
 use Rattle.tokens.specs.declared.Scanned.{Scanned}
 use Rattle.tokens.specs.declared.Scanned.the-variants.{Good, Bad}
-use Rattle.tokens.specs.Bytes.{all, isLetter, isWord, isRun, runLen, isHex}
+use Rattle.tokens.specs.Bytes.{isLetter, isWord, runLen}
 use Rattle.tokens.specs.Symbols.{equalBytes, symbolCount, longest}
-use Rattle.tokens.specs.Numerals.{nonEmpty, decimalDigits, isHexRun, hexOf, notDot, realOf, numeralOf}
+use Rattle.tokens.specs.Numerals.{numeralOf, numeralLen}
 use Rattle.tokens.specs.Words.{nameOf, functionNamed, functions, letterWord, cellWord, otherWord, wordToken}
 use Rattle.tokens.specs.Scan.{Lexeme, Found, Wrong, End, lexeme, lexemeOf, blanks, lexemeAt, Tok, Scan, tokens, wrong, consToken, scanFrom, scan}
+use Rattle.tokens.proofs.numerals.Values.{NumberOrRefused, number-or-refused}
+use Rattle.tokens.proofs.numerals.Values as Values
 use Rattle.grammar.specs.Tree.{Tree}
 use Rattle.text.specs.Judge.{Judgement, accepted, refused}
 use Rattle.text.specs.Theorems as Text
@@ -44,25 +46,15 @@ data Marked : Scanned → Type 0 where
   good : {t : Token} → Marked (Good t)
   bad : (a : ℕ) → Bound a → Marked (Bad a)
 
-four : Marked (Bad 4)
-four = bad 4 (omega arith, omega arith)
-
-five : Marked (Bad 5)
-five = bad 5 (omega arith, omega arith)
-
 six : Marked (Bad 6)
 six = bad 6 (omega arith, omega arith)
 
-hex : (cs : List ℕ) → Marked (hexOf cs)
-hex cs = either Marked (nonEmpty cs && all isHex cs) (either Marked (leb (length cs) 8) good five) four
-
-real : (whole part : List ℕ) → Marked (realOf whole part)
-real whole part = either Marked (decimalDigits whole && decimalDigits part) (either Marked (leb (length whole + length part) 7) good five) four
+of-numeral : {x : Scanned} → NumberOrRefused x → Marked x
+of-numeral (Values.number v) = good
+of-numeral (Values.refused a l h) = bad a (l, omega arith)
 
 numeral : (cs : List ℕ) → Marked (numeralOf cs)
-numeral cs =
-    either Marked (decimalDigits cs) (either Marked (leb (decimalValue cs) 2147483647) good five)
-    (either Marked (isHexRun cs) (hex (drop 2 cs)) (real (take (runLen notDot cs) cs) (drop (suc (runLen notDot cs)) cs)))
+numeral cs = of-numeral (number-or-refused cs)
 
 letter : (l : Letter) → Marked (letterWord l)
 letter (L.Of b) = good
@@ -99,7 +91,7 @@ lexemes : (cs : List ℕ) (p : ℕ) → Told (lexemeOf cs p)
 unfolding lexemeOf
 lexemes [] p = end
 lexemes (c ∷ cs) p =
-    either Told (isDigit c) (told p _ (numeral (take (runLen isRun (c ∷ cs)) (c ∷ cs))))
+    either Told (isDigit c) (told p _ (numeral (take (numeralLen (c ∷ cs)) (c ∷ cs))))
     (either Told (isLetter c) (told p _ (word (take (runLen isWord (c ∷ cs)) (c ∷ cs))))
     (either Told (eqb (longest (c ∷ cs)) symbolCount) (wrong-at 4 p (omega arith, omega arith)) found))
 

@@ -9,15 +9,14 @@ use lib.Seq.{drop-cons}
 use Rattle.memory.specs.Names.{isDigit}
 use Rattle.tokens.specs.declared.Scanned.{Scanned}
 use Rattle.tokens.specs.declared.Scanned.the-variants.{Good, Bad}
-use Rattle.tokens.specs.Bytes.{isLetter, isWord, isRun, runLen}
+use Rattle.tokens.specs.Bytes.{isLetter, isWord, runLen}
 use Rattle.tokens.specs.Symbols.{longest}
-use Rattle.tokens.specs.Numerals.{numeralOf}
 use Rattle.tokens.specs.Words.{wordToken}
-use Rattle.tokens.specs.Scan.{Lexeme, lexeme, runLexeme, symbolLexeme, lexemeOf}
+use Rattle.tokens.specs.Scan.{Lexeme, lexeme, runLexeme, numeralLexeme, symbolLexeme, lexemeOf}
 use Rattle.token_table.specs.private.Lexing.{scannedWord, Lexes, found, wrong}
 
 module _ (s : List ℕ) (p : ℕ) (h : p < length s) where
-  pub at-digit : isDigit (getD s p 0) ≡ true → runLexeme isRun numeralOf (drop p s) p ≡ lexemeOf (drop p s) p
+  pub at-digit : isDigit (getD s p 0) ≡ true → numeralLexeme (drop p s) p ≡ lexemeOf (drop p s) p
   unfolding lexemeOf
   at-digit d = rw (drop-cons s p 0 h, d)
 
@@ -33,7 +32,7 @@ module _ (s : List ℕ) (p : ℕ) (h : p < length s) where
 pub lexes-as : {l : Lexeme} {w w′ e e′ : ℕ} → w ≡ w′ → e ≡ e′ → Lexes l w′ e′ → Lexes l w e
 lexes-as {l} {w} {w′} {e} {e′} p q h = subst (λ (x : ℕ). Lexes l x e) (sym p) (subst (λ (x : ℕ). Lexes l w′ x) (sym q) h)
 
-judged : (p n : ℕ) (r : Scanned) → Lexes (lexeme p n r) (scannedWord r) (p + n)
+pub judged : (p n : ℕ) (r : Scanned) → Lexes (lexeme p n r) (scannedWord r) (p + n)
 judged p n (Good t) = found t p (p + n)
 judged p n (Bad a) = wrong a p (p + n)
 

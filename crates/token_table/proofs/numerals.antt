@@ -1,3 +1,3 @@
--- What the proofs of the module share, and those of cells.
-pub mod Runs
+-- What the proofs of the module share.
 mod Forms
+mod Scales

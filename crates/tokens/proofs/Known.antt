@@ -1,15 +1,14 @@
 -- What holds of every token that is found, for the code's check: its value is proper, its cell in its bank, its symbol in the table.
-use mathlib.Core.Path.{_≡_, sym, subst}
-use mathlib.Core.Bool.{_&&_}
+use mathlib.Core.Path.{_≡_, refl, sym, subst}
+use mathlib.Core.Bool.{true, _&&_, cond}
 use mathlib.Core.List.{List, [], _∷_, _++_}
-use Prim.Native.Nat.{ℕ, suc, _+_, _^_, _≤_, _<_}
+use Prim.Native.Nat.{ℕ, zero, suc, _+_, _^_, _≤_, _<_}
 use native.Mathlib.Omega.{arith}
 use lib.Dec.{T, leb, eqb, lit<}
 use lib.IntN.{ℤ, pos}
 use lib.Signed.{mag}
-use lib.ListN.{length, drop, take}
+use lib.ListN.{length, drop, take, length-append}
 use borrow.Author.Tests.{leb-true, ltb-true}
-use Rattle.reals.proofs.Laws.{real-laws}
 use Rattle.values.specs.declared.Value.{Value}
 use Rattle.values.specs.declared.Value.the-variants.{Int}
 use Rattle.values.specs.Patterns.{signedOf}
@@ -20,20 +19,22 @@ use Rattle.memory.specs.declared.Bank.{Bank}
 use Rattle.memory.specs.Layout.{layoutOf}
 use Rattle.memory.specs.declared.names.Letter.the-variants as L
 use Rattle.memory.specs.declared.names.Letter.{Letter as BankLetter}
-use Rattle.memory.specs.Names.{isDigit, allDigits, noLeadingZero, decimalValue, numberBelow, cellAfterLetter, letterBank, namedRule}
+use Rattle.memory.specs.Names.{isDigit, allDigits, digitsOf, noLeadingZero, decimalValue, numberBelow, cellAfterLetter, letterBank, namedRule}
+use Rattle.memory.proofs.names.Decimals.{digits-only}
 use Rattle.tokens.specs.declared.Function.{Function}
 use Rattle.tokens.specs.declared.Token.{Token}
 use Rattle.tokens.specs.declared.Token.the-variants.{Number, Cell, Letter, Name, Symbol}
 use Rattle.tokens.specs.declared.Scanned.{Scanned}
 use Rattle.tokens.specs.declared.Scanned.the-variants.{Good, Bad}
-use Rattle.tokens.specs.Bytes.{all, isLetter, isWord, isRun, runLen, isHex}
+use Rattle.tokens.specs.Bytes.{all, isLetter, isWord, runLen, isHex}
 use Rattle.tokens.specs.Symbols.{equalBytes, symbolCount, longest}
-use Rattle.tokens.specs.Numerals.{nonEmpty, decimalDigits, isHexRun, hexFrom, hexOf, notDot, realOf, decimalOf, numeralOf}
+use Rattle.tokens.specs.Numerals.{nonEmpty, decimalDigits, isHexRun, hexFrom, hexOf, behindDigits, hasPart, partOf, fraction, behindMantissa, mantissaDigits, isExponent, isNegative, exponentSize, realOf, decimalOf, numeralOf, numeralLen}
 use Rattle.tokens.specs.Words.{nameOf, functionNamed, functions, letterWord, cellWord, otherWord, wordToken}
 use Rattle.tokens.specs.Scan.{Lexeme, Found, Wrong, End, lexeme, symbolLexeme, lexemeOf, blanks, lexemeAt}
 use Rattle.tokens.proofs.Tests.{by-test, choose, both, hex-small}
-use Rattle.tokens.proofs.Readings.{decimals, hexes, append, below}
-use Rattle.tokens.proofs.numerals.Seven.{both-small, some-digit}
+use Rattle.tokens.proofs.Readings.{hexes, below}
+use Rattle.tokens.proofs.numerals.Runs.{numeral-size}
+use Rattle.tokens.proofs.numerals.Values.{literal-single}
 use Rattle.tokens.proofs.symbols.Longest.{Front, none, symbol, front}
 
 pub data Known : Token → Type 0 where
@@ -68,21 +69,40 @@ a-hex cs =
     (λ _. bad 5))
     (λ _. bad 4)
 
-a-real : (s t : List ℕ) → Judged (realOf s t)
-a-real s t =
-    choose Judged (decimalDigits s && decimalDigits t) _ _
-    (λ e. choose Judged (leb (length s + length t) 7) _ _
-    (λ l. let h = both (decimalDigits s) (decimalDigits t) e in
-    let n : length s + length t ≤ 7 = leb-true (length s + length t) 7 l in
-    let small : decimalValue (s ++ t) < 10 ^ 7 = rw (append decimals 0 s t) (both-small s t (h .0) (h .1) n) in
-    good _ (number _ (Proper.real _ (real-laws .literal-single (decimalValue (s ++ t)) (length t) small (omega (arith, some-digit s (h .0)))))))
+-- the parts of a run that starts with a digit
+digits-first : (c : ℕ) (cs : List ℕ) → isDigit c ≡ true → 1 ≤ length (digitsOf (c ∷ cs))
+digits-first c cs d = rw d (omega arith)
+
+part-digits : (cs : List ℕ) → allDigits (partOf cs) ≡ true
+part-digits cs = choose (λ (l : List ℕ). allDigits l ≡ true) (hasPart cs) _ _ (λ _. digits-only (drop 1 cs)) (λ _. refl)
+
+both-digits : (s t : List ℕ) → allDigits s ≡ true → allDigits t ≡ true → allDigits (s ++ t) ≡ true
+both-digits [] t e f = f
+both-digits (c ∷ cs) t e f =
+    let h = both (isDigit c) (allDigits cs) e in rw (h .0) (both-digits cs t (h .1) f)
+
+a-real : (c : ℕ) (cs : List ℕ) → isDigit c ≡ true → Judged (realOf (c ∷ cs))
+a-real c cs d =
+    let s = c ∷ cs in
+    let x = behindMantissa s in
+    choose Judged (isExponent x) _ _
+    (λ _. choose Judged (leb (length (mantissaDigits s)) 9 && leb (exponentSize x) 20) _ _
+    (λ e. let h = both (leb (length (mantissaDigits s)) 9) (leb (exponentSize x) 20) e in
+    let n = leb-true (length (mantissaDigits s)) 9 (h .0) in
+    let few : length (fraction s) ≤ 8 = omega (arith, digits-first c cs d, length-append (digitsOf s) (fraction s)) in
+    let all = both-digits (digitsOf s) (fraction s) (digits-only s) (part-digits (behindDigits s)) in
+    good _ (number _ (Proper.real _ (literal-single (isNegative x) (mantissaDigits s) (exponentSize x) (length (fraction s)) all n (leb-true (exponentSize x) 20 (h .1)) few))))
     (λ _. bad 5))
     (λ _. bad 4)
 
-a-numeral : (cs : List ℕ) → Judged (numeralOf cs)
-a-numeral cs =
-    choose Judged (decimalDigits cs) _ _ (λ _. a-decimal cs)
-    (λ _. choose Judged (isHexRun cs) _ _ (λ _. a-hex (drop 2 cs)) (λ _. a-real (take (runLen notDot cs) cs) (drop (suc (runLen notDot cs)) cs)))
+a-numeral : (c : ℕ) (cs : List ℕ) → isDigit c ≡ true → Judged (numeralOf (c ∷ cs))
+a-numeral c cs d =
+    choose Judged (decimalDigits (c ∷ cs)) _ _ (λ _. a-decimal (c ∷ cs)) (λ _. choose Judged (isHexRun (c ∷ cs)) _ _ (λ _. a-hex (drop 2 (c ∷ cs))) (λ _. a-real c cs d))
+
+-- a part of at least one byte starts as the whole
+a-part : (c : ℕ) (cs : List ℕ) (n : ℕ) → isDigit c ≡ true → 0 < n → Judged (numeralOf (take n (c ∷ cs)))
+a-part c cs zero d h = absurd (omega arith)
+a-part c cs (suc n) d h = a-numeral c (take n cs) d
 
 -- ---- words
 a-letter : (l : BankLetter) → Judged (letterWord l)
@@ -115,8 +135,12 @@ of-good : {t : Token} (r : Scanned) → Judged r → r ≡ Good t → Known t
 of-good {t} r (good u k) m = let x : u ≡ t = cc in subst Known x k
 of-good r (bad a) m = let z : _≡_ {A = ℕ} 0 1 = cc in absurd (omega arith)
 
-pub known-numeral : (cs : List ℕ) {t : Token} → numeralOf cs ≡ Good t → Known t
-known-numeral cs m = of-good (numeralOf cs) (a-numeral cs) m
+-- what is neither decimal nor real
+a-rest : (cs : List ℕ) → Judged (cond (isHexRun cs) (hexOf (drop 2 cs)) (Bad 4))
+a-rest cs = choose Judged (isHexRun cs) _ _ (λ _. a-hex (drop 2 cs)) (λ _. bad 4)
+
+pub known-rest : (cs : List ℕ) {t : Token} → cond (isHexRun cs) (hexOf (drop 2 cs)) (Bad 4) ≡ Good t → Known t
+known-rest cs m = of-good _ (a-rest cs) m
 
 pub known-word : (cs : List ℕ) {t : Token} → wordToken cs ≡ Good t → Known t
 known-word cs m = of-good (wordToken cs) (a-word cs) m
@@ -140,7 +164,7 @@ all-told : (cs : List ℕ) (p : ℕ) → Told (lexemeOf cs p)
 unfolding lexemeOf
 all-told [] p = end
 all-told (c ∷ cs) p =
-    choose Told (isDigit c) _ _ (λ _. told p _ _ (a-numeral (take (runLen isRun (c ∷ cs)) (c ∷ cs))))
+    choose Told (isDigit c) _ _ (λ d. told p _ _ (a-part c cs (numeralLen (c ∷ cs)) d (numeral-size c cs d .0)))
     (λ _. choose Told (isLetter c) _ _ (λ _. told p _ _ (a-word (take (runLen isWord (c ∷ cs)) (c ∷ cs))))
     (λ _. a-symbol (c ∷ cs) p (longest (c ∷ cs)) (front (c ∷ cs))))
 

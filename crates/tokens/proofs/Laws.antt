@@ -1,6 +1,6 @@
 -- Laws of the lexer for the layers above: where a lexeme lies, and how a scan goes on by one lexeme, whatever its fuel.
 use mathlib.Core.Path.{_≡_, refl, sym, ap, _∙_}
-use mathlib.Core.Bool.{Bool, true, or-true}
+use mathlib.Core.Bool.{Bool, true}
 use mathlib.Core.List.{List, [], _∷_}
 use Prim.Native.Nat.{ℕ, zero, suc, _+_, _-_, _≤_, _<_}
 use native.Mathlib.Omega.{arith}
@@ -12,13 +12,14 @@ use Rattle.tokens.specs.declared.Token.{Token}
 use Rattle.tokens.specs.declared.Token.the-variants.{Symbol}
 use Rattle.tokens.specs.declared.Scanned.{Scanned}
 use Rattle.tokens.specs.declared.Scanned.the-variants.{Good, Bad}
-use Rattle.tokens.specs.Bytes.{isLetter, isWord, isRun, runLen}
+use Rattle.tokens.specs.Bytes.{isLetter, isWord, runLen}
 use Rattle.tokens.specs.Symbols.{symbolCount, symbolBytes, longest}
-use Rattle.tokens.specs.Numerals.{numeralOf}
+use Rattle.tokens.specs.Numerals.{numeralLen, numeralOf}
 use Rattle.tokens.specs.Words.{wordToken}
 use Rattle.tokens.specs.Scan.{Lexeme, Found, Wrong, End, lexeme, runLexeme, symbolLexeme, lexemeOf, blanks, lexemeAt, Scan, tokens, wrong, consToken, scanFrom}
 use Rattle.tokens.proofs.Tests.{by-test, choose}
 use Rattle.tokens.proofs.Runs.{run-most}
+use Rattle.tokens.proofs.numerals.Runs.{numeral-size}
 use Rattle.tokens.proofs.symbols.Longest.{Front, front, within, taken}
 
 -- ---- where a lexeme lies
@@ -48,7 +49,7 @@ placed : (cs : List ℕ) (p : ℕ) → Placed cs p (lexemeOf cs p)
 unfolding lexemeOf
 placed [] p = none
 placed (c ∷ cs) p =
-    choose (Placed (c ∷ cs) p) (isDigit c) _ _ (λ d. a-run isRun numeralOf c cs p (rw (d, or-true)))
+    choose (Placed (c ∷ cs) p) (isDigit c) _ _ (λ d. let h = numeral-size c cs d in judged (c ∷ cs) p (numeralLen (c ∷ cs)) (numeralOf (take (numeralLen (c ∷ cs)) (c ∷ cs))) (h .0) (h .1))
     (λ _. choose (Placed (c ∷ cs) p) (isLetter c) _ _ (λ l. a-run isWord wordToken c cs p (rw l))
     (λ _. a-symbol c cs p (longest (c ∷ cs)) (front (c ∷ cs))))
 

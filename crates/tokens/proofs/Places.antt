@@ -9,6 +9,7 @@ use Rattle.tokens.specs.declared.Scanned.{Scanned}
 use Rattle.tokens.specs.Scan.{Tok, Scan, tokens, wrong, consToken, scan}
 use Rattle.tokens.specs.Theorems.{Starts, first, LongestLexeme, word, numeral, symbol, stray, Scans, end, token, stop}
 use Rattle.tokens.proofs.Theorems.{token-theorems}
+use Rattle.tokens.proofs.numerals.Runs.{run-starts}
 use Rattle.tokens.proofs.symbols.Longest.{some-byte}
 
 -- every place is below n
@@ -30,7 +31,7 @@ a-byte (c ∷ cs) (first e) = omega arith
 
 some : {w r : List ℕ} {j : Scanned} → LongestLexeme w r j → 0 < length w
 some {w} (word h) = a-byte w (h .starts)
-some {w} (numeral h) = a-byte w (h .starts)
+some {w} (numeral h) = a-byte w (run-starts h)
 some (symbol n q h) = rw q (some-byte n (h .known))
 some (stray c q s l d n) = rw q (omega arith)
 

@@ -5,12 +5,14 @@ use lib.IntN.{pos, negsuc}
 use lib.Ieee as Ieee
 use lib.Ieee.{binary32}
 use Rattle.values.specs.declared.Value.the-variants.{Int, Real}
+use Rattle.literals.specs.Literals.{nearestDecimal}
 use Rattle.memory.specs.declared.Bank.the-variants.{D}
 use Rattle.memory.specs.Names.{letterBank, namedRule}
 use Rattle.tokens.specs.declared.Function.the-variants.{Max}
 use Rattle.tokens.specs.declared.Token.the-variants.{Number, Cell, Letter, Name, Symbol}
 use Rattle.tokens.specs.declared.Scanned.the-variants.{Good, Bad}
-use Rattle.tokens.specs.Numerals.{realLiteral, numeralOf}
+use Rattle.words.specs.Ascii.{ascii}
+use Rattle.tokens.specs.Numerals.{numeralOf, numeralLen}
 use Rattle.tokens.specs.Words.{otherWord, wordToken}
 use Rattle.tokens.specs.Scan.{Found, Wrong, lexemeOf, lexemeAt, tokens, wrong, scanFrom, scan}
 
@@ -38,19 +40,39 @@ no-hex = refl
 upper-x : numeralOf (48 ∷ 88 ∷ 49 ∷ []) ≡ Bad 4
 upper-x = refl
 
--- `0.5` has the pattern 0x3F000000; `1.234567` is good, `1.2345678` is 5; `1.` and `1.2.3` are 4, and so is `12345678.`
-half : numeralOf (48 ∷ 46 ∷ 53 ∷ []) ≡ Good (Number (Real (realLiteral 5 1)))
+-- `0.5` has the pattern 0x3F000000; nine digits are good, ten are 5
+half : numeralOf (ascii "0.5") ≡ Good (Number (Real (nearestDecimal 5 (negsuc 0))))
 half = refl
 
-half-bits : Ieee.toBits binary32 (realLiteral 5 1) ≡ 0x3f00_0000
-unfolding Ieee.toBits Ieee.div Ieee.ofInt
+half-bits : Ieee.toBits binary32 (nearestDecimal 5 (negsuc 0)) ≡ 0x3f00_0000
+unfolding Ieee.toBits Ieee.round
 half-bits = refl
 
-seven-digits : numeralOf (49 ∷ 46 ∷ 50 ∷ 51 ∷ 52 ∷ 53 ∷ 54 ∷ 55 ∷ []) ≡ Good (Number (Real (realLiteral 1234567 6)))
-seven-digits = refl
+nine-digits : numeralOf (ascii "1.23456789") ≡ Good (Number (Real (nearestDecimal 123456789 (negsuc 7))))
+nine-digits = refl
 
-eight-digits : numeralOf (49 ∷ 46 ∷ 50 ∷ 51 ∷ 52 ∷ 53 ∷ 54 ∷ 55 ∷ 56 ∷ []) ≡ Bad 5
-eight-digits = refl
+ten-digits : numeralOf (ascii "1.234567890") ≡ Bad 5
+ten-digits = refl
+
+-- `1E5` is real; an exponent may have leading zeros, and its range is judged even where the digits make 0
+small : numeralOf (ascii "1.25E-4") ≡ Good (Number (Real (nearestDecimal 125 (negsuc 5))))
+small = refl
+
+real-whole : numeralOf (ascii "1E5") ≡ Good (Number (Real (nearestDecimal 1 (pos 5))))
+real-whole = refl
+
+zeros-too : numeralOf (ascii "1E00005") ≡ Good (Number (Real (nearestDecimal 1 (pos 5))))
+zeros-too = refl
+
+zero-too-large : numeralOf (ascii "0E21") ≡ Bad 5
+zero-too-large = refl
+
+-- E without digits is 4, however many stand before it
+no-exponent : numeralOf (ascii "1234567890E") ≡ Bad 4
+no-exponent = refl
+
+both-too-large : numeralOf (ascii "1234567890E99") ≡ Bad 5
+both-too-large = refl
 
 no-part : numeralOf (49 ∷ 46 ∷ []) ≡ Bad 4
 no-part = refl
@@ -60,6 +82,31 @@ two-dots = refl
 
 long-no-part : numeralOf (49 ∷ 50 ∷ 51 ∷ 52 ∷ 53 ∷ 54 ∷ 55 ∷ 56 ∷ 46 ∷ []) ≡ Bad 4
 long-no-part = refl
+
+lower-e : numeralOf (ascii "1e5") ≡ Bad 4
+lower-e = refl
+
+dot-before-e : numeralOf (ascii "1.E5") ≡ Bad 4
+dot-before-e = refl
+
+dot-in-exponent : numeralOf (ascii "1E5.5") ≡ Bad 4
+dot-in-exponent = refl
+
+two-exponents : numeralOf (ascii "1E5E5") ≡ Bad 4
+two-exponents = refl
+
+-- the run goes on past the sign of an exponent, and past no other: `1E+5-3`, `1E5-3`, `0x1E-3`, `1E- 5`
+signed-run : numeralLen (ascii "1E+5-3") ≡ 4
+signed-run = refl
+
+unsigned-run : numeralLen (ascii "1E5-3") ≡ 3
+unsigned-run = refl
+
+hex-run : numeralLen (ascii "0x1E-3") ≡ 4
+hex-run = refl
+
+open-run : numeralLen (ascii "1E- 5") ≡ 3
+open-run = refl
 
 -- ---- words
 -- `MAX` is a function, `max` and `ABS2` are 6; `D` is a bank letter, `D255` a cell, `D256`, `D01` and `X64` are 6

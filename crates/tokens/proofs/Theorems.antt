@@ -1,7 +1,7 @@
 -- The theorems about tokens: `scan` gives what the relation says, and the relation allows nothing else.
 use mathlib.Core.Path.{_≡_, refl, sym, ap, subst, _∙_}
 use mathlib.Core.Logic.{_⊎_, inl, inr}
-use mathlib.Core.Bool.{Bool, true, false, or-true, and-false}
+use mathlib.Core.Bool.{Bool, true, false, and-false}
 use mathlib.Core.List.{List, [], _∷_, _++_, append-nil}
 use Prim.Native.Nat.{ℕ, zero, suc, _+_, _-_, _≤_, _<_}
 use native.Mathlib.Omega.{arith}
@@ -15,15 +15,17 @@ use Rattle.tokens.specs.declared.Token.{Token}
 use Rattle.tokens.specs.declared.Token.the-variants.{Symbol}
 use Rattle.tokens.specs.declared.Scanned.{Scanned}
 use Rattle.tokens.specs.declared.Scanned.the-variants.{Good, Bad}
-use Rattle.tokens.specs.Bytes.{between, isLetter, isSpace, isWord, isRun, runLen, all}
+use Rattle.tokens.specs.Bytes.{between, isLetter, isSpace, isWord, runLen, all}
 use Rattle.tokens.specs.Symbols.{symbolCount, symbolBytes, symbolOf, longest}
-use Rattle.tokens.specs.Numerals.{numeralOf}
+use Rattle.tokens.specs.Numerals.{numeralLen, numeralOf}
 use Rattle.tokens.specs.Words.{wordToken}
-use Rattle.tokens.specs.Scan.{Lexeme, Found, Wrong, End, lexeme, runLexeme, symbolLexeme, lexemeOf, blanks, lexemeAt, Scan, consToken}
-use Rattle.tokens.specs.Theorems.{Starts, first, Stops, nothing, other, LongestRun, Matches, LongestMatch, LongestLexeme, word, numeral, symbol, stray, Blank, Scans, end, token, stop, TokenTheorems}
+use Rattle.tokens.specs.Scan.{Lexeme, Found, Wrong, End, lexeme, runLexeme, numeralLexeme, symbolLexeme, lexemeOf, blanks, lexemeAt, Scan, consToken}
+use Rattle.tokens.specs.Theorems.{Starts, first, Stops, nothing, other, LongestRun, NumeralRun, Matches, LongestMatch, LongestLexeme, word, numeral, symbol, stray, Blank, Scans, end, token, stop, TokenTheorems}
 use Rattle.tokens.proofs.Tests.{no, by-test, choose, either, within}
 use Rattle.tokens.proofs.Runs.{run-most, run-every, run-stops, run-length}
 use Rattle.tokens.proofs.Laws.{found, rest, enough, at-found, at-wrong, at-end}
+use Rattle.tokens.proofs.numerals.Runs.{numeral-size, numeral-run, run-starts, run-len}
+use Rattle.tokens.proofs.numerals.Values.{real-literal}
 use Rattle.tokens.proofs.symbols.Longest.{Front, front, in-table, some-byte, most, front-matches}
 
 -- ---- classes of bytes
@@ -79,6 +81,12 @@ a-run start class f c cs p s e make =
     lexed-as (c ∷ cs) w (drop n (c ∷ cs)) p n (f w) (sym (take-append-drop n (c ∷ cs))) (length-take-le n (c ∷ cs) (run-most class (c ∷ cs)))
     (make w (drop n (c ∷ cs)) (record { starts = begins; every = run-every class (c ∷ cs); stops = run-stops class (c ∷ cs) }))
 
+a-numeral : (c : ℕ) (cs : List ℕ) (p : ℕ) → isDigit c ≡ true → Lexed (c ∷ cs) p (numeralLexeme (c ∷ cs) p)
+a-numeral c cs p d =
+    let n = numeralLen (c ∷ cs) in
+    let w = take n (c ∷ cs) in
+    lexed-as (c ∷ cs) w (drop n (c ∷ cs)) p n (numeralOf w) (sym (take-append-drop n (c ∷ cs))) (length-take-le n (c ∷ cs) (numeral-size c cs d .1)) (numeral (numeral-run c cs d))
+
 no-match : (cs : List ℕ) → longest cs ≡ symbolCount → (n : ℕ) → n < symbolCount → Matches n cs → ⊥
 no-match cs e n h (r, q) = omega (arith, some-byte n h, most n h r, ap (λ (k : ℕ). length (symbolBytes k)) (ap longest (sym q) ∙ e))
 
@@ -101,7 +109,7 @@ lexed : (cs : List ℕ) (p : ℕ) → Stops isSpace cs → Lexed cs p (lexemeOf 
 unfolding lexemeOf
 lexed [] p nothing = none refl
 lexed (c ∷ cs) p (other s) =
-    choose (Lexed (c ∷ cs) p) (isDigit c) _ _ (λ d. a-run isDigit isRun numeralOf c cs p d (rw (d, or-true)) (λ w r h. numeral h))
+    choose (Lexed (c ∷ cs) p) (isDigit c) _ _ (λ d. a-numeral c cs p d)
     (λ d. choose (Lexed (c ∷ cs) p) (isLetter c) _ _ (λ l. a-run isLetter isWord wordToken c cs p l (rw l) (λ w r h. word h))
     (λ l. a-symbol c cs p s l d))
 
@@ -158,15 +166,20 @@ letter-lexeme c cs p l =
     let Is : Lexeme → Type 0 = λ x. x ≡ runLexeme isWord wordToken (c ∷ cs) p in
     choose Is (isDigit c) _ _ (λ d. no (sym (letter-no-digit c l) ∙ d)) (λ d. choose Is (isLetter c) _ _ (λ m. refl) (λ m. no (sym m ∙ l)))
 
-digit-lexeme : (c : ℕ) (cs : List ℕ) (p : ℕ) → isDigit c ≡ true → lexemeOf (c ∷ cs) p ≡ runLexeme isRun numeralOf (c ∷ cs) p
+digit-lexeme : (s : List ℕ) (p : ℕ) → Starts isDigit s → lexemeOf s p ≡ numeralLexeme s p
 unfolding lexemeOf
-digit-lexeme c cs p d = choose (λ (x : Lexeme). x ≡ runLexeme isRun numeralOf (c ∷ cs) p) (isDigit c) _ _ (λ m. refl) (λ m. no (sym m ∙ d))
+digit-lexeme (c ∷ cs) p (first d) = choose (λ (x : Lexeme). x ≡ numeralLexeme (c ∷ cs) p) (isDigit c) _ _ (λ m. refl) (λ m. no (sym m ∙ d))
+
+longer-start : (w r : List ℕ) → Starts isDigit w → Starts isDigit (w ++ r)
+longer-start (c ∷ cs) r (first d) = first d
 
 word-lexeme : (w r : List ℕ) (p : ℕ) → Starts isLetter w → all isWord w ≡ true → Stops isWord r → lexemeOf (w ++ r) p ≡ lexeme p (length w) (wordToken w)
 word-lexeme (c ∷ cs) r p (first l) e s = letter-lexeme c (cs ++ r) p l ∙ run-lexeme isWord wordToken (c ∷ cs) r p e s
 
-numeral-lexeme : (w r : List ℕ) (p : ℕ) → Starts isDigit w → all isRun w ≡ true → Stops isRun r → lexemeOf (w ++ r) p ≡ lexeme p (length w) (numeralOf w)
-numeral-lexeme (c ∷ cs) r p (first d) e s = digit-lexeme c (cs ++ r) p d ∙ run-lexeme isRun numeralOf (c ∷ cs) r p e s
+numeral-lexeme : {w r : List ℕ} (p : ℕ) → NumeralRun w r → lexemeOf (w ++ r) p ≡ lexeme p (length w) (numeralOf w)
+numeral-lexeme {w} {r} p h =
+    digit-lexeme (w ++ r) p (longer-start w r (run-starts h))
+    ∙ ap (λ (n : ℕ). lexeme p n (numeralOf (take n (w ++ r)))) (run-len h) ∙ ap (λ (v : List ℕ). lexeme p (length w) (numeralOf v)) (take-append-seam w r)
 
 symbol-lexeme : (c : ℕ) (cs : List ℕ) (p : ℕ) → isDigit c ≡ false → isLetter c ≡ false → lexemeOf (c ∷ cs) p ≡ symbolLexeme p (longest (c ∷ cs))
 unfolding lexemeOf
@@ -179,7 +192,7 @@ table-lexeme n r p h =
 
 lexeme-of : {w r : List ℕ} {j : Scanned} → LongestLexeme w r j → (p : ℕ) → lexemeOf (w ++ r) p ≡ lexeme p (length w) j
 lexeme-of {w} {r} (word h) p = word-lexeme w r p (h .starts) (h .every) (h .stops)
-lexeme-of {w} {r} (numeral h) p = numeral-lexeme w r p (h .starts) (h .every) (h .stops)
+lexeme-of (numeral h) p = numeral-lexeme p h
 lexeme-of {w} {r} (symbol n q h) p =
     let k : eqb n symbolCount ≡ false = ne-eqb n symbolCount (λ e. omega (arith, h .known)) in
     subst (λ (v : List ℕ). lexemeOf (v ++ r) p ≡ lexeme p (length v) (Good (Symbol n))) (sym q) (table-lexeme n r p (h .known) ∙ ap (symbolLexeme p) (matched n r h) ∙ rw k)
@@ -195,7 +208,7 @@ numeral-front (c ∷ cs) r (first d) = other (no-space c (omega (arith, digit-ra
 
 no-blank : {w r : List ℕ} {j : Scanned} → LongestLexeme w r j → Stops isSpace (w ++ r)
 no-blank {w} {r} (word h) = word-front w r (h .starts)
-no-blank {w} {r} (numeral h) = numeral-front w r (h .starts)
+no-blank {w} {r} (numeral h) = numeral-front w r (run-starts h)
 no-blank {w} {r} (symbol n q h) = let t = in-table n (h .known) in subst (λ (v : List ℕ). Stops isSpace (v ++ r)) (sym (q ∙ t .is)) (other (t .no-space))
 no-blank {w} {r} (stray c q s l d no-symbol) = subst (λ (v : List ℕ). Stops isSpace (v ++ r)) (sym q) (other s)
 
@@ -229,5 +242,6 @@ token-theorems =
     record {
       scans = λ s. scans-from (suc (length s)) s 0 (omega arith) (omega arith);
       only = λ s z h. only-from h s refl;
+      real-literal = real-literal;
       enough = λ f s h. enough s 0 f (omega arith);
     }

@@ -1,3 +1,6 @@
--- What several proofs of the module share, and the laws of the crate cite.
+-- What the laws of the crate cite, and the scanner.
+pub mod Mantissas
+pub mod Lexemes
+pub mod Runs
+pub mod Values
 mod Forms
-pub mod Seven

@@ -1,23 +1,21 @@
--- Numerals (paper 01): "decimal digits up to 2147483647 (leading zeros allowed, never octal); `0x` and one to eight hex digits of either case, taken as a 32-bit pattern; or
--- digits, dot, digits, seven digits at most in all. A real literal is the single nearest to its decimal value .. A larger decimal, nine or more hex digits, or an eighth digit in
--- a real is 5; a numeral run of any other form is 4."
-use mathlib.Core.Bool.{Bool, true, false, not, _&&_, _||_, cond}
+-- Numerals (paper 01): "decimal digits up to 2147483647 (leading zeros allowed, never octal); `0x` and one to eight hex digits of either case, taken as a 32-bit pattern"; "A
+-- larger decimal, nine or more hex digits .. is 5; a numeral run of any other form is 4." Paper 02, request 4: "A real literal may have up to nine digits and an exponent of -20 to
+-- 20, written E, an optional sign directly after it, past which the run goes on, and digits. `1E5` is real. The answer is still the nearest single, ties to even .. E without digits
+-- is 4; otherwise ten digits, or an exponent outside the range, is 5."
+use mathlib.Core.Bool.{Bool, true, false, _&&_, _||_, cond}
 use mathlib.Core.List.{List, [], _∷_, _++_}
-use Prim.Native.Nat.{ℕ, suc, _+_, _-_, _*_, _^_}
+use Prim.Native.Nat.{ℕ, suc, _+_, _-_, _*_}
 use lib.Dec.{eqb, leb}
-use lib.IntN.{pos}
-use lib.ListN.{length, take, drop}
-use lib.Ieee.{Float}
-use Rattle.reals.specs.declared.ArithOp.the-variants.{Div}
-use Rattle.reals.specs.Operations.{ieee}
+use lib.IntN.{ℤ, pos, _-ℤ_}
+use lib.ListN.{length, getD, drop}
 use Rattle.values.specs.declared.Value.the-variants.{Int, Real}
 use Rattle.values.specs.Patterns.{signedOf}
-use Rattle.values.specs.Convert.{promoted}
-use Rattle.memory.specs.Names.{isDigit, decimalValue}
+use Rattle.literals.specs.Literals.{nearestDecimal}
+use Rattle.memory.specs.Names.{allDigits, digitsOf, decimalValue}
 use Rattle.tokens.specs.declared.Token.the-variants.{Number}
 use Rattle.tokens.specs.declared.Scanned.{Scanned}
 use Rattle.tokens.specs.declared.Scanned.the-variants.{Good, Bad}
-use Rattle.tokens.specs.Bytes.{isHex, runLen, all}
+use Rattle.tokens.specs.Bytes.{isHex, isRun, runLen, all}
 use Rattle.words.specs.Ascii.{byte}
 
 abbrev pub nonEmpty : List ℕ → Bool
@@ -25,7 +23,7 @@ nonEmpty [] = false
 nonEmpty (c ∷ cs) = true
 
 abbrev pub decimalDigits : List ℕ → Bool
-decimalDigits cs = nonEmpty cs && all isDigit cs
+decimalDigits cs = nonEmpty cs && allDigits cs
 
 abbrev pub decimalOf : List ℕ → Scanned
 decimalOf cs = cond (leb (decimalValue cs) 2147483647) (Good (Number (Int (pos (decimalValue cs))))) (Bad 5)
@@ -41,28 +39,88 @@ hexFrom n (c ∷ cs) = hexFrom (n * 16 + hexDigit c) cs
 abbrev pub hexOf : List ℕ → Scanned
 hexOf cs = cond (nonEmpty cs && all isHex cs) (cond (leb (length cs) 8) (Good (Number (Int (signedOf 32 (hexFrom 0 cs))))) (Bad 5)) (Bad 4)
 
--- "With seven digits, numerator and power of ten are both exact singles": `literal-rounds` of the crate reals' laws
-abbrev pub realLiteral : ℕ → ℕ → Float
-realLiteral n k = ieee Div (promoted (pos n)) (promoted (pos (10 ^ k)))
-
--- the digits before the dot and after it
-abbrev pub realOf : List ℕ → List ℕ → Scanned
-realOf whole part =
-    cond (decimalDigits whole && decimalDigits part)
-    (cond (leb (length whole + length part) 7) (Good (Number (Real (realLiteral (decimalValue (whole ++ part)) (length part))))) (Bad 5))
-    (Bad 4)
-
 abbrev pub isHexRun : List ℕ → Bool
 isHexRun [] = false
 isHexRun (c ∷ []) = false
 isHexRun (c ∷ d ∷ cs) = eqb c (byte "0") && eqb d (byte "x")
 
-abbrev pub notDot : ℕ → Bool
-notDot c = not (eqb c (byte "."))
+-- ---- the parts of a real literal, from the front: digits; a dot and digits; what follows
+abbrev pub behindDigits : List ℕ → List ℕ
+behindDigits cs = drop (length (digitsOf cs)) cs
+
+-- bytes that begin with a dot and a digit
+abbrev pub hasPart : List ℕ → Bool
+hasPart [] = false
+hasPart (c ∷ cs) = eqb c (byte ".") && nonEmpty (digitsOf cs)
+
+-- the digits behind the dot; none where it has none
+abbrev pub partOf : List ℕ → List ℕ
+partOf cs = cond (hasPart cs) (digitsOf (drop 1 cs)) []
+
+abbrev pub behindPart : List ℕ → List ℕ
+behindPart cs = cond (hasPart cs) (behindDigits (drop 1 cs)) cs
+
+abbrev pub fraction : List ℕ → List ℕ
+fraction cs = partOf (behindDigits cs)
+
+-- what follows the mantissa
+abbrev pub behindMantissa : List ℕ → List ℕ
+behindMantissa cs = behindPart (behindDigits cs)
+
+abbrev pub mantissaDigits : List ℕ → List ℕ
+mantissaDigits cs = digitsOf cs ++ fraction cs
+
+-- ---- the exponent: nothing, or `E`, an optional sign and digits
+abbrev pub isSign : ℕ → Bool
+isSign c = eqb c (byte "+") || eqb c (byte "-")
+
+abbrev pub unsigned : List ℕ → List ℕ
+unsigned [] = []
+unsigned (c ∷ cs) = cond (isSign c) cs (c ∷ cs)
+
+abbrev pub isExponent : List ℕ → Bool
+isExponent [] = true
+isExponent (c ∷ cs) = eqb c (byte "E") && decimalDigits (unsigned cs)
+
+abbrev pub isNegative : List ℕ → Bool
+isNegative x = eqb (getD x 1 0) (byte "-")
+
+abbrev pub exponentSize : List ℕ → ℕ
+exponentSize x = decimalValue (unsigned (drop 1 x))
+
+-- ---- the value: n is what the digits make, and k of them stand behind the dot
+abbrev pub scaleOf : Bool → ℕ → ℕ → ℤ
+scaleOf negative e k = cond negative (pos 0 -ℤ pos e) (pos e) -ℤ pos k
+
+abbrev pub literalOf : ℕ → ℕ → ℕ → Bool → ℕ → Scanned
+literalOf n count k negative e = cond (leb count 9 && leb e 20) (Good (Number (Real (nearestDecimal n (scaleOf negative e k))))) (Bad 5)
+
+abbrev pub literalNumber : List ℕ → ℕ
+literalNumber cs = decimalValue (mantissaDigits cs)
+
+abbrev pub literalScale : List ℕ → ℤ
+literalScale cs = scaleOf (isNegative (behindMantissa cs)) (exponentSize (behindMantissa cs)) (length (fraction cs))
+
+-- a mantissa and an exponent
+abbrev pub realOf : List ℕ → Scanned
+realOf cs =
+    cond (isExponent (behindMantissa cs))
+    (literalOf (literalNumber cs) (length (mantissaDigits cs)) (length (fraction cs)) (isNegative (behindMantissa cs)) (exponentSize (behindMantissa cs)))
+    (Bad 4)
 
 -- a run that starts with a digit
 abbrev pub numeralOf : List ℕ → Scanned
-numeralOf cs =
-    cond (decimalDigits cs) (decimalOf cs)
-    (cond (isHexRun cs) (hexOf (drop 2 cs))
-    (realOf (take (runLen notDot cs) cs) (drop (suc (runLen notDot cs)) cs)))
+numeralOf cs = cond (decimalDigits cs) (decimalOf cs) (cond (isHexRun cs) (hexOf (drop 2 cs)) (realOf cs))
+
+-- ---- the run
+-- bytes that begin with `E` and a sign
+abbrev pub opensExponent : List ℕ → Bool
+opensExponent [] = false
+opensExponent (c ∷ cs) = eqb c (byte "E") && isSign (getD cs 0 0)
+
+-- how many bytes of what follows a mantissa belong to the numeral's run: it goes on past the sign of an exponent, and past no other
+abbrev pub tailLen : List ℕ → ℕ
+tailLen x = cond (opensExponent x) (2 + runLen isRun (drop 2 x)) (runLen isRun x)
+
+abbrev pub numeralLen : List ℕ → ℕ
+numeralLen cs = (length cs - length (behindMantissa cs)) + tailLen (behindMantissa cs)

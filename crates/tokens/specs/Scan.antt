@@ -10,9 +10,9 @@ use Rattle.tokens.specs.declared.Token.{Token}
 use Rattle.tokens.specs.declared.Token.the-variants.{Symbol}
 use Rattle.tokens.specs.declared.Scanned.{Scanned}
 use Rattle.tokens.specs.declared.Scanned.the-variants.{Good, Bad}
-use Rattle.tokens.specs.Bytes.{isLetter, isSpace, isWord, isRun, runLen}
+use Rattle.tokens.specs.Bytes.{isLetter, isSpace, isWord, runLen}
 use Rattle.tokens.specs.Symbols.{symbolCount, symbolBytes, longest}
-use Rattle.tokens.specs.Numerals.{numeralOf}
+use Rattle.tokens.specs.Numerals.{numeralLen, numeralOf}
 use Rattle.tokens.specs.Words.{wordToken}
 
 -- the next token from a position, with its place and where it ends; bytes that are none, with their answer and place; or the text's end
@@ -30,6 +30,9 @@ lexeme p n (Bad a) = Wrong a p
 abbrev pub runLexeme : (ℕ → Bool) → (List ℕ → Scanned) → List ℕ → ℕ → Lexeme
 runLexeme test f cs p = lexeme p (runLen test cs) (f (take (runLen test cs) cs))
 
+abbrev pub numeralLexeme : List ℕ → ℕ → Lexeme
+numeralLexeme cs p = lexeme p (numeralLen cs) (numeralOf (take (numeralLen cs) cs))
+
 abbrev pub symbolLexeme : ℕ → ℕ → Lexeme
 symbolLexeme p n = cond (eqb n symbolCount) (Wrong 4 p) (Found (Symbol n) p (p + length (symbolBytes n)))
 
@@ -38,7 +41,7 @@ unfoldable pub lexemeOf : List ℕ → ℕ → Lexeme
 unfolding wordToken
 lexemeOf [] p = End
 lexemeOf (c ∷ cs) p =
-    cond (isDigit c) (runLexeme isRun numeralOf (c ∷ cs) p)
+    cond (isDigit c) (numeralLexeme (c ∷ cs) p)
     (cond (isLetter c) (runLexeme isWord wordToken (c ∷ cs) p)
     (symbolLexeme p (longest (c ∷ cs))))
 

@@ -4,16 +4,21 @@ use mathlib.Core.Path.{_≡_}
 use mathlib.Core.Bool.{Bool, true, false}
 use mathlib.Core.List.{List, [], _∷_, _++_}
 use Prim.Native.Nat.{ℕ, _+_, _≤_, _<_}
+use lib.Ieee.{Float}
 use lib.ListN.{length}
+use Rattle.reals.specs.Rounding.{Rounds}
+use Rattle.literals.specs.Literals.{scaledDecimal}
+use Rattle.values.specs.declared.Value.the-variants.{Real}
 use Rattle.memory.specs.Names.{isDigit}
 use Rattle.tokens.specs.declared.Token.{Token}
-use Rattle.tokens.specs.declared.Token.the-variants.{Symbol}
+use Rattle.tokens.specs.declared.Token.the-variants.{Number, Symbol}
 use Rattle.tokens.specs.declared.Scanned.{Scanned}
 use Rattle.tokens.specs.declared.Scanned.the-variants.{Good, Bad}
 use Rattle.tokens.specs.Bytes.{isLetter, isSpace, isWord, isRun, all}
 use Rattle.tokens.specs.Symbols.{symbolCount, symbolBytes}
-use Rattle.tokens.specs.Numerals.{numeralOf}
+use Rattle.tokens.specs.Numerals.{decimalDigits, isSign, literalNumber, literalScale, numeralOf}
 use Rattle.tokens.specs.Words.{wordToken}
+use Rattle.words.specs.Ascii.{byte}
 use Rattle.tokens.specs.Scan.{Scan, tokens, wrong, consToken, scanFrom, scan}
 
 -- the first byte is of the class
@@ -31,6 +36,17 @@ pub record LongestRun (start class : ℕ → Bool) (w r : List ℕ) : Type 0 whe
   pub every : all class w ≡ true
   pub stops : Stops class r
 
+-- "digits, or digits dot digits": what may stand before an exponent
+pub data Mantissa : List ℕ → Type 0 where
+  whole : (ds : List ℕ) → decimalDigits ds ≡ true → Mantissa ds
+  dotted : (ds ps : List ℕ) → decimalDigits ds ≡ true → decimalDigits ps ≡ true → Mantissa (ds ++ (byte "." ∷ ps))
+
+-- The numeral's run at the front of a text: the longest run of letters, digits and dots that starts with a digit. Where it is a mantissa and `E`, and a sign comes
+-- next, it goes on past the sign.
+pub data NumeralRun : List ℕ → List ℕ → Type 0 where
+  plain : {w r : List ℕ} → LongestRun isDigit isRun w r → ((m : List ℕ) → Mantissa m → w ≡ m ++ (byte "E" ∷ []) → Stops isSign r) → NumeralRun w r
+  past-sign : {r : List ℕ} (m : List ℕ) (c : ℕ) (v : List ℕ) → Mantissa m → isSign c ≡ true → all isRun v ≡ true → Stops isRun r → NumeralRun (m ++ (byte "E" ∷ c ∷ v)) r
+
 -- the symbol n stands at the front of a text
 abbrev pub Matches : ℕ → List ℕ → Type 0
 Matches n s = (r : List ℕ) × (s ≡ symbolBytes n ++ r)
@@ -43,7 +59,7 @@ pub record LongestMatch (n : ℕ) (r : List ℕ) : Type 0 where
 -- the bytes w, before r, are the longest that belong together, and what they are: a token, or none and its answer
 pub data LongestLexeme (w r : List ℕ) : Scanned → Type 0 where
   word : LongestRun isLetter isWord w r → LongestLexeme w r (wordToken w)
-  numeral : LongestRun isDigit isRun w r → LongestLexeme w r (numeralOf w)
+  numeral : NumeralRun w r → LongestLexeme w r (numeralOf w)
   symbol : (n : ℕ) → w ≡ symbolBytes n → LongestMatch n r → LongestLexeme w r (Good (Symbol n))
   -- 4, "bytes that form no token": a byte that is no blank and starts no word, numeral or symbol
   stray : (c : ℕ) → w ≡ c ∷ [] → isSpace c ≡ false → isLetter c ≡ false → isDigit c ≡ false
@@ -65,5 +81,7 @@ pub record TokenTheorems : Type 0 where
   -- every text scans so, to one list of tokens or to one answer and place
   pub scans : (s : List ℕ) → Scans 0 s (scan s)
   pub only : (s : List ℕ) (z : Scan) → Scans 0 s z → z ≡ scan s
+  -- a real literal is its decimal, rounded once: the nearest single, ties to even
+  pub real-literal : (w : List ℕ) (x : Float) → numeralOf w ≡ Good (Number (Real x)) → Rounds (scaledDecimal (literalNumber w) (literalScale w)) x
   -- the scan never runs out of fuel: more of it gives the same
   pub enough : (f : ℕ) (s : List ℕ) → length s < f → scanFrom f s 0 ≡ scan s

@@ -262,12 +262,21 @@ impl Writer<'_> {
         self.write(&text);
     }
 
+    /// One to nine digits with a dot, an exponent or both.
     fn real(&mut self) {
-        let digits = 2 + self.random.below(6);
+        let digits = 2 + self.random.below(8);
         let text: Vec<u8> = (0..digits).map(|_| b'0' + self.random.below(10) as u8).collect();
         let dot = 1 + self.random.below(digits - 1);
+        let whole = self.random.below(4) == 0;
         self.text.extend(&text[..dot]);
-        self.text.push(b'.');
-        self.text.extend(&text[dot..]);
+        if !whole {
+            self.text.push(b'.');
+            self.text.extend(&text[dot..]);
+        }
+        if whole || self.random.below(4) == 0 {
+            let sign = ["", "+", "-"][self.random.below(3)];
+            let size = self.random.below(21);
+            self.write(&format!("E{sign}{size}"));
+        }
     }
 }

@@ -7,12 +7,12 @@ use crate::reference::text::tokens;
 
 // Pieces that texts are damaged with: every symbol and name, and forms of numerals and words that are refused.
 #[rustfmt::skip]
-const PIECES: [&str; 78] = [
+const PIECES: [&str; 86] = [
     "-", "~", "!", "**", "*", "/", "%", "+", "<<", ">>", ">>>", "<", ">", "<=", ">=", "==", "!=", "&", "^", "|", "&&",
     "||", "(", ")", "[", "]", ",", "ABS", "TOREAL", "TOINT", "TRUNC", "ROUND", "FRAC", "MAX", "MIN", "IF", "X", "C",
     "V", "N", "D", "R", "D0", "R1", "X63", "C64", "V255", "D256", "D01", "d0", "abs", "T0", "E", "0", "7", "1.5",
     "0x1F", "0xFFFFFFFFF", "0x", "0X1", "1.", "1..2", "1.2.3", "2147483648", "2147483647", "12345678.", "1234567.8",
-    "0.000001", "1e5", "3MAX", "=", ".", "$", ":R", " ", "\t", "\r", "_",
+    "0.000001", "1e5", "1E5", "1E", "1.5E+2", "2E-3", "1E21", "1E-20", "123456789.0", "1234567890E0", "3MAX", "=", ".", "$", ":R", " ", "\t", "\r", "_",
 ];
 
 fn piece(random: &mut Random) -> &'static [u8] {

@@ -21,7 +21,8 @@ pub enum Token {
     Symbol(&'static str),
 }
 
-const REAL_DIGITS: usize = 7;
+const REAL_DIGITS: usize = 9;
+const EXPONENT: u32 = 20;
 
 /// A refusal of a text: its answer and its place.
 #[derive(Clone, Copy, PartialEq, Debug)]
@@ -75,7 +76,7 @@ fn token(rest: &[u8]) -> Result<(Token, usize), u32> {
         let length = run(rest, |b| b.is_ascii_alphanumeric());
         word(&rest[..length]).map(|t| (t, length)).ok_or(6)
     } else if rest[0].is_ascii_digit() {
-        let length = run(rest, |b| b.is_ascii_alphanumeric() || b == b'.');
+        let length = numeral_length(rest);
         numeral(&rest[..length]).map(|v| (Token::Literal(v), length))
     } else {
         let symbol = SYMBOLS.iter().find(|s| rest.starts_with(s.as_bytes())).ok_or(4u32)?;
@@ -85,6 +86,28 @@ fn token(rest: &[u8]) -> Result<(Token, usize), u32> {
 
 fn run(rest: &[u8], belongs: impl Fn(u8) -> bool) -> usize {
     rest.iter().position(|b| !belongs(*b)).unwrap_or(rest.len())
+}
+
+/// The longest run; where it is a mantissa and `E`, and a sign comes next, the run behind the sign too.
+fn numeral_length(rest: &[u8]) -> usize {
+    let belongs = |b: u8| b.is_ascii_alphanumeric() || b == b'.';
+    let length = run(rest, belongs);
+    let open = rest[length - 1] == b'E' && mantissa(&rest[..length - 1]).is_some();
+    match rest.get(length) {
+        Some(b'+' | b'-') if open => length + 1 + run(&rest[length + 1..], belongs),
+        _ => length,
+    }
+}
+
+/// The digits of a mantissa, and how many of them stand behind its dot.
+fn mantissa(run: &[u8]) -> Option<(Vec<u8>, usize)> {
+    let parts: Vec<&[u8]> = run.split(|b| *b == b'.').collect();
+    let behind = parts.get(1).map_or(0, |p| p.len());
+    (parts.len() <= 2 && parts.iter().all(|p| all_digits(p))).then(|| (parts.concat(), behind))
+}
+
+fn all_digits(part: &[u8]) -> bool {
+    !part.is_empty() && part.iter().all(u8::is_ascii_digit)
 }
 
 fn word(word: &[u8]) -> Option<Token> {
@@ -101,10 +124,10 @@ fn numeral(run: &[u8]) -> Result<Value, u32> {
     if let Some(digits) = run.strip_prefix(b"0x") {
         return hexadecimal(digits);
     }
-    match run.iter().position(|b| *b == b'.') {
-        Some(dot) => real(run, dot),
-        None => decimal(run),
+    if all_digits(run) {
+        return decimal(run);
     }
+    real(run)
 }
 
 fn hexadecimal(digits: &[u8]) -> Result<Value, u32> {
@@ -119,22 +142,28 @@ fn hexadecimal(digits: &[u8]) -> Result<Value, u32> {
 }
 
 fn decimal(digits: &[u8]) -> Result<Value, u32> {
-    if !digits.iter().all(u8::is_ascii_digit) {
-        return Err(4);
-    }
     // The text is all digits, so parsing fails only where the number does not fit.
     std::str::from_utf8(digits).unwrap().parse().map(Value::Int).map_err(|_| 5)
 }
 
-fn real(run: &[u8], dot: usize) -> Result<Value, u32> {
-    let (before, after) = (&run[..dot], &run[dot + 1..]);
-    let digits = |part: &[u8]| !part.is_empty() && part.iter().all(u8::is_ascii_digit);
-    if !digits(before) || !digits(after) {
+fn real(run: &[u8]) -> Result<Value, u32> {
+    let e = run.iter().position(|b| *b == b'E').unwrap_or(run.len());
+    let (digits, behind) = mantissa(&run[..e]).ok_or(4u32)?;
+    let exponent = run.get(e + 1..).unwrap_or(b"0");
+    let (negative, size) = match exponent {
+        [b'-', size @ ..] => (true, size),
+        [b'+', size @ ..] => (false, size),
+        size => (false, size),
+    };
+    if !all_digits(size) {
         return Err(4);
     }
-    if before.len() + after.len() > REAL_DIGITS {
+    // One more than the largest exponent stands for all beyond it.
+    let size = size.iter().fold(0, |n, d| (n * 10 + u32::from(d - b'0')).min(EXPONENT + 1));
+    if digits.len() > REAL_DIGITS || size > EXPONENT {
         return Err(5);
     }
-    let mantissa = before.iter().chain(after).fold(0, |n, d| n * 10 + u32::from(d - b'0'));
-    Ok(Value::Real(f32::from_bits(nearest(mantissa, -(after.len() as i32)))))
+    let scale = if negative { -(size as i32) } else { size as i32 } - behind as i32;
+    let number = digits.iter().fold(0, |n, d| n * 10 + u32::from(d - b'0'));
+    Ok(Value::Real(f32::from_bits(nearest(number, scale))))
 }

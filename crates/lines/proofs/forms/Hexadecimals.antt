@@ -1,4 +1,4 @@
--- Eight hexadecimal digits make a pattern of 32 bits, and are read as a formula's numeral. Assumes nothing.
+-- Eight hexadecimal digits make a pattern of 32 bits, and are read as a formula's. Assumes nothing.
 use mathlib.Core.Path.{_≡_, refl, sym, ap, subst, _∙_}
 use mathlib.Core.Bool.{Bool, true, false, cond, and-false}
 use mathlib.Core.List.{List, [], _∷_}
@@ -6,7 +6,8 @@ use Prim.Native.Nat.{ℕ, suc, _+_, _-_, _*_, _^_, _≤_, _<_}
 use native.Mathlib.Nat.{lt-of-lt-of-le, mul-le-mul-right, mul-assoc, mul-one, one-mul, pow-succ'}
 use native.Mathlib.Omega.{arith}
 use lib.Dec.{eqb, leb}
-use lib.ListN.{length, getD, drop}
+use lib.ListN.{length, getD, take, drop, length-drop}
+use lib.Seq.{take-all}
 use borrow.Author.Tests.{leb-true, leb-false, lt-leb, eq-eqb, ne-eqb}
 use Rattle.values.specs.declared.Value.the-variants.{Int}
 use Rattle.values.specs.Patterns.{signedOf}
@@ -14,7 +15,7 @@ use Rattle.values.proofs.patterns.Readings.{low-signed}
 use Rattle.tokens.specs.declared.Token.the-variants.{Number}
 use Rattle.tokens.specs.declared.Scanned.the-variants.{Good, Bad}
 use Rattle.tokens.specs.Bytes.{all, isHex}
-use Rattle.tokens.specs.Numerals.{nonEmpty, hexDigit, hexFrom, hexOf, numeralOf}
+use Rattle.tokens.specs.Numerals.{nonEmpty, hexDigit, hexFrom, hexOf}
 use Rattle.lines.specs.declared.forms.Form.the-variants.{Pattern, Other}
 use Rattle.lines.specs.Forms.{hexForm}
 use Rattle.lines.specs.private.Steps.{scannedForm}
@@ -63,12 +64,16 @@ shape [] l a b = absurd (omega arith)
 shape (c ∷ []) l a b = absurd (omega arith)
 shape (c ∷ d ∷ cs) l a b = cc
 
-pub pattern : (s : List ℕ) → length s ≡ 10 → getD s 0 0 ≡ 48 → getD s 1 0 ≡ 120 → scannedForm (numeralOf s) ≡ hexForm s
+-- the digits to the end
+rest : (s : List ℕ) → take (length s - 2) (drop 2 s) ≡ drop 2 s
+rest s = take-all (length s - 2) (drop 2 s) (rw length-drop (omega arith))
+
+pub pattern : (s : List ℕ) → length s ≡ 10 → getD s 0 0 ≡ 48 → getD s 1 0 ≡ 120 → scannedForm (hexOf (take (length s - 2) (drop 2 s))) ≡ hexForm s
 pattern s l a b =
     let e = shape s l a b in
     let n : length (drop 2 s) ≡ 8 = omega (arith, ap length e) in
     let t : eqb (suc (suc (length (drop 2 s)))) 10 ≡ true = eq-eqb (suc (suc (length (drop 2 s)))) 10 (omega arith) in
-    subst (λ (x : List ℕ). scannedForm (numeralOf x) ≡ hexForm x) (sym e) (rw t (digits (drop 2 s) n))
+    ap (λ (x : List ℕ). scannedForm (hexOf x)) (rest s) ∙ subst (λ (x : List ℕ). scannedForm (hexOf (drop 2 x)) ≡ hexForm x) (sym e) (rw t (digits (drop 2 s) n))
 
 pub other-length : (s : List ℕ) → (length s ≡ 10 → ⊥) → Other ≡ hexForm s
 other-length s n = rw (ne-eqb (length s) 10 n, and-false)

@@ -90,7 +90,7 @@ grows n [] = omega arith
 grows n (d ∷ ds) = omega (arith, grows (n * 10 + (d - 48)) ds)
 
 -- digits behind a number at the limit leave it there
-cut : (n : ℕ) (ds : List ℕ) → min (decimalFrom n ds) decimalLimit ≡ min (decimalFrom (min n decimalLimit) ds) decimalLimit
+pub cut : (n : ℕ) (ds : List ℕ) → min (decimalFrom n ds) decimalLimit ≡ min (decimalFrom (min n decimalLimit) ds) decimalLimit
 cut n ds = by (ltb n decimalLimit) refl
   where
     by : (t : Bool) → ltb n decimalLimit ≡ t → min (decimalFrom n ds) decimalLimit ≡ min (decimalFrom (min n decimalLimit) ds) decimalLimit

@@ -1,4 +1,4 @@
--- `forms::hexadecimal` meets its contract: the text has ten bytes and begins with `0x`, and the numeral's rule does the rest.
+-- `forms::hexadecimal` meets its contract: the text has ten bytes and begins with `0x`, and the rule for hexadecimal digits does the rest.
 use mathlib.Core.Path.{ap, _∙_}
 use borrow.Author.Needs.{needs}
 use Rattle.lines.specs.private.Steps.{scannedForm}
@@ -21,18 +21,26 @@ shared-slice-read-if3 c = search needs
 returns-3 : tie.Need-returns-3
 returns-3 c = other-second (c .before .before .before .before .before .before .args .text .now) (c .if3 .taken)
 
-numeral-requires : tie.Need-numeral-requires
-numeral-requires c κs = search needs
+sub-hexadecimal : tie.Need-sub-hexadecimal
+sub-hexadecimal c = search needs
+
+part-hexadecimal-start : tie.Need-part-hexadecimal-start
+part-hexadecimal-start c = search needs
+
+part-hexadecimal-end : tie.Need-part-hexadecimal-end
+part-hexadecimal-end c = search needs
+
+hexadecimal-requires : tie.Need-hexadecimal-requires
+hexadecimal-requires c κs = search needs
 
 scanned-form-requires : tie.Need-scanned-form-requires
 scanned-form-requires c κs = search needs
 
 returns-4 : tie.Need-returns-4
 returns-4 c =
-    let s = c .before .before .before .before .before .before .before .before .args .text .now in
     c .scanned-form .ensures
-    ∙ ap scannedForm (c .before .numeral .ensures)
-    ∙ pattern s (c .before .before .before .before .before .before .if1 .left) (c .before .before .before .before .if2 .left) (c .before .before .if3 .left)
+    ∙ ap scannedForm (c .before .hexadecimal .ensures)
+    ∙ pattern (c .before .before .before .before .before .before .before .before .before .args .text .now) (c .before .before .before .before .before .before .before .if1 .left) (c .before .before .before .before .before .if2 .left) (c .before .before .before .if3 .left)
 
 pub hexadecimal-spec : {M : Type 1} → statement M
 hexadecimal-spec =
@@ -43,6 +51,9 @@ hexadecimal-spec =
     returns-2
     shared-slice-read-if3
     returns-3
-    numeral-requires
+    sub-hexadecimal
+    part-hexadecimal-start
+    part-hexadecimal-end
+    hexadecimal-requires
     scanned-form-requires
     returns-4)

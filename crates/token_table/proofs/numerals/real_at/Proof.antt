@@ -1,69 +1,61 @@
--- `numerals::real_at` meets its contract: the two runs of digits, with the dot between them, are the whole run.
-use mathlib.Core.Path.{refl, sym, ap, _∙_}
+-- `numerals::real_at` meets its contract: the two runs of digits, with the dot between them, are a mantissa.
+use mathlib.Core.Path.{sym, _∙_}
 use native.Mathlib.Omega.{arith}
-use lib.Ieee.{Float, binary32, toBits}
 use borrow.Author.Needs.{needs}
-use Rattle.token_table.specs.private.Table.{packFields}
-use Rattle.token_table.proofs.Lexemes.{lexes-as}
-use Rattle.token_table.proofs.numerals.Forms.{dot-inside, literal-small, literal-finite, real-run}
+use Rattle.token_table.proofs.numerals.Forms.{literal-fits, within-dot, no-part, dotted-mantissa, longer-part, real-run}
 use Rattle.token_table.proofs.numerals.real_at.Statement.{statement}
 use Rattle.token_table.proofs.numerals.real_at.Tie as tie
 
 add-digits : tie.Need-add-digits
-add-digits c = search needs
+add-digits c = omega (arith, within-dot (c .before .args .text .now) (c .before .args .at) (c .before .pre .0 .0) (c .before .pre .0 .1) (c .before .pre .1 .1) (c .before .pre .1 .0 .0) (c .before .pre .1 .0 .1))
 
 digits-requires : tie.Need-digits-requires
-digits-requires c κs = (dot-inside (c .before .pre .1), search needs)
+digits-requires c κs = (within-dot (c .before .args .text .now) (c .before .args .at) (c .before .pre .0 .0) (c .before .pre .0 .1) (c .before .pre .1 .1) (c .before .pre .1 .0 .0) (c .before .pre .1 .0 .1), omega (arith, c .before .pre .1 .1))
 
-is-run-requires : tie.Need-is-run-requires
-is-run-requires c κs = search needs
+add-if1 : tie.Need-add-if1
+add-if1 c = search needs
 
-judged-requires : tie.Need-judged-requires
-judged-requires c κs = search needs
+refused-requires : tie.Need-refused-requires
+refused-requires c κs = search needs
 
 returns : tie.Need-returns
-returns c = search needs
+returns c = no-part (c .before .before .before .before .args .text .now) (c .before .before .before .before .args .at) (c .before .before .before .before .pre .0 .0) (c .before .before .before .before .pre .0 .1) (c .before .before .before .before .pre .1 .1) (c .before .before .before .before .pre .1 .0 .0) (c .before .before .before .before .pre .1 .0 .1) (c .before .before .digits .ensures .0) (c .before .before .digits .ensures .1 .0) (c .before .if1 .taken) (c .refused .ensures)
 
-add-if2 : tie.Need-add-if2
-add-if2 c = search needs
+sub-t9 : tie.Need-sub-t9
+sub-t9 c = search needs
 
-judged-requires-2 : tie.Need-judged-requires-2
-judged-requires-2 c κs = search needs
+sub-t11 : tie.Need-sub-t11
+sub-t11 c = search needs
+
+sub-t12 : tie.Need-sub-t12
+sub-t12 c = search needs
+
+sub-t13 : tie.Need-sub-t13
+sub-t13 c = search needs
+
+byte-at-requires : tie.Need-byte-at-requires
+byte-at-requires c κs = search needs
+
+exponent-at-requires : tie.Need-exponent-at-requires
+exponent-at-requires c κs = (dotted-mantissa (c .before .before .before .before .before .args .text .now) (c .before .before .before .before .before .args .at) (c .before .before .before .before .before .pre .0 .0) (c .before .before .before .before .before .pre .0 .1) (c .before .before .before .before .before .pre .1 .1) (c .before .before .before .before .before .pre .1 .0 .0) (c .before .before .before .before .before .pre .1 .0 .1) (c .before .before .before .digits .ensures .0) (c .before .before .before .digits .ensures .1 .0) (c .before .before .if1 .left) (c .before .before .before .digits .ensures .1 .1), sym (c .before .byte-at .ensures) ∙ c .if2 .taken)
 
 returns-2 : tie.Need-returns-2
 returns-2 c = search needs
 
-add-if3 : tie.Need-add-if3
-add-if3 c = search needs
+is-run-requires : tie.Need-is-run-requires
+is-run-requires c κs = search needs
 
-judged-requires-3 : tie.Need-judged-requires-3
-judged-requires-3 c κs = search needs
+refused-requires-2 : tie.Need-refused-requires-2
+refused-requires-2 c κs = search needs
 
 returns-3 : tie.Need-returns-3
-returns-3 c = search needs
+returns-3 c = longer-part (c .before .before .before .before .before .before .before .before .args .text .now) (c .before .before .before .before .before .before .before .before .args .at) (c .before .before .before .before .before .before .before .before .pre .0 .0) (c .before .before .before .before .before .before .before .before .pre .0 .1) (c .before .before .before .before .before .before .before .before .pre .1 .1) (c .before .before .before .before .before .before .before .before .pre .1 .0 .0) (c .before .before .before .before .before .before .before .before .pre .1 .0 .1) (c .before .before .before .before .before .before .digits .ensures .0) (c .before .before .before .before .before .before .digits .ensures .1 .0) (c .before .before .before .before .before .if1 .left) (c .before .before .before .before .byte-at .ensures) (sym (c .before .before .is-run .ensures) ∙ c .before .if3 .taken) (c .before .before .before .if2 .left) (c .refused2 .ensures)
 
-cast-quotient : tie.Need-cast-quotient
-cast-quotient c = omega (arith, literal-small (c .before .before .before .before .before .before .before .pre .1) (c .before .before .before .before .before .before .before .pre .0) (c .before .before .before .before .before .digits .ensures) (c .before .before .if2 .left) (omega (arith, c .before .if3 .left)) .0)
-
-sub-quotient : tie.Need-sub-quotient
-sub-quotient c = search needs
-
-sub-quotient-2 : tie.Need-sub-quotient-2
-sub-quotient-2 c = search needs
-
-quotient-requires : tie.Need-quotient-requires
-quotient-requires c κs = literal-small (c .before .before .before .before .before .before .before .pre .1) (c .before .before .before .before .before .before .before .pre .0) (c .before .before .before .before .before .digits .ensures) (c .before .before .if2 .left) (omega (arith, c .before .if3 .left))
-
-float-to-bits-word : tie.Need-float-to-bits-word
-float-to-bits-word c = rw (c .quotient .ensures) (literal-finite (c .before .before .before .before .before .before .before .before .pre .1) (c .before .before .before .before .before .before .before .before .pre .0) (c .before .before .before .before .before .before .digits .ensures) (c .before .before .before .if2 .left) (omega (arith, c .before .before .if3 .left)))
-
-word-requires : tie.Need-word-requires
-word-requires c κs = search needs
+literal-requires : tie.Need-literal-requires
+literal-requires c κs = literal-fits (dotted-mantissa (c .before .before .before .before .before .before .before .args .text .now) (c .before .before .before .before .before .before .before .args .at) (c .before .before .before .before .before .before .before .pre .0 .0) (c .before .before .before .before .before .before .before .pre .0 .1) (c .before .before .before .before .before .before .before .pre .1 .1) (c .before .before .before .before .before .before .before .pre .1 .0 .0) (c .before .before .before .before .before .before .before .pre .1 .0 .1) (c .before .before .before .before .before .digits .ensures .0) (c .before .before .before .before .before .digits .ensures .1 .0) (c .before .before .before .before .if1 .left) (c .before .before .before .before .before .digits .ensures .1 .1))
 
 returns-4 : tie.Need-returns-4
-returns-4 c =
-    lexes-as (c .word .ensures ∙ ap (λ (x : Float). packFields 2 0 (toBits binary32 x) 0) (c .before .quotient .ensures)) refl
-    (real-run (c .before .before .before .before .before .before .before .before .before .pre .1) (c .before .before .before .before .before .before .before .before .before .pre .0) (c .before .before .before .before .before .before .before .digits .ensures) (c .before .before .before .before .if2 .left) (omega (arith, c .before .before .before .if3 .left)) (sym (c .before .before .before .before .before .before .is-run .ensures) ∙ c .before .before .before .before .before .if1 .left))
+returns-4 c = real-run (c .before .before .before .before .before .before .before .before .args .text .now) (c .before .before .before .before .before .before .before .before .args .at) (c .before .before .before .before .before .before .before .before .pre .0 .0) (c .before .before .before .before .before .before .before .before .pre .0 .1) (c .before .before .before .before .before .before .before .before .pre .1 .1) (c .before .before .before .before .before .before .before .before .pre .1 .0 .0) (c .before .before .before .before .before .before .before .before .pre .1 .0 .1) (c .before .before .before .before .before .before .digits .ensures .0) (c .before .before .before .before .before .before .digits .ensures .1 .0) (c .before .before .before .before .before .if1 .left) (c .before .before .before .before .byte-at .ensures) (c .before .before .before .before .before .before .digits .ensures .1 .1) (sym (c .before .before .is-run .ensures) ∙ c .before .if3 .left) (c .literal .ensures)
 
 pub real-at-spec : {M : Type 1} → statement M
 real-at-spec =
@@ -71,19 +63,18 @@ real-at-spec =
     (tie.spec
     add-digits
     digits-requires
-    is-run-requires
-    judged-requires
+    add-if1
+    refused-requires
     returns
-    add-if2
-    judged-requires-2
+    sub-t9
+    sub-t11
+    sub-t12
+    sub-t13
+    byte-at-requires
+    exponent-at-requires
     returns-2
-    add-if3
-    judged-requires-3
+    is-run-requires
+    refused-requires-2
     returns-3
-    cast-quotient
-    sub-quotient
-    sub-quotient-2
-    quotient-requires
-    float-to-bits-word
-    word-requires
+    literal-requires
     returns-4)
