@@ -106,7 +106,7 @@ fn tell(name: &[u8], v: Verdict, ran: Ran) {
 
 fn try_out(name: &[u8], code: &[u8], n: usize, memory: &[u8; 3204]) {
     let verdict = verifier::check(code, n);
-    let ran = machine::run(code, n, memory);
+    let ran = machine::run(code, n, memory, machine::FIRST_TICK);
     tell(name, verdict, ran);
 }
 

@@ -1,7 +1,7 @@
 -- The earlier of two diagnostics is the lesser of their numbers, place times 16 plus answer; so it does not matter which of them comes first.
 use mathlib.Core.Path.{_≡_, refl, ap, subst}
 use mathlib.Core.Bool.{Bool, true, false, _&&_, _||_, cond}
-use Prim.Native.Nat.{ℕ, _/_, _%_, _≤_, _<_, min}
+use Prim.Native.Nat.{ℕ, _/_, _%_, _≤_, min}
 use native.Mathlib.Omega.{arith}
 use lib.Dec.{eqb, ltb, leb}
 use borrow.Author.Tests.{ltb-true, ltb-false, eqb-true, eqb-false, leb-true, leb-false}

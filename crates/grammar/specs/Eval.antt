@@ -6,7 +6,7 @@ use Rattle.values.specs.declared.Value.{Value}
 use Rattle.values.specs.declared.Outcome.{Outcome}
 use Rattle.values.specs.declared.Outcome.the-variants.{Done, Stopped, WrongKind}
 use Rattle.operators.specs.Operators.{unaryRule, binaryRule, truthRule, fromBool, branchRule}
-use Rattle.memory.specs.Environment.{Environment}
+use Rattle.memory.specs.Environment.{Environment, indexedCell}
 use Rattle.grammar.specs.Tree.{Tree, literal, cell, indexed, unary, binary, logic, choice, treeKind}
 
 -- a value goes on, anything else stops
@@ -23,7 +23,7 @@ unfoldable pub eval : Environment → Tree → Outcome
 unfolding treeKind
 eval E (literal p v) = Done v
 eval E (cell b i) = E .cell b i
-eval E (indexed b t) = then (eval E t) (λ v. E .indexed b v)
+eval E (indexed b t) = then (eval E t) (λ v. indexedCell E b v)
 eval E (unary p o t) = then (eval E t) (λ v. unaryRule o v)
 eval E (binary p o t u) = then (eval E t) (λ v. then (eval E u) (λ w. binaryRule o v w))
 eval E (logic p d t u) = then (eval E t) (λ v. shortCircuit d (truthRule v) (eval E u))

@@ -13,7 +13,7 @@ use Rattle.values.specs.declared.Fault.{Fault}
 use Rattle.values.specs.declared.Outcome.{Outcome}
 use Rattle.values.specs.declared.Outcome.the-variants as Outcome
 use Rattle.operators.specs.Operators.{unaryRule, binaryRule, truthRule}
-use Rattle.memory.specs.Environment.{Environment}
+use Rattle.memory.specs.Environment.{Environment, indexedCell}
 use Rattle.code.specs.declared.Instr.{Instr}
 use Rattle.code.specs.declared.Instr.the-variants.{PushInt, PushReal, Load, LoadIndexed, Unary, Binary, Jump, JumpIf, Unknown}
 use Rattle.words.specs.Laws.{Bytes}
@@ -92,7 +92,7 @@ module _ (E : Environment) (s : List Value) where
   leads (PushReal x) h q = push-leads s h h _ (omega arith)
   leads (Load c e) h q = given-leads s h h (E .cell c e) (omega arith)
   leads (LoadIndexed c) zero q = stick
-  leads (LoadIndexed c) (suc h) q = one-leads h (E .indexed c)
+  leads (LoadIndexed c) (suc h) q = one-leads h (indexedCell E c)
   leads (Unary o) zero q = stick
   leads (Unary o) (suc h) q = one-leads h (unaryRule o)
   leads (Binary o) zero q = stick

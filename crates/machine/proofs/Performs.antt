@@ -22,7 +22,7 @@ use Rattle.memory.specs.Layout.{layoutOf}
 use Rattle.memory.specs.declared.numbers.BankOf.{BankOf}
 use Rattle.memory.specs.declared.numbers.BankOf.the-variants as BankOf
 use Rattle.memory.specs.Numbers.{bankNumbered}
-use Rattle.memory.specs.Environment.{Environment}
+use Rattle.memory.specs.Environment.{Environment, indexedCell}
 use Rattle.memory.proofs.cells.Exponents.{exponent}
 use Rattle.code.specs.declared.Instr.{Instr}
 use Rattle.code.specs.declared.Instr.the-variants.{Load, JumpIf, Unknown}
@@ -108,8 +108,8 @@ module _ (E : Environment) (h : ℕ) (l r : Value) where
       let enough : outcomeStep (h - t) o ≡ givenStep h t o = rw (le-ltb h t p) in
       e ∙ ap (outcomeStep (h - t)) d ∙ enough ∙ sym g ∙ ap made (sym f)
 
-  pub indexed-made : (a : ℕ) (b : Bank) {y : Outcome} {x : Step} → bankNumbered a ≡ BankOf.Is b → 1 ≤ h → y ≡ E .indexed b r → x ≡ outcomeStep (h - 1) y → x ≡ made (indexed (bankNumbered a) 0)
-  indexed-made a b e = worked 1 (E .indexed b r) (ap (λ (u : BankOf). indexed u 0) e) refl
+  pub indexed-made : (a : ℕ) (b : Bank) {y : Outcome} {x : Step} → bankNumbered a ≡ BankOf.Is b → 1 ≤ h → y ≡ indexedCell E b r → x ≡ outcomeStep (h - 1) y → x ≡ made (indexed (bankNumbered a) 0)
+  indexed-made a b e = worked 1 (indexedCell E b r) (ap (λ (u : BankOf). indexed u 0) e) refl
 
   pub unary-made : (a : ℕ) (o : UnaryOp) {y : Outcome} {x : Step} → unaryOf a ≡ UnaryOf.Is o → 1 ≤ h → y ≡ unaryRule o r → x ≡ outcomeStep (h - 1) y → x ≡ made (ofUnary (unaryOf a) 0)
   unary-made a o e = worked 1 (unaryRule o r) (ap (λ (u : UnaryOf). ofUnary u 0) e) refl

@@ -11,7 +11,7 @@ use Rattle.values.specs.declared.Value.the-variants.{Int, Real}
 use Rattle.values.specs.declared.Outcome.{Outcome}
 use Rattle.values.specs.declared.Outcome.the-variants as Outcome
 use Rattle.operators.specs.Operators.{unaryRule, binaryRule, truthRule}
-use Rattle.memory.specs.Environment.{Environment, memoryOf}
+use Rattle.memory.specs.Environment.{Environment, indexedCell, memoryAt}
 use Rattle.code.specs.declared.Instr.{Instr}
 use Rattle.code.specs.declared.Instr.the-variants.{PushInt, PushReal, Load, LoadIndexed, Unary, Binary, Jump, JumpIf, Unknown}
 use Rattle.code.specs.Instructions.{instructions}
@@ -41,7 +41,7 @@ act E (PushInt z) st = pushValue (Int z) st
 act E (PushReal x) st = pushValue (Real x) st
 act E (Load b i) st = pushOutcome (E .cell b i) st
 act E (LoadIndexed b) [] = halts Stuck
-act E (LoadIndexed b) (v ∷ st) = pushOutcome (E .indexed b v) st
+act E (LoadIndexed b) (v ∷ st) = pushOutcome (indexedCell E b v) st
 act E (Unary o) [] = halts Stuck
 act E (Unary o) (v ∷ st) = pushOutcome (unaryRule o v) st
 act E (Binary o) [] = halts Stuck
@@ -87,6 +87,9 @@ exec E [] (suc k) st = record { end = Stuck; count = 0 }
 exec E (i ∷ c) (suc k) st = exec E c k st
 exec E (i ∷ c) zero st = elim (act E i st) [ goes k st′ ↦ counting (cost E i st) (exec E c k st′) | halts e ↦ record { end = e; count = cost E i st } ]
 
--- the first n instructions of the code, from no values held
+-- the first n instructions of the code at the tick t, from no values held
+abbrev pub runsAt : ℕ → List ℕ → ℕ → List ℕ → Ran
+runsAt t code n memory = exec (memoryAt t memory) (instructions code n) 0 []
+
 abbrev pub runs : List ℕ → ℕ → List ℕ → Ran
-runs code n memory = exec (memoryOf memory) (instructions code n) 0 []
+runs code n memory = runsAt 0 code n memory

@@ -7,7 +7,7 @@ ghost use Rattle.code.specs.declared.Instr.the-variants.{JumpIf};
 ghost use Rattle.code.specs.declared.Class.the-variants.{PushInt, PushReal, Jump, Load, LoadIndexed, Unary, Binary};
 ghost use Rattle.code.specs.Instructions.{wordOf};
 ghost use Rattle.code.specs.private.Classes.{instrIn};
-ghost use Rattle.machine.specs.Machine.{runs};
+ghost use Rattle.machine.specs.Machine.{runsAt};
 ghost use Rattle.machine.specs.private.Steps.{minimum, pushOrStuck, skipStep, stopStep, stuckStep, outcomeStep, bankStep, IsStep, IsStepOn, IsStepOnBoth, IsLoad, IsLoadOn, stuckAt, failedAt, finishedAt};
 use code::Class;
 use memory::Bank;
@@ -19,6 +19,9 @@ use operators::tables::UnaryOf;
 use values::Fault;
 use values::Outcome;
 use values::Value;
+
+// The tick at which paper 01's operations run.
+pub const FIRST_TICK: u32 = 0;
 
 // How a run ends: with the one value held, with a fault, or stuck: short of a value, given one of a wrong kind, past 128 held, at
 // bytes that are no instruction, or past the end.
@@ -148,7 +151,7 @@ fn load_from(bank: Bank, word: u32, image: &[u8], h: usize) -> Step
 
 // An arm for each bank, so that a bank's layout is known where its cell is read.
 fn load(w: u64, image: &[u8], h: usize) -> Step
-    ensures { λ x. ⌜ IsLoad (memoryOf (now (image .entry))) (instrIn Load w) h x ⌝ }
+    ensures { λ x. ⌜ IsLoad (now (image .entry)) (instrIn Load w) h x ⌝ }
 {
     let word = code::word_of(w);
     match code::number_of(w) {
@@ -164,7 +167,7 @@ fn load(w: u64, image: &[u8], h: usize) -> Step
 
 // v is the last of h values, and left the one before it; where there are fewer, they may be anything.
 fn load_indexed(w: u64, image: &[u8], h: usize, v: Value) -> Step
-    ensures { λ x. ⌜ IsLoadOn (memoryOf (now (image .entry))) (instrIn LoadIndexed w) h v x ⌝ }
+    ensures { λ x. ⌜ IsLoadOn (now (image .entry)) (instrIn LoadIndexed w) h v x ⌝ }
 {
     if h < 1 {
         return stuck_step();
@@ -284,8 +287,8 @@ fn finished(n: usize, place: usize, h: usize, v: Value, count: usize) -> Ran
 
 // The first n instructions of the code, from no values held. Bytes beyond the code are no instruction. A jump past the end leaves the
 // loop as the end does, and is told from it afterwards.
-pub fn run(code: &[u8], n: usize, image: &[u8]) -> Ran
-    ensures { λ r. ⌜ r ≡ runs (now (code .entry)) n (now (image .entry)) ⌝ }
+pub fn run(code: &[u8], n: usize, image: &[u8], tick: u32) -> Ran
+    ensures { λ r. ⌜ r ≡ runsAt tick (now (code .entry)) n (now (image .entry)) ⌝ }
 {
     let mut stack = [Value::Int(0); 128];
     let mut h: usize = 0;

@@ -5,6 +5,7 @@ pub mod Effects
 pub mod Places
 pub mod Runs
 pub mod Kept
+pub mod Positions
 mod Bytewise
 mod Readings
 mod Representations

@@ -19,14 +19,13 @@ use Rattle.values.specs.Integers.{inRange}
 use Rattle.values.specs.Patterns.{signedOf}
 use Rattle.values.proofs.Ranges.{sfits-range}
 use Rattle.values.proofs.patterns.Exponents.{finite-single}
-use Rattle.operators.specs.declared.Position.{Position}
-use Rattle.operators.specs.declared.Position.the-variants as P
 use Rattle.operators.specs.Laws.{Proper, OfKind, AllProper}
 use Rattle.memory.specs.declared.Bank.{Bank}
 use Rattle.memory.specs.declared.Bank.the-variants.{X, C, «V», N, D, R}
 use Rattle.memory.specs.Layout.{layoutOf, ImageLayout, hasCellIn}
-use Rattle.memory.specs.Cells.{bankKind, bitOf, finiteOrFault, cellValue, realCell, positionRule, readIn, readAt, indexedIn}
+use Rattle.memory.specs.Cells.{bankKind, bitOf, finiteOrFault, cellValue, realCell, positionRule, readIn, indexedIn}
 use Rattle.memory.specs.Laws.{LayoutLaws}
+use Rattle.memory.proofs.Positions.{position-has}
 use Rattle.memory.proofs.Places.{has-size, has-element}
 use Rattle.memory.proofs.cells.Signs.{signed-range}
 use Rattle.memory.proofs.cells.Singles.{finite-cell, special-cell}
@@ -58,12 +57,8 @@ module _ (F : ImageLayout) (s : List ℕ) (b : Bank) where
   pub read-kind : (i : ℕ) → OfKind (bankKind b) (readIn F s b i)
   read-kind i = read-has (OfKind (bankKind b)) (OfKind.stopped IndexError) F s b i (λ h. cell-kind b (F .get s b i))
 
-  position-kind : (p : Position) → OfKind (bankKind b) (readAt F s b p)
-  position-kind (P.At i) = read-kind i
-  position-kind (P.Stopped f) = OfKind.stopped f
-
   pub indexed-kind : (v : Value) → OfKind (bankKind b) (indexedIn F s b v)
-  indexed-kind v = position-kind (positionRule b v)
+  indexed-kind v = position-has (OfKind (bankKind b)) (readIn F s b) read-kind (λ f. OfKind.stopped f) (positionRule b v)
 
 -- ---- properness
 integer : (z : ℤ) → inRange z ≡ true → AllProper (Done (Int z))
@@ -94,9 +89,5 @@ module _ (F : ImageLayout) (L : LayoutLaws F) (s : List ℕ) (b : Bank) (h : Byt
       read-has AllProper (AllProper.stopped IndexError) F s b i
       (λ g. cell-proper b (F .get s b i) (L .get-below s b i (has-size F s b i g) (has-element F s b i g) h))
 
-  position-proper : (p : Position) → AllProper (readAt F s b p)
-  position-proper (P.At i) = read-proper i
-  position-proper (P.Stopped f) = AllProper.stopped f
-
   pub indexed-proper : (v : Value) → AllProper (indexedIn F s b v)
-  indexed-proper v = position-proper (positionRule b v)
+  indexed-proper v = position-has AllProper (readIn F s b) read-proper (λ f. AllProper.stopped f) (positionRule b v)

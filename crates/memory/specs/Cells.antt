@@ -56,17 +56,17 @@ cellValue R n = realCell n
 abbrev pub positionRule : Bank → Value → Position
 positionRule b v = indexRule (layoutOf b .elements) v
 
+-- what reads a bank's cells, at a position; without one, the index's fault
+abbrev pub atPosition : (ℕ → Outcome) → Position → Outcome
+atPosition cell (P.At i) = cell i
+atPosition cell (P.Stopped f) = Stopped f
+
 module _ (F : ImageLayout) where
   abbrev pub readIn : List ℕ → Bank → ℕ → Outcome
   readIn s b i = cond (hasCellIn F s b i) (cellValue b (F .get s b i)) (Stopped IndexError)
 
-  -- the cell at a position; without one, the index's fault
-  abbrev pub readAt : List ℕ → Bank → Position → Outcome
-  readAt s b (P.At i) = readIn s b i
-  readAt s b (P.Stopped f) = Stopped f
-
   abbrev pub indexedIn : List ℕ → Bank → Value → Outcome
-  indexedIn s b v = readAt s b (positionRule b v)
+  indexedIn s b v = atPosition (readIn s b) (positionRule b v)
 
 -- of paper 01's image
 abbrev pub readRule : List ℕ → Bank → ℕ → Outcome

@@ -117,7 +117,7 @@ pub fn run(code: &[u8], n: usize, memory: &mut [u8], target: &[u8]) -> Answer
     let Verdict::Accepted(_) = verifier::check(code, n) else {
         return Answer::Refused(15, 0);
     };
-    let ran = machine::run(code, n, memory);
+    let ran = machine::run(code, n, memory, machine::FIRST_TICK);
     finish(memory, bank, element, ran)
 }
 
@@ -138,7 +138,7 @@ pub fn compile_and_run(target: &[u8], text: &[u8], memory: &mut [u8], code: &mut
     };
     match compiler::compile(text, code) {
         Coded::Done(count) => {
-            let ran = machine::run(code, count, memory);
+            let ran = machine::run(code, count, memory, machine::FIRST_TICK);
             finish(memory, bank, element, ran)
         }
         Coded::Refused(a, p) => Answer::Refused(a, p),

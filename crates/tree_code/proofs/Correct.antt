@@ -15,7 +15,7 @@ use Rattle.values.specs.Values.{kindOf}
 use Rattle.operators.specs.Operators.{asReal, unaryRule, binaryRule, truthRule, fromBool, branchRule}
 use Rattle.operators.specs.Laws.{OfKind}
 use Rattle.operators.specs.declared.UnaryOp.the-variants.{ToReal}
-use Rattle.memory.specs.Environment.{Environment}
+use Rattle.memory.specs.Environment.{Environment, indexedCell}
 use Rattle.code.specs.declared.Instr.{Instr}
 use Rattle.code.specs.declared.Instr.the-variants.{LoadIndexed, Unary, Binary, Jump, JumpIf}
 use Rattle.machine.specs.Machine.{maxHeight, act, exec, endOf}
@@ -93,7 +93,7 @@ module _ (E : Environment) (kinded : Kinded E) where
   unfolding eval codeOf need act
   correct (on-literal {v = v}) st h = pushes E st (omega arith) v
   correct on-cell st h = acts refl (omega arith)
-  correct (on-indexed {b = b} {t = t} w) st h = seq (LoadIndexed b ∷ []) (λ v. E .indexed b v) (correct w st h) (λ v e. acts refl (omega (arith, need-some t)))
+  correct (on-indexed {b = b} {t = t} w) st h = seq (LoadIndexed b ∷ []) (λ v. indexedCell E b v) (correct w st h) (λ v e. acts refl (omega (arith, need-some t)))
   correct (on-unary {o = o} {t = t} q w) st h = seq (Unary o ∷ []) (λ v. unaryRule o v) (correct w st h) (λ v e. acts refl (omega (arith, need-some t)))
   correct (on-binary {o = o} {t = t} {u = u} q w x) st h =
       seq (codeOf u ++ Binary o ∷ []) (λ v. then (eval E u) (λ y. binaryRule o v y)) (correct w st (omega arith))

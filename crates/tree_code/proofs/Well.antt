@@ -20,6 +20,7 @@ use Rattle.memory.specs.Environment.{Environment}
 use Rattle.grammar.specs.Tree.{Tree, literal, cell, indexed, unary, binary, logic, choice, treeKind, Diagnostic, clear, at, precedes, earlier, unless, wrongKindAt, diagnosticOf}
 use Rattle.grammar.specs.Eval.{then, shortCircuit, eval}
 use Rattle.verifier.specs.Safety.{Kinded}
+use Rattle.verifier.proofs.Safe.{indexed-kind}
 
 -- every operator gets kinds that it takes
 pub data Well : Tree → Type 0 where
@@ -91,7 +92,7 @@ module _ (E : Environment) (kinded : Kinded E) where
   unfolding eval treeKind
   worth-kind (on-literal {v = v}) = done v refl
   worth-kind (on-cell {b = b} {i = i}) = kinded .cell b i
-  worth-kind (on-indexed {b = b} w) = then-kind _ (worth-kind w) (λ v e. kinded .indexed b v)
+  worth-kind (on-indexed {b = b} w) = then-kind _ (worth-kind w) (λ v e. indexed-kind kinded b v)
   worth-kind (on-unary {o = o} q w) = then-kind _ (worth-kind w) (λ v e. rw (← e) (rule-laws .unary-kind o v (rw (e, q) tt)))
   worth-kind (on-binary {o = o} q w x) = then-kind _ (worth-kind w) (λ v e. then-kind _ (worth-kind x) (λ y f. rw (← e, ← f) (rule-laws .binary-kind o v y (rw (e, f, q) tt))))
   worth-kind (on-logic {d = d} w x) = then-kind _ (worth-kind w) (λ v e. decided-kind d (truthRule v) (worth-kind x))

@@ -18,8 +18,11 @@ use Rattle.operators.specs.Operators.{truthRule}
 use Rattle.operators.specs.Kinds.{unaryTakes, binaryTakes}
 use Rattle.operators.specs.Laws.{OfKind, done, stopped}
 use Rattle.operators.proofs.Laws.{rule-laws}
-use Rattle.memory.specs.Environment.{Environment, memoryOf}
+use Rattle.memory.specs.declared.Bank.{Bank}
+use Rattle.memory.specs.Cells.{bankKind, positionRule}
+use Rattle.memory.specs.Environment.{Environment, indexedCell, memoryOf}
 use Rattle.memory.proofs.Laws.{memory-laws}
+use Rattle.memory.proofs.Positions.{position-has}
 use Rattle.code.specs.declared.Instr.{Instr}
 use Rattle.code.specs.declared.Instr.the-variants.{PushInt, PushReal, Load, LoadIndexed, Unary, Binary, Jump, JumpIf, Unknown}
 use Rattle.machine.specs.declared.Ended.the-variants.{Stopped}
@@ -31,6 +34,11 @@ use Rattle.verifier.specs.Accepts.{MovesTo, next-place, jump-target, not
 use Rattle.verifier.specs.Stack.{HasOperands, push-int, push-real, load, load-indexed, unary, binary, jump-always, jump-if, StackSafe}
 use Rattle.verifier.specs.Safety.{Kinded, EndsWell, value, fault, Safe}
 use Rattle.verifier.proofs.Moves.{allowed, has-room, Split, split, within}
+
+-- ---- what is read
+
+pub indexed-kind : {E : Environment} → Kinded E → (b : Bank) (v : Value) → OfKind (bankKind b) (indexedCell E b v)
+indexed-kind {E} K b v = position-has (OfKind (bankKind b)) (E .cell b) (K .cell b) (λ f. stopped f) (positionRule b v)
 
 -- ---- one instruction
 
@@ -77,7 +85,7 @@ module _ (E : Environment) (K : Kinded E) where
   follows p (PushReal x) st h n = fits p st (done _ refl) n
   follows p (Load b i) st h n = fits p st (K .cell b i) n
   follows p (LoadIndexed b) [] h n = absurd (n refl)
-  follows p (LoadIndexed b) (v ∷ st) h n = gives p st (K .indexed b v) h
+  follows p (LoadIndexed b) (v ∷ st) h n = gives p st (indexed-kind K b v) h
   follows p (Unary o) [] h n = absurd (n refl)
   follows p (Unary o) (v ∷ st) h n = takes p st (unaryTakes o (kindOf v)) (rule-laws .unary-kind o v) h n
   follows p (Binary o) [] h n = absurd (n refl)
@@ -208,7 +216,4 @@ safe = record {
 -- ---- an actual memory
 
 pub memory-kinded : (s : List ℕ) → Kinded (memoryOf s)
-memory-kinded s = record {
-  cell = memory-laws .read-kind s;
-  indexed = memory-laws .indexed-kind s;
-}
+memory-kinded s = record { cell = memory-laws .read-kind s }

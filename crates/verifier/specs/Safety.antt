@@ -3,7 +3,6 @@
 use mathlib.Core.Path.{_≡_}
 use mathlib.Core.List.{List, []}
 use Prim.Native.Nat.{ℕ, _≤_}
-use lib.ListN.{length}
 use Rattle.values.specs.declared.Kind.{Kind}
 use Rattle.values.specs.declared.Value.{Value}
 use Rattle.values.specs.declared.Fault.{Fault}
@@ -22,7 +21,6 @@ use Rattle.verifier.specs.Stack.{StackSafe}
 -- what is read of a bank is of its kind
 pub record Kinded (E : Environment) : Type 0 where
   pub cell : (b : Bank) (i : ℕ) → OfKind (bankKind b) (E .cell b i)
-  pub indexed : (b : Bank) (v : Value) → OfKind (bankKind b) (E .indexed b v)
 
 -- a value of the kind k, or a fault
 pub data EndsWell (k : Kind) : Ended → Type 0 where

@@ -4,7 +4,7 @@ use mathlib.Core.Path.{sym, ap, _∙_}
 use denote.Ref.{now}
 use Rattle.memory.specs.declared.numbers.BankOf.{BankOf}
 use Rattle.memory.specs.Numbers.{bankNumbered}
-use Rattle.memory.specs.Environment.{memoryOf}
+use Rattle.memory.specs.Environment.{memoryAt}
 use Rattle.code.specs.Instructions.{wordOf}
 use Rattle.code.specs.private.Classes.{numberOf}
 use Rattle.machine.proofs.Performs.{indexed, zero-indexed, spoilt, unspoilt, stuck-anyway, unknown-made, short-indexed, indexed-made}
@@ -15,11 +15,11 @@ stuck-step-requires : tie.Need-stuck-step-requires
 stuck-step-requires c κs = search needs
 
 returns : tie.Need-returns
-returns c = λ l.
+returns c = λ t l.
     let a = c .before .before .before .args in
     let k = numberOf (a .w) in
     let d = wordOf (a .w) in
-    c .stuck-step .ensures ∙ stuck-anyway (memoryOf (now (a .image))) (a .h) l (a .v) (indexed (bankNumbered k)) d (zero-indexed (bankNumbered k) d) (short-indexed (memoryOf (now (a .image))) (a .h) l (a .v) (bankNumbered k) (c .before .if1 .taken))
+    c .stuck-step .ensures ∙ stuck-anyway (memoryAt t (now (a .image))) (a .h) l (a .v) (indexed (bankNumbered k)) d (zero-indexed (bankNumbered k) d) (short-indexed (memoryAt t (now (a .image))) (a .h) l (a .v) (bankNumbered k) (c .before .if1 .taken))
 
 word-of-requires : tie.Need-word-of-requires
 word-of-requires c κs = search needs
@@ -28,11 +28,11 @@ stuck-step-requires-2 : tie.Need-stuck-step-requires-2
 stuck-step-requires-2 c κs = search needs
 
 returns-2 : tie.Need-returns-2
-returns-2 c = λ l.
+returns-2 c = λ t l.
     let a = c .before .before .before .before .before .args in
     let k = numberOf (a .w) in
     let d = wordOf (a .w) in
-    c .stuck-step2 .ensures ∙ spoilt (memoryOf (now (a .image))) (a .h) l (a .v) (indexed (bankNumbered k)) d (zero-indexed (bankNumbered k) d) (c .before .before .word-of .ensures) (c .before .if2 .taken)
+    c .stuck-step2 .ensures ∙ spoilt (memoryAt t (now (a .image))) (a .h) l (a .v) (indexed (bankNumbered k)) d (zero-indexed (bankNumbered k) d) (c .before .before .word-of .ensures) (c .before .if2 .taken)
 
 number-of-requires : tie.Need-number-of-requires
 number-of-requires c κs = search needs
@@ -56,22 +56,22 @@ stuck-step-requires-3 : tie.Need-stuck-step-requires-3
 stuck-step-requires-3 c κs = search needs
 
 returns-3 : tie.Need-returns-3
-returns-3 c = λ l.
+returns-3 c = λ t l.
     let a = c .before .before .before .before .before .before .before .before .before .before .before .args in
     let k = numberOf (a .w) in
     let d = wordOf (a .w) in
     let is = sym (rw (c .before .before .before .before .before .before .number-of .ensures) at (c .before .before .before .before .before .bank-numbered .ensures)) ∙ c .before .before .before .b .given .1 in
-    unspoilt (memoryOf (now (a .image))) (a .h) l (a .v) (indexed (bankNumbered k)) d (c .before .before .before .before .before .before .before .before .word-of .ensures) (c .before .before .before .before .before .before .before .if2 .left)
-    (indexed-made (memoryOf (now (a .image))) (a .h) l (a .v) k (c .before .before .before .b .given .0 .0) is (c .before .before .before .before .before .before .before .before .before .if1 .left) (c .before .read-indexed .ensures) (c .outcome-step .ensures))
+    unspoilt (memoryAt t (now (a .image))) (a .h) l (a .v) (indexed (bankNumbered k)) d (c .before .before .before .before .before .before .before .before .word-of .ensures) (c .before .before .before .before .before .before .before .if2 .left)
+    (indexed-made (memoryAt t (now (a .image))) (a .h) l (a .v) k (c .before .before .before .b .given .0 .0) is (c .before .before .before .before .before .before .before .before .before .if1 .left) (c .before .read-indexed .ensures) (c .outcome-step .ensures))
 
 returns-4 : tie.Need-returns-4
-returns-4 c = λ l.
+returns-4 c = λ t l.
     let a = c .before .before .before .before .before .before .before .before .before .args in
     let k = numberOf (a .w) in
     let d = wordOf (a .w) in
     let is = sym (rw (c .before .before .before .before .number-of .ensures) at (c .before .before .before .bank-numbered .ensures)) ∙ c .before .enum-told .given .1 in
-    c .stuck-step3 .ensures ∙ stuck-anyway (memoryOf (now (a .image))) (a .h) l (a .v) (indexed (bankNumbered k)) d (zero-indexed (bankNumbered k) d)
-    (unknown-made (memoryOf (now (a .image))) (a .h) l (a .v) (indexed (bankNumbered k) 0) (ap (λ (u : BankOf). indexed u 0) is))
+    c .stuck-step3 .ensures ∙ stuck-anyway (memoryAt t (now (a .image))) (a .h) l (a .v) (indexed (bankNumbered k)) d (zero-indexed (bankNumbered k) d)
+    (unknown-made (memoryAt t (now (a .image))) (a .h) l (a .v) (indexed (bankNumbered k) 0) (ap (λ (u : BankOf). indexed u 0) is))
 
 pub load-indexed-spec : {M : Type 1} → statement M
 load-indexed-spec =

@@ -7,7 +7,7 @@ use borrow.Author.Needs.{needs}
 use lib.ListN.{length, length-set}
 use denote.Ref.{now}
 use Rattle.words.specs.Laws.{Bytes}
-use Rattle.memory.specs.Environment.{memoryOf}
+use Rattle.memory.specs.Environment.{memoryAt}
 use Rattle.machine.specs.Machine.{maxHeight}
 use Rattle.machine.proofs.Held.{none, held, held-finish}
 use Rattle.machine.proofs.Rest.{Stands, starts, minimum-left, minimum-right, finishes}
@@ -16,22 +16,22 @@ use Rattle.machine.proofs.run.Statement.{statement}
 use Rattle.machine.proofs.run.Tie as tie
 
 abbrev Inv-loop : tie.InvT-loop
-Inv-loop code n image stack₀ h₀ place₀ count₀ there stack h place count =
-    (length stack ≡ maxHeight) × (h ≤ maxHeight) × (count ≤ place) × (there ≤ n) × (there ≤ length code / 8) × Stands (memoryOf image) code n place (held h stack) count
+Inv-loop code n image tick stack₀ h₀ place₀ count₀ there stack h place count =
+    (length stack ≡ maxHeight) × (h ≤ maxHeight) × (count ≤ place) × (there ≤ n) × (there ≤ length code / 8) × Stands (memoryAt tick image) code n place (held h stack) count
 
 abbrev μ-loop : tie.MeasureT-loop
-μ-loop code n image stack₀ h₀ place₀ count₀ there stack h place count = there - place
+μ-loop code n image tick stack₀ h₀ place₀ count₀ there stack h place count = there - place
 
 -- the instruction at the place has been performed, and has made a step of the values held
 made : (c : tie.At-match-came Inv-loop μ-loop) →
     let l = c .before .before .before .before .loop in
     let a = c .before .before .before .before .before .before .before .before .args in
-    Turn (memoryOf (now (a .image))) (now (a .code)) (a .n) (l .place) (l .h) (l .stack) (l .count) (c .match .step)
+    Turn (memoryAt (a .tick) (now (a .image))) (now (a .code)) (a .n) (l .place) (l .h) (l .stack) (l .count) (c .match .step)
 made c =
     let l = c .before .before .before .before .loop in
     let a = c .before .before .before .before .before .before .before .before .args in
     let w = c .before .before .fetch .result in
-    let E = memoryOf (now (a .image)) in
+    let E = memoryAt (a .tick) (now (a .image)) in
     let bytes : Bytes (now (a .code)) = λ j. omega (arith, c .before .before .before .before .before .before .before .shared-slice-known .given j) in
     let class = c .before .class-of .ensures in
     turn (l .h) (l .stack) (omega arith) (l .inv .5) bytes (c .before .before .fetch .ensures)
@@ -40,8 +40,8 @@ made c =
     (⊎-elim (λ s. s .3 ∙ performed E (l .h) (l .stack) w class (s .1 .given .1) refl refl (s .2 .ensures E none none))
     (⊎-elim (λ s. s .5 ∙ performed E (l .h) (l .stack) w class (s .1 .given .1) refl (s .2 .ensures) (s .4 .ensures E none))
     (⊎-elim (λ s. s .5 ∙ performed E (l .h) (l .stack) w class (s .1 .given .1) refl (s .2 .ensures) (s .4 .ensures E none))
-    (⊎-elim (λ s. s .3 ∙ performed E (l .h) (l .stack) w class (s .1 .given .1) refl refl (s .2 .ensures _ _))
-    (⊎-elim (λ s. s .5 ∙ performed E (l .h) (l .stack) w class (s .1 .given .1) refl (s .2 .ensures) (s .4 .ensures _))
+    (⊎-elim (λ s. s .3 ∙ performed E (l .h) (l .stack) w class (s .1 .given .1) refl refl (s .2 .ensures (a .tick) _ _))
+    (⊎-elim (λ s. s .5 ∙ performed E (l .h) (l .stack) w class (s .1 .given .1) refl (s .2 .ensures) (s .4 .ensures (a .tick) _))
     (⊎-elim (λ s. s .5 ∙ performed E (l .h) (l .stack) w class (s .1 .given .1) refl (s .2 .ensures) (s .4 .ensures E _))
     (⊎-elim (λ s. s .7 ∙ performed E (l .h) (l .stack) w class (s .1 .given .1) (s .2 .ensures) (s .4 .ensures) (s .6 .ensures E))
     (λ s. s .3 ∙ performed E (l .h) (l .stack) w class (s .1 .given .1) refl refl (s .2 .ensures))))))))))

@@ -1,6 +1,7 @@
 -- How the code works out `act` on an array of which the first h values are held. For the contracts of the private functions; a reader believes Machine alone.
 use mathlib.Core.Path.{_≡_}
 use mathlib.Core.Bool.{Bool, cond, Bool·beq}
+use mathlib.Core.List.{List}
 use Prim.Native.Nat.{ℕ, _+_, _-_}
 use lib.Dec.{eqb, ltb}
 use lib.IntN.{pos}
@@ -13,7 +14,7 @@ use Rattle.values.specs.declared.Outcome.the-variants as Outcome
 use Rattle.operators.specs.Operators.{unaryRule, binaryRule, truthRule}
 use Rattle.memory.specs.declared.Bank.{Bank}
 use Rattle.memory.specs.Layout.{layoutOf}
-use Rattle.memory.specs.Environment.{Environment}
+use Rattle.memory.specs.Environment.{Environment, indexedCell, memoryAt}
 use Rattle.code.specs.declared.Instr.{Instr}
 use Rattle.code.specs.declared.Instr.the-variants.{PushInt, PushReal, Load, LoadIndexed, Unary, Binary, Jump, JumpIf, Unknown}
 use Rattle.machine.specs.declared.Ended.{Ended}
@@ -67,7 +68,7 @@ abbrev pub stepOf : Environment → Instr → ℕ → Value → Value → Step
 stepOf E (PushInt z) h l r = pushOrStuck h (Int z)
 stepOf E (PushReal x) h l r = pushOrStuck h (Real x)
 stepOf E (Load b i) h l r = outcomeStep h (E .cell b i)
-stepOf E (LoadIndexed b) h l r = givenStep h 1 (E .indexed b r)
+stepOf E (LoadIndexed b) h l r = givenStep h 1 (indexedCell E b r)
 stepOf E (Unary o) h l r = givenStep h 1 (unaryRule o r)
 stepOf E (Binary o) h l r = givenStep h 2 (binaryRule o l r)
 stepOf E (Jump d) h l r = skipStep h d
@@ -84,12 +85,12 @@ IsStepOn i h r x = (E : Environment) (l : Value) → x ≡ stepOf E i h l r
 abbrev pub IsStepOnBoth : Instr → ℕ → Value → Value → Step → Type 0
 IsStepOnBoth i h l r x = (E : Environment) → x ≡ stepOf E i h l r
 
--- the same in a memory, for the two that read it
-abbrev pub IsLoad : Environment → Instr → ℕ → Step → Type 0
-IsLoad E i h x = (l r : Value) → x ≡ stepOf E i h l r
+-- the same in the memory m at any tick, for the two that read it
+abbrev pub IsLoad : List ℕ → Instr → ℕ → Step → Type 0
+IsLoad m i h x = (t : ℕ) (l r : Value) → x ≡ stepOf (memoryAt t m) i h l r
 
-abbrev pub IsLoadOn : Environment → Instr → ℕ → Value → Step → Type 0
-IsLoadOn E i h r x = (l : Value) → x ≡ stepOf E i h l r
+abbrev pub IsLoadOn : List ℕ → Instr → ℕ → Value → Step → Type 0
+IsLoadOn m i h r x = (t : ℕ) (l : Value) → x ≡ stepOf (memoryAt t m) i h l r
 
 -- a load from the bank, of an element that may be beyond it
 abbrev pub bankStep : Environment → Bank → ℕ → ℕ → Step
