@@ -13,7 +13,7 @@
  *
  * Floating point. It must round to nearest and keep subnormals: ask formula_float_mode_ok at the start, in each thread. A program
  * linked with -Ofast or -ffast-math flushes subnormals to zero from its start, which makes `R1 == 0` true for a subnormal R1;
- * rounding toward zero changes even the literals of a compiled formula.
+ * rounding toward zero changes sums, products and promotions.
  */
 #ifndef FORMULA_H
 #define FORMULA_H
@@ -25,7 +25,7 @@
 extern "C" {
 #endif
 
-#define FORMULA_VERSION 1 /* rises where this header, an answer or the bytes of an instruction change their meaning */
+#define FORMULA_VERSION 2 /* rises where this header, an answer or the bytes of an instruction change their meaning */
 
 #define FORMULA_TEXT_BYTES        1024u  /* the longest expression */
 #define FORMULA_MEMORY_BYTES      3204u  /* the only size of a memory */

@@ -1,12 +1,14 @@
 //! Holds the C library to an implementation that was written apart from it, on random cases. Built by run.sh.
 //!
 //!   host [CASES [SEED [FIRST]]]   random cases, numbered from FIRST
+//!   host literals [NUMBER [SEED]] random real literals
 //!   host examples DOCUMENT...     the examples of the documents
 
 mod compare;
 mod examples;
 mod header;
 mod library;
+mod literals;
 mod random;
 mod reference;
 mod stop;
@@ -33,6 +35,7 @@ fn main() {
     let words: Vec<&str> = arguments.iter().map(String::as_str).collect();
     let result = match words[..] {
         ["examples", ref documents @ ..] => try_examples(documents),
+        ["literals", ref numbers @ ..] => random_literals(numbers),
         _ => random_cases(&words),
     };
     if let Err(difference) = result {
@@ -50,6 +53,10 @@ fn argument(words: &[&str], at: usize, default: u64) -> Result<u64, String> {
 
 fn clock() -> u64 {
     SystemTime::now().duration_since(UNIX_EPOCH).map_or(1, |d| d.as_millis() as u64)
+}
+
+fn random_literals(words: &[&str]) -> Result<(), String> {
+    literals::try_literals(argument(words, 0, DEFAULT_CASES)?, argument(words, 1, clock())?)
 }
 
 fn random_cases(words: &[&str]) -> Result<(), String> {

@@ -1,4 +1,4 @@
-// The pattern of a pushed real.
+// The pattern of a reported real.
 ghost use mathlib.Core.Path.{_≡_};
 ghost use lib.Ieee.{binary32, toBits};
 

@@ -13,14 +13,7 @@ fn find(text: &[u8], at: usize, b: u8) -> usize
     requires { ⌜ at ≤ length (now text) ⌝ }
     ensures { λ r. ⌜ (at ≤ r) × (r ≤ length (now (text .entry))) ⌝ }
 {
-    let mut end = at;
-    while end < text.len() {
-        if text[end] == b {
-            return end;
-        }
-        end += 1;
-    }
-    end
+    at + lines::until(&text[at..], b)
 }
 
 // The place behind another, within the text.

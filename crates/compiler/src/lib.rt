@@ -11,7 +11,8 @@ ghost use Rattle.compiler.specs.Compile.{compiling, codedAnswer, codedBy
 ghost use Rattle.compiler.specs.private.Reading.{Judged};
 use token_table::Filled;
 
-pub mod reader;
+mod copying;
+mod reader;
 
 // How many instructions the code has, or the answer and place that refuse the text.
 pub enum Coded {
@@ -22,7 +23,7 @@ pub enum Coded {
 // "10: compiling, with a code buffer under 16,384 bytes"
 pub const LEAST_CODE: usize = 16384;
 
-// "A formula is 1 to 1,024 bytes"
+// "3: expression empty or over 1,024 bytes"
 const LONGEST: usize = 1024;
 
 fn is_sized(text: &[u8]) -> bool
@@ -73,7 +74,7 @@ fn compile_in(text: &[u8], table: &mut [u64], draft: &mut [u64], code: &mut [u8]
 {
     match read(text, table, draft) {
         Coded::Done(n) => {
-            draft::copy(draft, n, code);
+            copying::copy(draft, n, code);
             Coded::Done(n)
         }
         Coded::Refused(a, p) => Coded::Refused(a, p),

@@ -16,9 +16,11 @@ ghost use Rattle.draft.specs.private.Draft.{Unaries};
 ghost use Rattle.compiler.specs.private.Reading.{Fits, ReaderAgrees, primaryOf, thenSymbol, callOf, Branches, Judged};
 use crate::Coded;
 use draft::ahead;
+use draft::diagnostics;
+use draft::diagnostics::CLEAR;
 use draft::results;
-use draft::results::CLEAR;
 use operators::functions;
+use token_table::classes;
 use tokens::symbols;
 
 // "more than eight open" is refused
@@ -95,8 +97,8 @@ fn primary(table: &[u64], draft: &mut [u64], at: usize, pc: usize, room: u8) -> 
     let w = token_table::word_at(table, at);
     let n = token_table::operand_of(w);
     match token_table::class_of(w) {
-        0 => results::bad(at),
-        4 => {
+        classes::NONE => results::bad(at),
+        classes::LETTER => {
             let open = symbols::OPEN_INDEX;
             let index = bracket(table, draft, at + 1, pc, room, open, symbols::CLOSE_INDEX);
             if !results::is_done(index) {
@@ -104,8 +106,8 @@ fn primary(table: &[u64], draft: &mut [u64], at: usize, pc: usize, room: u8) -> 
             }
             draft::loaded(draft, n, index)
         }
-        5 => arguments(table, draft, at + 1, pc, room, n),
-        6 => bracket(table, draft, at, pc, room, symbols::OPEN, symbols::CLOSE),
+        classes::NAME => arguments(table, draft, at + 1, pc, room, n),
+        classes::SYMBOL => bracket(table, draft, at, pc, room, symbols::OPEN, symbols::CLOSE),
         _ => draft::leaf(draft, w, at, pc),
     }
 }
@@ -216,12 +218,15 @@ pub fn formula(table: &[u64], draft: &mut [u64], size: usize) -> Coded
         return Coded::Refused(results::refusal_of(whole), ahead::place_at(table, at, size));
     }
     let w = token_table::word_at(table, at);
-    if token_table::class_of(w) != 0 {
+    if token_table::class_of(w) != classes::NONE {
         return Coded::Refused(7, token_table::place_of(w));
     }
     let wrong = results::wrong_of(whole);
     if wrong < CLEAR {
-        return Coded::Refused(results::answer_part(wrong), results::place_part(wrong));
+        return Coded::Refused(
+            diagnostics::answer_part(wrong),
+            diagnostics::place_part(wrong),
+        );
     }
     Coded::Done(results::end_of(whole))
 }

@@ -4,4 +4,3 @@ pub mod Signing
 mod Numbers
 mod Typed
 mod Words
-mod Copied

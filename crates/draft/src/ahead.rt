@@ -8,18 +8,8 @@ ghost use Rattle.draft.specs.private.Words.{isLeaf, leafKind, leafOpcode
 use memory::numbers;
 use operators::kinds;
 use operators::tables;
+use token_table::classes;
 use tokens::symbols;
-
-// The classes of tokens, as token_table packs them; behind the last token there is none.
-const NONE: u8 = 0;
-
-const INTEGER: u8 = 1;
-
-const REAL: u8 = 2;
-
-const LETTER: u8 = 4;
-
-const SYMBOL: u8 = 6;
 
 // What `sign_of` gives for what is no unary operator of the text.
 const NO_SIGN: u8 = 3;
@@ -29,7 +19,11 @@ pub fn is_leaf(w: u64) -> bool
     ensures { λ r. ⌜ r ≡ isLeaf w ⌝ }
 {
     let class = token_table::class_of(w);
-    if class == NONE { false } else { class < LETTER }
+    if class == classes::NONE {
+        false
+    } else {
+        class < classes::LETTER
+    }
 }
 
 // The kind of a number or a cell.
@@ -39,10 +33,10 @@ pub fn leaf_kind(w: u64) -> u8
     ensures { λ r. ⌜ r < 2 ⌝ }
 {
     let class = token_table::class_of(w);
-    if class == INTEGER {
+    if class == classes::INTEGER {
         return kinds::INT;
     }
-    if class == REAL {
+    if class == classes::REAL {
         return kinds::REAL;
     }
     numbers::bank_kind(token_table::operand_of(w) as u32)
@@ -53,10 +47,10 @@ pub fn leaf_opcode(w: u64) -> u32
     ensures { λ r. ⌜ r ≡ leafOpcode (wordClass w) (wordOperand w) ⌝ }
 {
     let class = token_table::class_of(w);
-    if class == INTEGER {
+    if class == classes::INTEGER {
         return code::PUSH_INT;
     }
-    if class == REAL {
+    if class == classes::REAL {
         return code::PUSH_REAL;
     }
     code::LOAD + (token_table::operand_of(w) as u32)
@@ -65,7 +59,7 @@ pub fn leaf_opcode(w: u64) -> u32
 fn is_symbol(w: u64, n: u8) -> bool
     ensures { λ r. ⌜ r ≡ isMark n w ⌝ }
 {
-    w % 65536 == (SYMBOL as u64) + 256 * (n as u64)
+    w % 65536 == (classes::SYMBOL as u64) + 256 * (n as u64)
 }
 
 // Whether the symbol n comes next.
@@ -96,7 +90,7 @@ pub fn sign_of(w: u64) -> u8
 pub fn group_in(w: u64) -> u8
     ensures { λ r. ⌜ r ≡ groupIn w ⌝ }
 {
-    if token_table::class_of(w) == SYMBOL {
+    if token_table::class_of(w) == classes::SYMBOL {
         grammar::group_of(token_table::operand_of(w))
     } else {
         0
@@ -108,7 +102,7 @@ pub fn place_at(table: &[u64], at: usize, size: usize) -> usize
     ensures { λ r. ⌜ r ≡ placeAt size (wordAt (now (table .entry)) at) ⌝ }
 {
     let w = token_table::word_at(table, at);
-    if token_table::class_of(w) == NONE {
+    if token_table::class_of(w) == classes::NONE {
         size
     } else {
         token_table::place_of(w)

@@ -1,10 +1,13 @@
-// Diagnostics as numbers: what is wrong with an operand, and which of two is the earlier.
+// Diagnostics as numbers, place times 16 plus answer: what is wrong with an operand, and which of two is the earlier. Only this module
+// sees the bits.
 ghost use mathlib.Core.Path.{_≡_};
 ghost use Prim.Native.Nat.{_<_};
 ghost use Rattle.token_table.specs.private.Table.{wordPlace};
 ghost use Rattle.grammar.specs.Tree.{earlier, unless, wrongKindAt};
-ghost use Rattle.draft.specs.private.Results.{diagnosed};
-use crate::results::CLEAR;
+ghost use Rattle.draft.specs.private.Results.{diagnosed, placePart, answerPart};
+
+// The number of no diagnostic: every other is less, being a place below 65,536 times 16 and an answer below 16.
+pub const CLEAR: u64 = 1048576;
 
 const WRONG_KIND: u64 = 9;
 
@@ -26,4 +29,17 @@ pub fn wrong_at(taken: bool, w: u64) -> u64
     } else {
         16 * (token_table::place_of(w) as u64) + WRONG_KIND
     }
+}
+
+// The place of a diagnostic, and its answer.
+pub fn place_part(wrong: u64) -> usize
+    ensures { λ p. ⌜ p ≡ placePart wrong ⌝ }
+{
+    (wrong / 16) as usize
+}
+
+pub fn answer_part(wrong: u64) -> u32
+    ensures { λ a. ⌜ a ≡ answerPart wrong ⌝ }
+{
+    (wrong % 16) as u32
 }

@@ -1,10 +1,9 @@
 // Instructions as words, written into a draft: what follows the parts of a formula. A jump is filled in when what it skips has been written; nothing is written behind the draft's end.
 ghost use mathlib.Core.Path.{_≡_};
 ghost use mathlib.Core.Bool.{false};
-ghost use Prim.Native.Nat.{_+_, _-_, _*_, _%_, _<_, _≤_};
+ghost use Prim.Native.Nat.{_+_, _-_, _<_, _≤_};
 ghost use lib.Dec.{eqb};
-ghost use lib.ListN.{length, take, set};
-ghost use lib.Seq.{sets};
+ghost use lib.ListN.{length, set};
 ghost use Rattle.operators.specs.Kinds.{join, numberKind, unaryKind, unaryTakes, binaryKind};
 ghost use Rattle.operators.specs.Functions.{functionArity};
 ghost use Rattle.memory.specs.Cells.{bankKind};
@@ -15,26 +14,24 @@ ghost use Rattle.code.specs.Encode.{joinWord};
 ghost use Rattle.tree_code.specs.Code.{branchTail, branchTailSkip};
 ghost use Rattle.draft.specs.private.Results.{Done, diagnosed, readNext, readEnd, readKind, readWrong, readOf};
 ghost use Rattle.draft.specs.private.Words.{unaryAt, bankAt, functionOp, functionPair, leafKind, leafOpcode, prefixNumber};
-ghost use Rattle.draft.specs.private.Draft.{wordBytes, putInstr, putCode, reserved, settledCode, joinedCode, joinedEnd, infixKind, infixWrong, chosenCode};
+ghost use Rattle.draft.specs.private.Draft.{putInstr, putCode, reserved, settledCode, joinedCode, joinedEnd, infixKind, infixWrong, chosenCode};
 use code::BINARY;
 use code::JUMP;
 use code::JUMP_IF_FALSE;
 use code::LOAD_INDEXED;
 use code::PUSH_INT;
 use code::UNARY;
+use diagnostics::CLEAR;
 use memory::numbers;
 use operators::functions;
 use operators::kinds;
 use operators::kinds::NOT_TAKEN;
 use operators::tables;
-use results::CLEAR;
+use tokens::symbols::AND;
 
 pub mod ahead;
 pub mod diagnostics;
 pub mod results;
-
-// The symbols && and || are the binary operators of the text from here on: they jump, where the others are instructions.
-const AND: u8 = 18;
 
 // One instruction.
 pub fn put(draft: &mut [u64], place: usize, opcode: u32, word: u32)
@@ -102,7 +99,7 @@ pub fn prefixed(draft: &mut [u64], w: u64, inner: u64) -> u64
     let kind = kinds::unary_kind(op, results::kind_of(inner));
     let here = diagnostics::wrong_at(kind < NOT_TAKEN, w);
     let wrong = diagnostics::earlier(here, results::wrong_of(inner));
-    added(draft, inner, UNARY + op, kind % 2, wrong)
+    added(draft, inner, UNARY + op, kind % NOT_TAKEN, wrong)
 }
 
 // A function of one argument.
@@ -113,7 +110,13 @@ pub fn applied(draft: &mut [u64], f: u8, first: u64) -> u64
 {
     let op = functions::operator(f) as u32;
     let kind = kinds::unary_kind(op, results::kind_of(first));
-    added(draft, first, UNARY + op, kind % 2, results::wrong_of(first))
+    added(
+        draft,
+        first,
+        UNARY + op,
+        kind % NOT_TAKEN,
+        results::wrong_of(first),
+    )
 }
 
 // A function of two arguments.
@@ -125,10 +128,10 @@ pub fn paired(draft: &mut [u64], f: u8, first: u64, second: u64) -> u64
     let op = functions::operator(f) as u32;
     let kind = kinds::binary_kind(op, results::kind_of(first), results::kind_of(second));
     let wrong = diagnostics::earlier(results::wrong_of(first), results::wrong_of(second));
-    added(draft, second, BINARY + op, kind % 2, wrong)
+    added(draft, second, BINARY + op, kind % NOT_TAKEN, wrong)
 }
 
-// The place that a binary operator needs before its right side: && and || jump over that.
+// The place that a binary operator needs before its right side: && and ||, the last binary operators of the text, jump over that.
 pub fn reserve(n: u8) -> usize
     ensures { λ r. ⌜ r ≡ reserved n ⌝ }
 {
@@ -167,7 +170,7 @@ pub fn joined(draft: &mut [u64], w: u64, left: u64, right: u64) -> u64
         draft,
         right,
         BINARY + op,
-        kind % 2,
+        kind % NOT_TAKEN,
         diagnostics::earlier(here, inner),
     )
 }
@@ -223,31 +226,4 @@ pub fn chosen(draft: &mut [u64], condition: u64, first: u64, second: u64) -> u64
     let branches = diagnostics::earlier(results::wrong_of(first), results::wrong_of(second));
     let wrong = diagnostics::earlier(results::wrong_of(condition), branches);
     results::done(results::next_of(second), end, kinds::joined(a, b), wrong)
-}
-
-fn byte_of(w: u64) -> u8
-    ensures { λ r. ⌜ r ≡ w % 256 ⌝ }
-{
-    (w % 256) as u8
-}
-
-// The first n words, as bytes.
-pub fn copy(draft: &[u64], n: usize, code: &mut [u8])
-    requires { ⌜ (n ≤ length (now draft)) × (8 * n ≤ length (now code)) ⌝ }
-    ensures { λ _. ⌜ now (code .exit) ≡ sets (now (code .entry)) 0 (wordBytes (take n (now (draft .entry)))) ⌝ }
-{
-    let mut i: usize = 0;
-    while i < n {
-        let w = draft[i];
-        let at = 8 * i;
-        code[at] = byte_of(w);
-        code[at + 1] = byte_of(w / 256);
-        code[at + 2] = byte_of(w / 65536);
-        code[at + 3] = byte_of(w / 16777216);
-        code[at + 4] = byte_of(w / 4294967296);
-        code[at + 5] = byte_of(w / 1099511627776);
-        code[at + 6] = byte_of(w / 281474976710656);
-        code[at + 7] = byte_of(w / 72057594037927936);
-        i += 1;
-    }
 }

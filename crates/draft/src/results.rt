@@ -1,11 +1,8 @@
-// What reading returns, in one word: structs and enums are returned through memory, which costs more than the packing. specs/Results.antt says which bits are which.
+// What reading returns, in one word: structs and enums are returned through memory, which costs more than the packing. specs/private/Results.antt says which bits are which.
 ghost use mathlib.Core.Path.{_≡_};
 ghost use Prim.Native.Nat.{_<_};
 ghost use Rattle.operators.specs.Kinds.{numberKind};
-ghost use Rattle.draft.specs.private.Results.{Done, Bad, Deep, isDone, further, refusal, placePart, answerPart, diagnosed, readNext, readEnd, readKind, readWrong, readOf};
-
-// The number of no diagnostic: every other is less, being a place below 65,536 times 16 and an answer below 16.
-pub const CLEAR: u64 = 1048576;
+ghost use Rattle.draft.specs.private.Results.{Done, Bad, Deep, isDone, further, refusal, diagnosed, readNext, readEnd, readKind, readWrong, readOf};
 
 // Reading got to `next` in the table and to `end` in the draft.
 pub fn done(next: usize, end: usize, kind: u8, wrong: u64) -> u64
@@ -71,19 +68,6 @@ pub fn wrong_of(r: u64) -> u64
     ensures { λ p. ⌜ p < 536870912 ⌝ }
 {
     r / 34359738368
-}
-
-// The place of a diagnostic, and its answer.
-pub fn place_part(wrong: u64) -> usize
-    ensures { λ p. ⌜ p ≡ placePart wrong ⌝ }
-{
-    (wrong / 16) as usize
-}
-
-pub fn answer_part(wrong: u64) -> u32
-    ensures { λ a. ⌜ a ≡ answerPart wrong ⌝ }
-{
-    (wrong % 16) as u32
 }
 
 // One token further.

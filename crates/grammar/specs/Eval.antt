@@ -1,4 +1,4 @@
--- What a tree is worth (paper 01: "The rules give the value of the whole tree, or the first fault met in working it out"): left to right, "`&&` and `||` skip the right side where the left decides; IF works
+-- The value of a tree (paper 01: "The rules give the value of the whole tree, or the first fault met in working it out"): left to right, "`&&` and `||` skip the right side where the left decides; IF works
 -- out only the chosen branch". Over an environment: whatever a memory holds.
 use mathlib.Core.Bool.{Bool, true, false, cond, Bool·beq}
 use Prim.Native.Nat.{ℕ}

@@ -38,6 +38,18 @@ ten-pos k = one-le-pow k 10 (lit≤ tt)
 ten-le : (k j : ℕ) → k ≤ j → 10 ^ k ≤ 10 ^ j
 ten-le k j h = pow-le-pow-right {n = 10} (lit≤ tt) h
 
+-- ---- n / 10 ^ d, doubled 31 times
+pub short-le : (d : ℕ) {p : ℕ} → p ≡ 10 ^ d → d < 3 → p ≤ 2 ^ 47
+short-le d P D = rw P (le-trans (ten-le d 2 (omega arith)) (lit≤ tt))
+
+pub short-fits : (d : ℕ) {p n : ℕ} {x : Mixed} → p ≡ 10 ^ d → Represents p 1 (n * 2 ^ 31) x → n < 2 ^ 17 → x .whole < 2 ^ 48
+short-fits d {p} {n} P r N =
+    let below : n * 2 ^ 31 < 2 ^ 48 = omega (arith, N) in
+    whole-lt r (2 ^ 48) (lt-of-lt-of-le below (mul-le-mul-left {m = 1} (2 ^ 48) (rw (mul-one p, P) (ten-pos d))))
+
+pub short-is : (d p n : ℕ) → p ≡ 10 ^ d → round binary32 false (n * 2 ^ 0) (p * 1) ≡ round binary32 false n (10 ^ d)
+short-is d p n P = rw (mul-one n, mul-one p, P)
+
 -- the power of an exponent from those of two halves of it
 halves : (e : ℕ) → 10 ^ (e / 2) * 10 ^ (e - e / 2) ≡ 10 ^ e
 halves e = sym (pow-add 10 (e / 2) (e - e / 2)) ∙ ap (λ (i : ℕ). 10 ^ i) (omega arith)

@@ -42,6 +42,7 @@ too-high n (negsuc k) t = absurd (false≢true t)
 pub record Divides (n : ℕ) (z : ℤ) : Type 0 where
   pub digits : ℕ
   pub is : pos 0 -ℤ z ≡ pos digits
+  pub some : 0 < digits
   pub few : digits ≤ 28
   pub pattern : toBits binary32 (round binary32 false n (10 ^ digits)) ≡ literalPattern n z
 
@@ -49,7 +50,7 @@ pub divides : (n : ℕ) (z : ℤ) → ltZ z (negsuc 27) ≡ false → ltZ z (pos
 divides n (pos e) t s = absurd (omega (arith, ltb-true e 0 s))
 divides n (negsuc k) t s =
     let h : k ≤ 27 = ltb-false 27 k t in
-    record { digits = suc k; is = ap pos (zero-add (suc k)); few = omega arith; pattern = rw (le-leb k 27 h) }
+    record { digits = suc k; is = ap pos (zero-add (suc k)); some = omega arith; few = omega arith; pattern = rw (le-leb k 27 h) }
 
 -- ---- from 0 on
 pub record Multiplies (n : ℕ) (z : ℤ) : Type 0 where

@@ -6,7 +6,7 @@ ghost use mathlib.Core.Bool.{false};
 ghost use Prim.Native.Nat.{_*_, _^_, _≤_, _<_};
 ghost use lib.Ieee.{binary32, round, toBits};
 ghost use Rattle.literals.specs.Literals.{literalPattern};
-ghost use Rattle.literals.specs.private.MixedNumbers.{numerator, Represents, Normalized, TiesToEven};
+ghost use Rattle.literals.specs.private.MixedNumbers.{numerator, Represents, Normalized, TiesToEven, RoundedFrom};
 
 // The powers of ten from 1 on.
 const TENS: [u64; 15] = [
@@ -32,6 +32,9 @@ const BASE: u64 = 0x2000_0000;
 
 // The least number of 25 binary digits: the 24 of a single, and one that is rounded away.
 const WIDE: u64 = 0x0100_0000;
+
+// Mantissas below this stay below 2 ^ 48 when they are doubled 31 times.
+const SHORT: u32 = 131072;
 
 // A single is a whole number of units of 2 ^ -149.
 const UNITS: u32 = 149;
@@ -80,7 +83,7 @@ struct Normal {
     shift: u32,
 }
 
-// x doubled, sixteen times at once, until its whole part has 25 binary digits.
+// x doubled, sixteen times at once, until its whole part has at least 25 binary digits.
 fn normalize(x: Mixed, b: u64, a: u64) -> Normal
     requires { ⌜ (x .low < a) × (x .high < b) × (x .whole < 2 ^ 48) × (0 < numerator b a x) ⌝ }
     requires { ⌜ (a ≤ 2 ^ 47) × (b ≤ 2 ^ 47) ⌝ }
@@ -115,19 +118,27 @@ fn nearest(w: u64, half: u64, left: u64) -> u64
     kept + kept % 2
 }
 
-// The pattern of the single nearest to x * 2 ^ c: 24 rounded digits, and above them their place in the exponent's field, to which the
-// leading digit adds one, and a carry past the 24 digits another.
+// The pattern of the single nearest to the number, halved as often as it was doubled, times 2 ^ c: 24 rounded digits, and above them
+// their place in the exponent's field, to which the leading digit adds one, and a carry past the 24 digits another.
+fn rounded(x: Normal, b: u64, a: u64, c: u32) -> u32
+    requires { ⌜ (x .number .low < a) × (x .number .high < b) × (2 ^ 24 ≤ x .number .whole) × (x .number .whole < 2 ^ 48) ⌝ }
+    requires { ⌜ (a ≤ 2 ^ 47) × (b ≤ 2 ^ 47) × (c ≤ 58) × (x .shift < 142) ⌝ }
+    ensures { λ r. ⌜ RoundedFrom b a c (x .number) (x .shift) r ⌝ }
+{
+    let number = x.number;
+    // all digits but 24
+    let dropped = 40 - u64::leading_zeros(number.whole);
+    let digits = nearest(number.whole, 1 << (dropped - 1), number.high + number.low);
+    (UNITS + c + dropped - x.shift) * EXPONENT + (digits as u32)
+}
+
+// The pattern of the single nearest to x * 2 ^ c.
 fn encode(x: Mixed, b: u64, a: u64, c: u32) -> u32
     requires { ⌜ (x .low < a) × (x .high < b) × (x .whole < 2 ^ 48) × (0 < numerator b a x) ⌝ }
     requires { ⌜ (a ≤ 2 ^ 47) × (b ≤ 2 ^ 47) × (c ≤ 58) ⌝ }
     ensures { λ r. ⌜ r ≡ toBits binary32 (round binary32 false (numerator b a x * 2 ^ c) (b * a)) ⌝ }
 {
-    let normal = normalize(x, b, a);
-    let number = normal.number;
-    // all digits but 24
-    let dropped = 40 - u64::leading_zeros(number.whole);
-    let digits = nearest(number.whole, 1 << (dropped - 1), number.high + number.low);
-    (UNITS + c + dropped - normal.shift) * EXPONENT + (digits as u32)
+    rounded(normalize(x, b, a), b, a, c)
 }
 
 fn power(k: u32) -> u64
@@ -137,11 +148,36 @@ fn power(k: u32) -> u64
     TENS[k as usize]
 }
 
+// n over a power of ten, doubled 31 times at once: of most literals that is enough, and takes one division.
+fn doubled(n: u32, power: u64) -> Mixed
+    requires { ⌜ 0 < power ⌝ }
+    ensures { λ r. ⌜ Represents power 1 (n * 2 ^ 31) r ⌝ }
+{
+    split((n as u64) * 2147483648, power, 1)
+}
+
+// The power of one digit behind the dot or two, which most literals have: it needs no table.
+fn short_power(d: u32) -> u64
+    requires { ⌜ (0 < d) × (d < 3) ⌝ }
+    ensures { λ r. ⌜ r ≡ 10 ^ d ⌝ }
+{
+    if d == 1 { 10 } else { 100 }
+}
+
 // The pattern of n / 10 ^ d.
 fn quotient(n: u32, d: u32) -> u32
-    requires { ⌜ (0 < n) × (d ≤ 28) ⌝ }
+    requires { ⌜ (0 < n) × (0 < d) × (d ≤ 28) ⌝ }
     ensures { λ r. ⌜ r ≡ toBits binary32 (round binary32 false n (10 ^ d)) ⌝ }
 {
+    if n < SHORT {
+        if d < 3 {
+            let power = short_power(d);
+            let number = doubled(n, power);
+            if WIDE <= number.whole {
+                return rounded(Normal { number, shift: 31 }, power, 1, 0);
+            }
+        }
+    }
     let a = power(d / 2);
     let b = power(d - d / 2);
     encode(split(n as u64, b, a), b, a, 0)

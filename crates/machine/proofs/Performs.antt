@@ -4,6 +4,7 @@ use mathlib.Core.Bool.{Bool, true, false, cond, Bool·beq}
 use Prim.Native.Nat.{ℕ, _-_, _≤_, _<_}
 use lib.Dec.{eqb, ltb}
 use lib.Ieee.{binary32, ofBits}
+use lib.Ieee.Scale.{finite}
 use borrow.Author.Tests.{lt-ltb, le-ltb, ne-eqb}
 use Rattle.values.specs.declared.Value.{Value}
 use Rattle.values.specs.declared.Value.the-variants.{Real}
@@ -23,12 +24,11 @@ use Rattle.memory.specs.declared.numbers.BankOf.{BankOf}
 use Rattle.memory.specs.declared.numbers.BankOf.the-variants as BankOf
 use Rattle.memory.specs.Numbers.{bankNumbered}
 use Rattle.memory.specs.Environment.{Environment, indexedCell}
-use Rattle.memory.proofs.cells.Exponents.{exponent}
 use Rattle.code.specs.declared.Instr.{Instr}
 use Rattle.code.specs.declared.Instr.the-variants.{Load, JumpIf, Unknown}
 use Rattle.code.specs.Instructions.{ifZero, pushReal, loadElement, loadIndexed}
 use Rattle.code.specs.private.Classes.{ofBank, ofUnary, ofBinary}
-use Rattle.code.proofs.Finite.{finite-pushed, infinite-unknown}
+use Rattle.code.proofs.Finite.{finite-pushed, special-unknown}
 use Rattle.machine.specs.declared.Step.{Step}
 use Rattle.machine.specs.private.Steps.{stuckStep, skipStep, pushOrStuck, outcomeStep, givenStep, stepOf, bankStep}
 
@@ -83,11 +83,11 @@ module _ (E : Environment) (h : ℕ) (l r : Value) where
   unknown-made i e = ap made (sym e)
 
   -- ---- pushed singles
-  pub finite-made : (n : ℕ) {x : Step} → (exponent n ≡ 255 → ⊥) → x ≡ pushOrStuck h (Real (ofBits binary32 n)) → x ≡ made (pushReal n)
+  pub finite-made : (n : ℕ) {x : Step} → finite (ofBits binary32 n) ≡ true → x ≡ pushOrStuck h (Real (ofBits binary32 n)) → x ≡ made (pushReal n)
   finite-made n p e = rw (finite-pushed n p) e
 
-  pub infinite-made : (n : ℕ) → exponent n ≡ 255 → stuckStep ≡ made (pushReal n)
-  infinite-made n p = rw (infinite-unknown n p)
+  pub special-made : (n : ℕ) → finite (ofBits binary32 n) ≡ false → stuckStep ≡ made (pushReal n)
+  special-made n p = rw (special-unknown n p)
 
   -- ---- of too few values
   pub short-indexed : (b : BankOf) → h < 1 → stuckStep ≡ made (indexed b 0)

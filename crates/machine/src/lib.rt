@@ -8,7 +8,8 @@ ghost use Rattle.code.specs.declared.Class.the-variants.{PushInt, PushReal, Jum
 ghost use Rattle.code.specs.Instructions.{wordOf};
 ghost use Rattle.code.specs.private.Classes.{instrIn};
 ghost use Rattle.machine.specs.Machine.{runsAt};
-ghost use Rattle.machine.specs.private.Steps.{minimum, pushOrStuck, skipStep, stopStep, stuckStep, outcomeStep, bankStep, IsStep, IsStepOn, IsStepOnBoth, IsLoad, IsLoadOn, stuckAt, failedAt, finishedAt};
+ghost use Rattle.machine.specs.private.Steps.{minimum, pushOrStuck, skipStep, stopStep, stuckStep, outcomeStep, bankStep};
+ghost use Rattle.machine.specs.private.Steps.{IsStep, IsStepOn, IsStepOnBoth, IsLoad, IsLoadOn, stuckAt, failedAt, finishedAt};
 use code::Class;
 use memory::Bank;
 use memory::numbers;
@@ -133,10 +134,10 @@ fn push_real(w: u64, h: usize) -> Step
     ensures { λ x. ⌜ IsStep (instrIn PushReal w) h x ⌝ }
 {
     let word = code::word_of(w);
-    if word / 8388608 % 256 == 255 {
-        return stuck_step();
+    if values::patterns::is_finite_single(word) {
+        return push_step(h, Value::Real(f32::from_bits(word)));
     }
-    push_step(h, Value::Real(f32::from_bits(word)))
+    stuck_step()
 }
 
 fn load_from(bank: Bank, word: u32, image: &[u8], h: usize) -> Step

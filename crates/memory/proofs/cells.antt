@@ -2,4 +2,3 @@
 mod Arms
 pub mod Signs
 pub mod Singles
-pub mod Exponents

@@ -63,7 +63,7 @@ pub record LayoutLaws (F : ImageLayout) : Type 0 where
   pub put-length : (s : List ℕ) (b : Bank) (i n : ℕ) → length (F .put s b i n) ≡ length s
   pub flag-inside : (f : Fault) → F .flag f < F .size
   pub flag-apart : (f g : Fault) → F .flag f ≡ F .flag g → f ≡ g
-  -- a cell's number is one of its bytes
+  -- a cell's number fits its bytes
   pub get-below : (s : List ℕ) (b : Bank) (i : ℕ) → length s ≡ F .size → i < layoutOf b .elements → Bytes s → F .get s b i < 256 ^ layoutOf b .width
 
 -- the values that a bank holds as they are

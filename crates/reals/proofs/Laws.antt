@@ -2,7 +2,7 @@
 use mathlib.Core.Path.{_≡_, ap₂, _∙_}
 use mathlib.Core.Bool.{false, not}
 use Prim.Native.Nat.{ℕ, _*_, _%_, _^_, _≤_, _<_}
-use native.Mathlib.Nat.{le-refl, le-trans, le-of-lt, lt-of-le-of-lt, lt-of-lt-of-le, mul-le-mul-right, mul-le-mul-left, one-le-pow, pow-le-pow-right}
+use native.Mathlib.Nat.{le-refl, lt-of-le-of-lt, lt-of-lt-of-le, mul-le-mul-right, mul-le-mul-left}
 use lib.IntN.{ℤ, pos, natAbs, _*ℤ_}
 use lib.Signed.{leZ}
 use lib.Dec.{T, leb, lit≤, lit<}
@@ -15,12 +15,12 @@ use Rattle.reals.specs.declared.ArithOp.the-variants.{Add, Sub, Mul, Div
 use Rattle.reals.specs.Singles.{Single, negative, unitCount, signed, signedUnits, Has}
 use Rattle.reals.specs.Rounding.{Rounds, overflowUnits}
 use Rattle.reals.specs.Operations.{ieee, signOf, exactResult, divides}
-use Rattle.reals.specs.Laws.{RealLaws, patternUnits, decimalFraction, integerFraction}
+use Rattle.reals.specs.Laws.{RealLaws, patternUnits, integerFraction}
 use Rattle.reals.proofs.Round.{rounded}
 use Rattle.reals.proofs.Pattern.{bits-is, encode-decode, decode-special}
 use Rattle.reals.proofs.Ops.{add-rounded, sub-rounded, mul-rounded, div-rounded, neg-is}
 use Rattle.reals.proofs.Rem.{rem-is}
-use Rattle.reals.proofs.Promote.{ofInt-rounded, whole-is, literal-rounded}
+use Rattle.reals.proofs.Promote.{ofInt-rounded, whole-is}
 use Rattle.reals.proofs.Signed.{signed-times, in-order}
 use Rattle.reals.proofs.Order.{lt-is, le-is, eq-is}
 use Rattle.reals.proofs.Halves.{halves}
@@ -79,18 +79,6 @@ unit : Has false (2 ^ 149) (fin false 1 (pos 0))
 unfolding Ieee.ofInt
 unit = exactly (pos 1) (lit≤ tt)
 
--- ---- a literal: both numbers have at most 24 binary digits
-ten : (k : ℕ) → 0 < 10 ^ k
-ten k = one-le-pow k 10 (lit≤ tt)
-
-literal : (n k : ℕ) → n < 10 ^ 7 → k ≤ 6 → Rounds (decimalFraction n k) (ieee Div (real (pos n)) (real (pos (10 ^ k))))
-literal n k h l =
-    Bridge.rounds (div-fits binary32 (real (pos n)) (real (pos (10 ^ k))))
-    (literal-rounded binary32 n (10 ^ k) (le-trans (le-of-lt h) (lit≤ tt)) (le-trans (pow-le-pow-right {n = 10} (lit≤ tt) l) (lit≤ tt)) (ten k))
-
-read : (n k : ℕ) → n < 10 ^ 7 → k ≤ 6 → Single (ieee Div (real (pos n)) (real (pos (10 ^ k))))
-read n k h l = within (small n (10 ^ k) (ten k) (le-trans (le-of-lt h) (lit≤ tt))) (literal n k h l) .single
-
 pub real-laws : RealLaws
 real-laws = record {
   pattern = λ b h. has (leb (2 ^ 31) b) (patternUnits b) (Ieee.ofBits binary32 b) (ofBits-fits binary32 b) (bits-is binary32 b h);
@@ -111,8 +99,6 @@ real-laws = record {
   same = same;
   ordered = ordered;
   fraction = λ s num den B. Bridge.rounds (round-fits binary32 s num den) (rounded binary32 s num den B);
-  literal-rounds = literal;
-  literal-single = read;
   unit = unit;
   halves = halves;
   encode-below = λ x S. toBits-lt binary32 x (S .fit);

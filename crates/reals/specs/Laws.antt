@@ -11,7 +11,7 @@ use lib.Ieee as Ieee
 use lib.Ieee.{Float, inf, fin, binary32}
 use lib.Ieee.Scale.{finite}
 use Rattle.reals.specs.declared.ArithOp.{ArithOp}
-use Rattle.reals.specs.declared.ArithOp.the-variants.{Div, Rem}
+use Rattle.reals.specs.declared.ArithOp.the-variants.{Rem}
 use Rattle.reals.specs.Singles.{Single, negative, unitCount, signed, signedUnits, Has, Size}
 use Rattle.reals.specs.Rounding.{Fraction, Closest, Rounds, overflowUnits, ClosestWhole}
 use Rattle.reals.specs.Operations.{ieee, exactResult, signOf, divides}
@@ -19,10 +19,6 @@ use Rattle.reals.specs.Operations.{ieee, exactResult, signOf, divides}
 -- the size that a pattern's lower 31 bits stand for: 23 digits, with a leading one unless the exponent's field is 0
 abbrev pub patternUnits : ℕ → ℕ
 patternUnits b = cond (eqb (b % 2 ^ 31 / 2 ^ 23) 0) (b % 2 ^ 23) ((2 ^ 23 + b % 2 ^ 23) * 2 ^ (b % 2 ^ 31 / 2 ^ 23 - 1))
-
--- the decimal n / 10 ^ k, in units
-abbrev pub decimalFraction : ℕ → ℕ → Fraction
-decimalFraction n k = record { sign = false; num = n * 2 ^ 149; den = 10 ^ k }
 
 -- the integer z, in units
 abbrev pub integerFraction : ℤ → Fraction
@@ -55,9 +51,6 @@ pub record RealLaws : Type 0 where
   pub ordered : (y z : ℤ) → natAbs y ≤ 2 ^ 31 → natAbs z ≤ 2 ^ 31 → T (leZ y z) → T (leZ (signedUnits (Ieee.ofInt binary32 y)) (signedUnits (Ieee.ofInt binary32 z)))
   -- the library's rounding of any fraction num / den is the nearest single
   pub fraction : (s : Bool) (num den : ℕ) → 0 < den → Rounds (record { sign = s; num = num * 2 ^ 149; den = den }) (Ieee.round binary32 s num den)
-  -- a decimal of at most seven digits: the division of two exact singles is the nearest single
-  pub literal-rounds : (n k : ℕ) → n < 10 ^ 7 → k ≤ 6 → Rounds (decimalFraction n k) (ieee Div (Ieee.ofInt binary32 (pos n)) (Ieee.ofInt binary32 (pos (10 ^ k))))
-  pub literal-single : (n k : ℕ) → n < 10 ^ 7 → k ≤ 6 → Single (ieee Div (Ieee.ofInt binary32 (pos n)) (Ieee.ofInt binary32 (pos (10 ^ k))))
   -- 1.0
   pub unit : Has false (2 ^ 149) (fin false 1 (pos 0))
   -- (2 * a + b) / (2 * b) is a / b to the nearest whole number, halves up

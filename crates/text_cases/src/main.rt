@@ -12,14 +12,7 @@ fn line_end(input: &[u8], at: usize) -> usize
     requires { ⌜ at ≤ length (now input) ⌝ }
     ensures { λ r. ⌜ (at ≤ r) × (r ≤ length (now (input .entry))) ⌝ }
 {
-    let mut end = at;
-    while end < input.len() {
-        if input[end] == b'\n' {
-            return end;
-        }
-        end += 1;
-    }
-    end
+    at + lines::until(&input[at..], b'\n')
 }
 
 fn letter(kind: Kind) -> u8 {
@@ -51,17 +44,19 @@ fn tell_kind(verdict: Verdict) {
     }
 }
 
-// A formula's kind is that of its code, with so many instructions as its judgement says.
-fn formula(text: &[u8], n: usize) {
-    let mut code = [0u8; 16384];
-    compiler::compile(text, &mut code);
-    tell_kind(verifier::check(&code, n));
+// Of a text that has no code: what it is judged, which takes no code buffer.
+fn tell_judgement(judged: Coded) {
+    match judged {
+        Coded::Done(_) => refused(15, 0),
+        Coded::Refused(answer, place) => refused(answer, place),
+    }
 }
 
 fn tell(text: &[u8]) {
-    match compiler::judge(text) {
-        Coded::Done(n) => formula(text, n),
-        Coded::Refused(answer, place) => refused(answer, place),
+    let mut code = [0u8; 16384];
+    match compiler::compile(text, &mut code) {
+        Coded::Done(n) => tell_kind(verifier::check(&code, n)),
+        Coded::Refused(_, _) => tell_judgement(compiler::judge(text)),
     }
 }
 

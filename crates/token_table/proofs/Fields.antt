@@ -13,7 +13,7 @@ use Rattle.memory.specs.declared.Bank.the-variants.{X, C, «V», N, D, R}
 use Rattle.memory.specs.declared.numbers.BankOf.the-variants as BankOf
 use Rattle.memory.specs.Cells.{finiteOrFault}
 use Rattle.memory.specs.Numbers.{bankNumbered, bankNumber}
-use Rattle.memory.proofs.cells.Exponents.{finite-number}
+use Rattle.values.proofs.patterns.Exponents.{finite-number}
 use Rattle.tokens.specs.declared.Function.{Function}
 use Rattle.tokens.specs.declared.Function.the-variants.{Abs, ToReal, ToInt, Trunc, Round, Frac, Max, Min, If}
 use Rattle.tokens.specs.declared.Token.{Token}

@@ -10,6 +10,7 @@ ghost use Rattle.tokens.specs.Words.{wordToken};
 ghost use Rattle.tokens.specs.Scan.{runLexeme};
 ghost use Rattle.token_table.specs.private.Lexing.{Lexes};
 use crate::Lex;
+use crate::classes;
 use crate::packing;
 use memory::Bank;
 use memory::names;
@@ -29,13 +30,13 @@ fn judged(text: &[u8], at: usize) -> Lex
     }
 }
 
-// A bank's letter and a digit: a cell, or nothing.
-fn cell_at(text: &[u8], at: usize, bank: Bank) -> Lex
+// A bank's letter and its first digit: a cell, or nothing.
+fn cell_at(text: &[u8], at: usize, bank: Bank, first: u8) -> Lex
     requires { ⌜ (at < length (now text)) × ((isLetter (getD (now text) at 0) ≡ true) × (letterBank (getD (now text) at 0) ≡ Of bank)) ⌝ }
-    requires { ⌜ isDigit (getD (now text) (at + 1) 0) ≡ true ⌝ }
+    requires { ⌜ (first ≡ getD (now text) (at + 1) 0) × (isDigit first ≡ true) ⌝ }
     ensures { λ r. ⌜ Lexes (runLexeme isWord wordToken (drop at (now (text .entry))) at) (r .word) (r .end) ⌝ }
 {
-    let d = names::digits(text, at + 1, 0);
+    let d = names::digits(text, at + 2, (first - b'0') as u64);
     let end = d.end;
     let element = d.value;
     if bytes::is_word(bytes::byte_at(text, end)) {
@@ -45,14 +46,14 @@ fn cell_at(text: &[u8], at: usize, bank: Bank) -> Lex
         return crate::refused(6);
     }
     // a leading zero
-    if bytes::byte_at(text, at + 1) == b'0' {
+    if first == b'0' {
         if end != at + 2 {
             return crate::refused(6);
         }
     }
     Lex {
         word: packing::word(
-            packing::CELL,
+            classes::CELL,
             memory::numbers::bank_number(bank),
             element as u32,
         ),
@@ -64,11 +65,12 @@ pub fn word_at(text: &[u8], at: usize) -> Lex
     requires { ⌜ (at < length (now text)) × (isLetter (getD (now text) at 0) ≡ true) ⌝ }
     ensures { λ r. ⌜ Lexes (runLexeme isWord wordToken (drop at (now (text .entry))) at) (r .word) (r .end) ⌝ }
 {
-    if !names::is_digit(bytes::byte_at(text, at + 1)) {
+    let second = bytes::byte_at(text, at + 1);
+    if !names::is_digit(second) {
         return judged(text, at);
     }
     match names::bank_of(text[at]) {
-        Letter::Of(bank) => cell_at(text, at, bank),
+        Letter::Of(bank) => cell_at(text, at, bank, second),
         Letter::Other => crate::refused(6),
     }
 }

@@ -8,6 +8,7 @@ ghost use Rattle.token_table.specs.private.Lexing.{Lexes};
 use tokens::bytes;
 use tokens::bytes::Class;
 
+pub mod classes;
 mod identifiers;
 mod numerals;
 mod packing;
@@ -62,7 +63,7 @@ fn refused(answer: u32) -> Lex
     ensures { λ r. ⌜ ((p : ℕ) → Lexes (Wrong answer p) (r .word) (r .end)) ⌝ }
 {
     Lex {
-        word: packing::word(packing::NONE, 0, answer),
+        word: packing::word(classes::NONE, 0, answer),
         end: 0,
     }
 }
@@ -99,7 +100,7 @@ pub fn fill(text: &[u8], table: &mut [u64]) -> Filled
         }
         let lex = token_at(text, start);
         let w = lex.word;
-        if class_of(w) == packing::NONE {
+        if class_of(w) == classes::NONE {
             return Filled::Wrong(number_of(w), start);
         }
         table[n] = w + 65536 * (start as u64);

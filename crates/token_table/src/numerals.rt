@@ -8,6 +8,7 @@ ghost use Rattle.tokens.specs.Numerals.{isSign, scaleOf, literalOf};
 ghost use Rattle.tokens.specs.Scan.{numeralLexeme};
 ghost use Rattle.token_table.specs.private.Lexing.{scannedWord, Lexes, MantissaAt, OtherNumeral};
 use crate::Lex;
+use crate::classes;
 use crate::packing;
 use memory::names;
 use tokens::bytes;
@@ -59,13 +60,13 @@ fn literal(m: Mantissa, negative: bool, exponent: u64) -> u64
     ensures { λ r. ⌜ r ≡ scannedWord (literalOf (m .value) (m .digits) (m .places) negative exponent) ⌝ }
 {
     if DIGITS < m.digits {
-        return packing::word(packing::NONE, 0, 5);
+        return packing::word(classes::NONE, 0, 5);
     }
     if EXPONENT < exponent {
-        return packing::word(packing::NONE, 0, 5);
+        return packing::word(classes::NONE, 0, 5);
     }
     let scale = scale(negative, exponent as u32, m.places as u32);
-    packing::word(packing::REAL, 0, literals::pattern(m.value as u32, scale))
+    packing::word(classes::REAL, 0, literals::pattern(m.value as u32, scale))
 }
 
 // How many bytes of an exponent are its sign.
@@ -158,7 +159,7 @@ pub fn numeral_at(text: &[u8], at: usize) -> Lex
         return crate::refused(5);
     }
     Lex {
-        word: packing::word(packing::INTEGER, 0, n as u32),
+        word: packing::word(classes::INTEGER, 0, n as u32),
         end,
     }
 }

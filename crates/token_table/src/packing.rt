@@ -4,26 +4,12 @@ ghost use Rattle.tokens.specs.declared.Token.{Token};
 ghost use Rattle.tokens.specs.declared.Scanned.the-variants.{Good};
 ghost use Rattle.token_table.specs.private.Table.{packFields, functionNumber, packToken, Sound};
 ghost use Rattle.token_table.specs.private.Lexing.{scannedWord};
+use crate::classes;
 use memory::numbers;
 use tokens::Function;
 use tokens::Scanned;
 use tokens::Token;
 use values::Value;
-
-// The classes of words; of class NONE is the end of the tokens, and an answer.
-pub const NONE: u8 = 0;
-
-pub const INTEGER: u8 = 1;
-
-pub const REAL: u8 = 2;
-
-pub const CELL: u8 = 3;
-
-const LETTER: u8 = 4;
-
-const NAME: u8 = 5;
-
-pub const SYMBOL: u8 = 6;
 
 fn function_number(f: Function) -> u8
     ensures { λ r. ⌜ r ≡ functionNumber f ⌝ }
@@ -55,13 +41,13 @@ fn pack(t: Token) -> u64
 {
     match t {
         Token::Number(v) => match v {
-            Value::Int(z) => word(INTEGER, 0, values::patterns::pattern(z)),
-            Value::Real(x) => word(REAL, 0, f32::to_bits(x)),
+            Value::Int(z) => word(classes::INTEGER, 0, values::patterns::pattern(z)),
+            Value::Real(x) => word(classes::REAL, 0, f32::to_bits(x)),
         },
-        Token::Cell(b, e) => word(CELL, numbers::bank_number(b), e),
-        Token::Letter(b) => word(LETTER, numbers::bank_number(b), 0),
-        Token::Name(f) => word(NAME, function_number(f), 0),
-        Token::Symbol(n) => word(SYMBOL, n, 0),
+        Token::Cell(b, e) => word(classes::CELL, numbers::bank_number(b), e),
+        Token::Letter(b) => word(classes::LETTER, numbers::bank_number(b), 0),
+        Token::Name(f) => word(classes::NAME, function_number(f), 0),
+        Token::Symbol(n) => word(classes::SYMBOL, n, 0),
     }
 }
 
@@ -72,6 +58,6 @@ pub fn pack_scanned(s: Scanned) -> u64
 {
     match s {
         Scanned::Good(t) => pack(t),
-        Scanned::Bad(a) => word(NONE, 0, a),
+        Scanned::Bad(a) => word(classes::NONE, 0, a),
     }
 }

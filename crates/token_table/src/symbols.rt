@@ -8,6 +8,7 @@ ghost use Rattle.tokens.specs.Symbols.{longest};
 ghost use Rattle.tokens.specs.Scan.{symbolLexeme};
 ghost use Rattle.token_table.specs.private.Lexing.{Lexes, SymbolSize};
 use crate::Lex;
+use crate::classes;
 use crate::packing;
 use tokens::bytes;
 use tokens::symbols as numbers;
@@ -18,7 +19,7 @@ fn symbol(at: usize, n: u8, bytes: usize) -> Lex
     ensures { λ r. ⌜ Lexes (symbolLexeme at n) (r .word) (r .end) ⌝ }
 {
     Lex {
-        word: packing::word(packing::SYMBOL, n, 0),
+        word: packing::word(classes::SYMBOL, n, 0),
         end: at + bytes,
     }
 }

@@ -1,5 +1,5 @@
--- Opcodes by class, for the contracts of `class` and `number` and of what is done for a class. A reader believes Instructions alone, to which proofs/Page.antt ties
--- this.
+-- Opcodes by class, for the contracts of `class_of` and `number_of` and of what is done for a class. A reader believes Instructions alone, to which
+-- proofs/Page.antt ties this.
 use mathlib.Core.Bool.{true, false, cond}
 use Prim.Native.Nat.{ℕ, _+_, _%_}
 use lib.Dec.{eqb, ltb}

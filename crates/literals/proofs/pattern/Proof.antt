@@ -41,7 +41,7 @@ cast-quotient : tie.Need-cast-quotient
 cast-quotient c = rw (size c) (tt, record { fits = omega (arith, divided c .few) })
 
 quotient-requires : tie.Need-quotient-requires
-quotient-requires c κs = (omega (arith, c .before .before .if1 .left), rw (size c) (divided c .few))
+quotient-requires c κs = (omega (arith, c .before .before .if1 .left), rw (size c) (divided c .some), rw (size c) (divided c .few))
 
 returns-3 : tie.Need-returns-3
 returns-3 c = rw (size (c .before)) at (c .quotient .ensures) ∙ divided (c .before) .pattern

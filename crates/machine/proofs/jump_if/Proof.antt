@@ -31,7 +31,8 @@ returns-2 : tie.Need-returns-2
 returns-2 c = λ E l.
     let a = c .before .before .before .before .before .args in
     c .skip-step .ensures ∙ ap (skipStep (a .h - 1)) (c .before .word-of .ensures)
-    ∙ jumps E (a .h) l (a .v) (a .t) (wordOf (a .w)) (c .before .before .before .before .if1 .left) (c .before .before .before .truth .ensures) (c .before .before .if2 .taken)
+    ∙ jumps E (a .h) l (a .v) (a .t) (wordOf (a .w)) (c .before .before .before .before .if1 .left) (c .before .before .before .truth .ensures)
+    (c .before .before .if2 .taken)
 
 skip-step-requires-2 : tie.Need-skip-step-requires-2
 skip-step-requires-2 c κs = search needs
@@ -39,7 +40,8 @@ skip-step-requires-2 c κs = search needs
 returns-3 : tie.Need-returns-3
 returns-3 c = λ E l.
     let a = c .before .before .before .before .args in
-    c .skip-step2 .ensures ∙ stays E (a .h) l (a .v) (a .t) (wordOf (a .w)) (c .before .before .before .if1 .left) (c .before .before .truth .ensures) (c .before .if2 .left)
+    c .skip-step2 .ensures ∙ stays E (a .h) l (a .v) (a .t) (wordOf (a .w)) (c .before .before .before .if1 .left) (c .before .before .truth .ensures)
+    (c .before .if2 .left)
 
 pub jump-if-spec : {M : Type 1} → statement M
 jump-if-spec =

@@ -2,7 +2,7 @@
 use borrow.Author.Needs.{needs}
 use mathlib.Core.Path.{sym, ap, _∙_}
 use denote.Ref.{now}
-use Rattle.operators.proofs.Arms.{first, past}
+use Rattle.operators.proofs.Arms.{past-arms}
 use Rattle.memory.specs.declared.Bank.the-variants.{X, C, «V», N, D, R}
 use Rattle.memory.specs.Numbers.{bankNumbered}
 use Rattle.memory.specs.Environment.{memoryAt}
@@ -43,50 +43,55 @@ returns : tie.Need-returns
 returns c = λ t l r.
     let a = c .before .before .before .before .before .args in
     let k = numberOf (a .w) in
-    from-bank (memoryAt t (now (a .image))) (a .h) l r k (wordOf (a .w)) X (ap bankNumbered (sym (c .before .before .number-of .ensures) ∙ c .before .match .keys1))
+    from-bank (memoryAt t (now (a .image))) (a .h) l r k (wordOf (a .w)) X (ap bankNumbered (sym
+    (c .before .before .number-of .ensures) ∙ c .before .match .keys1))
     (rw (c .before .before .before .word-of .ensures) at (c .load-from .ensures))
 
 returns-2 : tie.Need-returns-2
 returns-2 c = λ t l r.
     let a = c .before .before .before .before .before .args in
     let k = numberOf (a .w) in
-    from-bank (memoryAt t (now (a .image))) (a .h) l r k (wordOf (a .w)) C (ap bankNumbered (sym (c .before .before .number-of .ensures) ∙ c .before .match .keys2))
+    from-bank (memoryAt t (now (a .image))) (a .h) l r k (wordOf (a .w)) C (ap bankNumbered (sym
+    (c .before .before .number-of .ensures) ∙ c .before .match .keys2))
     (rw (c .before .before .before .word-of .ensures) at (c .load-from2 .ensures))
 
 returns-3 : tie.Need-returns-3
 returns-3 c = λ t l r.
     let a = c .before .before .before .before .before .args in
     let k = numberOf (a .w) in
-    from-bank (memoryAt t (now (a .image))) (a .h) l r k (wordOf (a .w)) «V» (ap bankNumbered (sym (c .before .before .number-of .ensures) ∙ c .before .match .keys3))
+    from-bank (memoryAt t (now (a .image))) (a .h) l r k (wordOf (a .w)) «V» (ap bankNumbered (sym
+    (c .before .before .number-of .ensures) ∙ c .before .match .keys3))
     (rw (c .before .before .before .word-of .ensures) at (c .load-from3 .ensures))
 
 returns-4 : tie.Need-returns-4
 returns-4 c = λ t l r.
     let a = c .before .before .before .before .before .args in
     let k = numberOf (a .w) in
-    from-bank (memoryAt t (now (a .image))) (a .h) l r k (wordOf (a .w)) N (ap bankNumbered (sym (c .before .before .number-of .ensures) ∙ c .before .match .keys4))
+    from-bank (memoryAt t (now (a .image))) (a .h) l r k (wordOf (a .w)) N (ap bankNumbered (sym
+    (c .before .before .number-of .ensures) ∙ c .before .match .keys4))
     (rw (c .before .before .before .word-of .ensures) at (c .load-from4 .ensures))
 
 returns-5 : tie.Need-returns-5
 returns-5 c = λ t l r.
     let a = c .before .before .before .before .before .args in
     let k = numberOf (a .w) in
-    from-bank (memoryAt t (now (a .image))) (a .h) l r k (wordOf (a .w)) D (ap bankNumbered (sym (c .before .before .number-of .ensures) ∙ c .before .match .keys5))
+    from-bank (memoryAt t (now (a .image))) (a .h) l r k (wordOf (a .w)) D (ap bankNumbered (sym
+    (c .before .before .number-of .ensures) ∙ c .before .match .keys5))
     (rw (c .before .before .before .word-of .ensures) at (c .load-from5 .ensures))
 
 returns-6 : tie.Need-returns-6
 returns-6 c = λ t l r.
     let a = c .before .before .before .before .before .args in
     let k = numberOf (a .w) in
-    from-bank (memoryAt t (now (a .image))) (a .h) l r k (wordOf (a .w)) R (ap bankNumbered (sym (c .before .before .number-of .ensures) ∙ c .before .match .keys6))
+    from-bank (memoryAt t (now (a .image))) (a .h) l r k (wordOf (a .w)) R (ap bankNumbered (sym
+    (c .before .before .number-of .ensures) ∙ c .before .match .keys6))
     (rw (c .before .before .before .word-of .ensures) at (c .load-from6 .ensures))
 
 returns-7 : tie.Need-returns-7
 returns-7 c = λ t l r.
     let a = c .before .before .before .before .before .args in
     let k = numberOf (a .w) in
-    let rest = c .before .match .rest in
-    let large = past 5 (past 4 (past 3 (past 2 (past 1 (first (rest .0 .0 .0 .0 .0 .1)) (rest .0 .0 .0 .0 .1)) (rest .0 .0 .0 .1)) (rest .0 .0 .1)) (rest .0 .1)) (rest .1) in
+    let large = past-arms 6 (c .before .match .rest) in
     c .stuck-step .ensures ∙ no-load (memoryAt t (now (a .image))) (a .h) l r k (wordOf (a .w)) (rw (c .before .before .number-of .ensures) at large)
 
 pub load-spec : {M : Type 1} → statement M

@@ -19,7 +19,8 @@ returns c = λ t l.
     let a = c .before .before .before .args in
     let k = numberOf (a .w) in
     let d = wordOf (a .w) in
-    c .stuck-step .ensures ∙ stuck-anyway (memoryAt t (now (a .image))) (a .h) l (a .v) (indexed (bankNumbered k)) d (zero-indexed (bankNumbered k) d) (short-indexed (memoryAt t (now (a .image))) (a .h) l (a .v) (bankNumbered k) (c .before .if1 .taken))
+    c .stuck-step .ensures ∙ stuck-anyway (memoryAt t (now (a .image))) (a .h) l (a .v) (indexed (bankNumbered k)) d (zero-indexed (bankNumbered k) d)
+    (short-indexed (memoryAt t (now (a .image))) (a .h) l (a .v) (bankNumbered k) (c .before .if1 .taken))
 
 word-of-requires : tie.Need-word-of-requires
 word-of-requires c κs = search needs
@@ -32,7 +33,8 @@ returns-2 c = λ t l.
     let a = c .before .before .before .before .before .args in
     let k = numberOf (a .w) in
     let d = wordOf (a .w) in
-    c .stuck-step2 .ensures ∙ spoilt (memoryAt t (now (a .image))) (a .h) l (a .v) (indexed (bankNumbered k)) d (zero-indexed (bankNumbered k) d) (c .before .before .word-of .ensures) (c .before .if2 .taken)
+    c .stuck-step2 .ensures ∙ spoilt (memoryAt t (now (a .image))) (a .h) l (a .v) (indexed (bankNumbered k)) d (zero-indexed (bankNumbered k) d)
+    (c .before .before .word-of .ensures) (c .before .if2 .taken)
 
 number-of-requires : tie.Need-number-of-requires
 number-of-requires c κs = search needs
@@ -60,16 +62,21 @@ returns-3 c = λ t l.
     let a = c .before .before .before .before .before .before .before .before .before .before .before .args in
     let k = numberOf (a .w) in
     let d = wordOf (a .w) in
-    let is = sym (rw (c .before .before .before .before .before .before .number-of .ensures) at (c .before .before .before .before .before .bank-numbered .ensures)) ∙ c .before .before .before .b .given .1 in
-    unspoilt (memoryAt t (now (a .image))) (a .h) l (a .v) (indexed (bankNumbered k)) d (c .before .before .before .before .before .before .before .before .word-of .ensures) (c .before .before .before .before .before .before .before .if2 .left)
-    (indexed-made (memoryAt t (now (a .image))) (a .h) l (a .v) k (c .before .before .before .b .given .0 .0) is (c .before .before .before .before .before .before .before .before .before .if1 .left) (c .before .read-indexed .ensures) (c .outcome-step .ensures))
+    let is = sym (rw (c .before .before .before .before .before .before .number-of .ensures) at
+    (c .before .before .before .before .before .bank-numbered .ensures)) ∙ c .before .before .before .b .given .1 in
+    unspoilt (memoryAt t (now (a .image))) (a .h) l (a .v) (indexed (bankNumbered k)) d
+    (c .before .before .before .before .before .before .before .before .word-of .ensures)
+    (c .before .before .before .before .before .before .before .if2 .left)
+    (indexed-made (memoryAt t (now (a .image))) (a .h) l (a .v) k (c .before .before .before .b .given .0 .0) is
+    (c .before .before .before .before .before .before .before .before .before .if1 .left) (c .before .read-indexed .ensures) (c .outcome-step .ensures))
 
 returns-4 : tie.Need-returns-4
 returns-4 c = λ t l.
     let a = c .before .before .before .before .before .before .before .before .before .args in
     let k = numberOf (a .w) in
     let d = wordOf (a .w) in
-    let is = sym (rw (c .before .before .before .before .number-of .ensures) at (c .before .before .before .bank-numbered .ensures)) ∙ c .before .enum-told .given .1 in
+    let is = sym (rw (c .before .before .before .before .number-of .ensures) at
+    (c .before .before .before .bank-numbered .ensures)) ∙ c .before .enum-told .given .1 in
     c .stuck-step3 .ensures ∙ stuck-anyway (memoryAt t (now (a .image))) (a .h) l (a .v) (indexed (bankNumbered k)) d (zero-indexed (bankNumbered k) d)
     (unknown-made (memoryAt t (now (a .image))) (a .h) l (a .v) (indexed (bankNumbered k) 0) (ap (λ (u : BankOf). indexed u 0) is))
 

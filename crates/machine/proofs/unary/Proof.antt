@@ -17,7 +17,8 @@ returns c = λ E l.
     let a = c .before .before .args in
     let k = numberOf (a .w) in
     let d = wordOf (a .w) in
-    c .stuck-step .ensures ∙ stuck-anyway E (a .h) l (a .v) (ofUnary (unaryOf k)) d (zero-unary (unaryOf k) d) (short-unary E (a .h) l (a .v) (unaryOf k) (c .before .if1 .taken))
+    c .stuck-step .ensures ∙ stuck-anyway E (a .h) l (a .v) (ofUnary (unaryOf k)) d (zero-unary (unaryOf k) d) (short-unary E (a .h) l (a .v) (unaryOf k)
+    (c .before .if1 .taken))
 
 word-of-requires : tie.Need-word-of-requires
 word-of-requires c κs = search needs
@@ -30,7 +31,8 @@ returns-2 c = λ E l.
     let a = c .before .before .before .before .args in
     let k = numberOf (a .w) in
     let d = wordOf (a .w) in
-    c .stuck-step2 .ensures ∙ spoilt E (a .h) l (a .v) (ofUnary (unaryOf k)) d (zero-unary (unaryOf k) d) (c .before .before .word-of .ensures) (c .before .if2 .taken)
+    c .stuck-step2 .ensures ∙ spoilt E (a .h) l (a .v) (ofUnary (unaryOf k)) d (zero-unary (unaryOf k) d) (c .before .before .word-of .ensures)
+    (c .before .if2 .taken)
 
 number-of-requires : tie.Need-number-of-requires
 number-of-requires c κs = search needs
@@ -58,16 +60,20 @@ returns-3 c = λ E l.
     let a = c .before .before .before .before .before .before .before .before .before .before .args in
     let k = numberOf (a .w) in
     let d = wordOf (a .w) in
-    let is = sym (rw (c .before .before .before .before .before .before .number-of .ensures) at (c .before .before .before .before .before .unary-of .ensures)) ∙ c .before .before .before .o .given .1 in
-    unspoilt E (a .h) l (a .v) (ofUnary (unaryOf k)) d (c .before .before .before .before .before .before .before .before .word-of .ensures) (c .before .before .before .before .before .before .before .if2 .left)
-    (unary-made E (a .h) l (a .v) k (c .before .before .before .o .given .0 .0) is (c .before .before .before .before .before .before .before .before .before .if1 .left) (c .before .unary .ensures) (c .outcome-step .ensures))
+    let is = sym (rw (c .before .before .before .before .before .before .number-of .ensures) at
+    (c .before .before .before .before .before .unary-of .ensures)) ∙ c .before .before .before .o .given .1 in
+    unspoilt E (a .h) l (a .v) (ofUnary (unaryOf k)) d (c .before .before .before .before .before .before .before .before .word-of .ensures)
+    (c .before .before .before .before .before .before .before .if2 .left)
+    (unary-made E (a .h) l (a .v) k (c .before .before .before .o .given .0 .0) is
+    (c .before .before .before .before .before .before .before .before .before .if1 .left) (c .before .unary .ensures) (c .outcome-step .ensures))
 
 returns-4 : tie.Need-returns-4
 returns-4 c = λ E l.
     let a = c .before .before .before .before .before .before .before .before .args in
     let k = numberOf (a .w) in
     let d = wordOf (a .w) in
-    let is = sym (rw (c .before .before .before .before .number-of .ensures) at (c .before .before .before .unary-of .ensures)) ∙ c .before .enum-told .given .1 in
+    let is = sym (rw (c .before .before .before .before .number-of .ensures) at
+    (c .before .before .before .unary-of .ensures)) ∙ c .before .enum-told .given .1 in
     c .stuck-step3 .ensures ∙ stuck-anyway E (a .h) l (a .v) (ofUnary (unaryOf k)) d (zero-unary (unaryOf k) d)
     (unknown-made E (a .h) l (a .v) (ofUnary (unaryOf k) 0) (ap (λ (u : UnaryOf). ofUnary u 0) is))
 

@@ -2,7 +2,7 @@
 use mathlib.Core.Path.{_≡_, refl, sym, ap, _∙_}
 use mathlib.Core.Bool.{true, false, and-false}
 use mathlib.Core.List.{List, _∷_}
-use Prim.Native.Nat.{ℕ, suc, _+_, _≤_, _<_, min}
+use Prim.Native.Nat.{ℕ, suc, _+_, _-_, _*_, _≤_, _<_, min}
 use native.Mathlib.Numerals.{add-one}
 use native.Mathlib.Omega.{arith}
 use lib.Dec.{eqb}
@@ -65,6 +65,21 @@ module _ (s : List ℕ) (at : ℕ) (letter : isLetter (getD s at 0) ≡ true) (d
   -- nothing, for a letter that is no bank's, or a number that its bank has not
   pub no-bank : {w e : ℕ} → letterBank (getD s at 0) ≡ Other → ((p : ℕ) → Lexes (Wrong 6 p) w e) → Lexes (runLexeme isWord wordToken (drop at s) at) w e
   no-bank b h = rw (judged, b) (h at)
+
+  -- the digits behind the first
+  more-digits : digitsOf rest ≡ getD s (at + 1) 0 ∷ digitsOf (drop (at + 2) s)
+  more-digits =
+      let two : suc (at + 1) ≡ at + 2 = omega arith in
+      ap digitsOf there ∙ rw digit (ap (λ (k : ℕ). getD s (at + 1) 0 ∷ digitsOf (drop k s)) two)
+
+  pub value-of : {v d : ℕ} → d ≡ getD s (at + 1) 0 → v ≡ min (decimalFrom (d - 48) (digitsOf (drop (at + 2) s))) decimalLimit → v ≡ min (decimalFrom 0 (digitsOf rest)) decimalLimit
+  value-of {d = d} e q =
+      let ds = digitsOf (drop (at + 2) s) in
+      let z : 0 * 10 + (getD s (at + 1) 0 - 48) ≡ d - 48 = omega (arith, e) in
+      q ∙ sym (ap (λ (l : List ℕ). min (decimalFrom 0 l) decimalLimit) more-digits ∙ ap (λ (n : ℕ). min (decimalFrom n ds) decimalLimit) z)
+
+  pub end-of : {e : ℕ} → e ≡ at + 2 + length (digitsOf (drop (at + 2) s)) → e ≡ at + 1 + length (digitsOf rest)
+  end-of q = rw more-digits (omega (arith, q))
 
   module _ (b : Bank) (bank : letterBank (getD s at 0) ≡ Of b) {v e x : ℕ} (value : v ≡ min (decimalFrom 0 (digitsOf rest)) decimalLimit) (ends : e ≡ at + 1 + length (digitsOf rest)) (next : x ≡ getD s e 0) where
     abbrev elements : ℕ

@@ -2,7 +2,7 @@
 use mathlib.Core.Path.{ap}
 use borrow.Author.Needs.{needs}
 use borrow.Author.Tests.{le-ltb}
-use Rattle.operators.proofs.Arms.{first, past}
+use Rattle.operators.proofs.Arms.{past-arms}
 use Rattle.memory.specs.declared.Layout.{Layout}
 use Rattle.memory.proofs.numbers.bank_elements.Statement.{statement}
 use Rattle.memory.proofs.numbers.bank_elements.Tie as tie
@@ -44,9 +44,7 @@ returns-6 : tie.Need-returns-6
 returns-6 c = rw (c .before .match .keys6) (ap (λ (l : Layout). l .elements) (c .layout-of6 .ensures))
 
 returns-7 : tie.Need-returns-7
-returns-7 c =
-    let r = c .match .rest in
-    rw (le-ltb (c .before .args .n) 6 (past 5 (past 4 (past 3 (past 2 (past 1 (first (r .0 .0 .0 .0 .0 .1)) (r .0 .0 .0 .0 .1)) (r .0 .0 .0 .1)) (r .0 .0 .1)) (r .0 .1)) (r .1)))
+returns-7 c = rw (le-ltb (c .before .args .n) 6 (past-arms 6 (c .match .rest)))
 
 pub bank-elements-spec : {M : Type 1} → statement M
 bank-elements-spec =

@@ -1,6 +1,6 @@
 -- `memory::numbers::bank_kind` meets its contract: an arm for each bank of the list.
 use borrow.Author.Tests.{le-ltb}
-use Rattle.operators.proofs.Arms.{first, past}
+use Rattle.operators.proofs.Arms.{past-arms}
 use Rattle.memory.proofs.numbers.bank_kind.Statement.{statement}
 use Rattle.memory.proofs.numbers.bank_kind.Tie as tie
 
@@ -23,9 +23,7 @@ returns-6 : tie.Need-returns-6
 returns-6 c = rw (c .match .keys6)
 
 returns-7 : tie.Need-returns-7
-returns-7 c =
-    let r = c .match .rest in
-    rw (le-ltb (c .before .args .n) 6 (past 5 (past 4 (past 3 (past 2 (past 1 (first (r .0 .0 .0 .0 .0 .1)) (r .0 .0 .0 .0 .1)) (r .0 .0 .0 .1)) (r .0 .0 .1)) (r .0 .1)) (r .1)))
+returns-7 c = rw (le-ltb (c .before .args .n) 6 (past-arms 6 (c .match .rest)))
 
 pub bank-kind-spec : {M : Type 1} → statement M
 bank-kind-spec =

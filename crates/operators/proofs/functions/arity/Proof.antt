@@ -2,7 +2,7 @@
 use mathlib.Core.Path.{sym, ap}
 use lib.ListN.{List·getD-eq-default}
 use Rattle.operators.specs.Functions.{calls, none, callArity}
-use Rattle.operators.proofs.Arms.{first, past}
+use Rattle.operators.proofs.Arms.{past-arms}
 use Rattle.operators.proofs.functions.arity.Statement.{statement}
 use Rattle.operators.proofs.functions.arity.Tie as tie
 
@@ -34,9 +34,7 @@ returns-9 : tie.Need-returns-9
 returns-9 c = rw (c .match .keys9)
 
 returns-10 : tie.Need-returns-10
-returns-10 c =
-    let r = c .match .rest in
-    ap callArity (sym (List·getD-eq-default calls none (past 8 (past 7 (past 6 (past 5 (past 4 (past 3 (past 2 (past 1 (first (r .0 .0 .0 .0 .0 .0 .0 .0 .1)) (r .0 .0 .0 .0 .0 .0 .0 .1)) (r .0 .0 .0 .0 .0 .0 .1)) (r .0 .0 .0 .0 .0 .1)) (r .0 .0 .0 .0 .1)) (r .0 .0 .0 .1)) (r .0 .0 .1)) (r .0 .1)) (r .1))))
+returns-10 c = ap callArity (sym (List·getD-eq-default calls none (past-arms 9 (c .match .rest))))
 
 pub arity-spec : {M : Type 1} → statement M
 arity-spec =

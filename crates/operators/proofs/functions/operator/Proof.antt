@@ -7,7 +7,7 @@ use lib.Dec.{ltb}
 use lib.ListN.{List·getD-eq-default}
 use borrow.Author.Tests.{ltb-true, ltb-false}
 use Rattle.operators.specs.Functions.{calls, none, callOperator, functionOperator}
-use Rattle.operators.proofs.Arms.{first, past}
+use Rattle.operators.proofs.Arms.{past-arms}
 use Rattle.operators.proofs.functions.operator.Statement.{statement}
 use Rattle.operators.proofs.functions.operator.Tie as tie
 
@@ -44,9 +44,7 @@ returns-8 : tie.Need-returns-8
 returns-8 c = rw (c .match .keys8)
 
 returns-9 : tie.Need-returns-9
-returns-9 c =
-    let r = c .match .rest in
-    others _ (past 7 (past 6 (past 5 (past 4 (past 3 (past 2 (past 1 (first (r .0 .0 .0 .0 .0 .0 .0 .1)) (r .0 .0 .0 .0 .0 .0 .1)) (r .0 .0 .0 .0 .0 .1)) (r .0 .0 .0 .0 .1)) (r .0 .0 .0 .1)) (r .0 .0 .1)) (r .0 .1)) (r .1))
+returns-9 c = others _ (past-arms 8 (c .match .rest))
 
 pub operator-spec : {M : Type 1} → statement M
 operator-spec =

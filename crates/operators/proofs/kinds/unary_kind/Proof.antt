@@ -1,7 +1,7 @@
 -- `operators::kinds::unary_kind` meets its contract: an arm for each operator.
 use borrow.Author.Needs.{needs}
 use borrow.Author.Tests.{ne-eqb, le-ltb}
-use Rattle.operators.proofs.Arms.{first, past}
+use Rattle.operators.proofs.Arms.{past-arms}
 use Rattle.operators.proofs.kinds.unary_kind.Statement.{statement}
 use Rattle.operators.proofs.kinds.unary_kind.Tie as tie
 
@@ -39,9 +39,7 @@ returns-9 : tie.Need-returns-9
 returns-9 c = rw (c .match .keys8)
 
 returns-10 : tie.Need-returns-10
-returns-10 c =
-    let r = c .match .rest in
-    rw (le-ltb (c .before .args .op) 8 (past 7 (past 6 (past 5 (past 4 (past 3 (past 2 (past 1 (first (r .0 .0 .0 .0 .0 .0 .0 .1)) (r .0 .0 .0 .0 .0 .0 .1)) (r .0 .0 .0 .0 .0 .1)) (r .0 .0 .0 .0 .1)) (r .0 .0 .0 .1)) (r .0 .0 .1)) (r .0 .1)) (r .1)))
+returns-10 c = rw (le-ltb (c .before .args .op) 8 (past-arms 8 (c .match .rest)))
 
 pub unary-kind-spec : {M : Type 1} → statement M
 unary-kind-spec =

@@ -1,6 +1,6 @@
 -- `operators::tables::binary_of` meets its contract: an arm for each operator of the list.
 use borrow.Author.Tests.{le-ltb}
-use Rattle.operators.proofs.Arms.{first, past}
+use Rattle.operators.proofs.Arms.{past-arms}
 use Rattle.operators.proofs.tables.binary_of.Statement.{statement}
 use Rattle.operators.proofs.tables.binary_of.Tie as tie
 
@@ -65,9 +65,7 @@ returns-20 : tie.Need-returns-20
 returns-20 c = rw (c .match .keys20)
 
 returns-21 : tie.Need-returns-21
-returns-21 c =
-    let r = c .match .rest in
-    rw (le-ltb (c .before .args .n) 20 (past 19 (past 18 (past 17 (past 16 (past 15 (past 14 (past 13 (past 12 (past 11 (past 10 (past 9 (past 8 (past 7 (past 6 (past 5 (past 4 (past 3 (past 2 (past 1 (first (r .0 .0 .0 .0 .0 .0 .0 .0 .0 .0 .0 .0 .0 .0 .0 .0 .0 .0 .0 .1)) (r .0 .0 .0 .0 .0 .0 .0 .0 .0 .0 .0 .0 .0 .0 .0 .0 .0 .0 .1)) (r .0 .0 .0 .0 .0 .0 .0 .0 .0 .0 .0 .0 .0 .0 .0 .0 .0 .1)) (r .0 .0 .0 .0 .0 .0 .0 .0 .0 .0 .0 .0 .0 .0 .0 .0 .1)) (r .0 .0 .0 .0 .0 .0 .0 .0 .0 .0 .0 .0 .0 .0 .0 .1)) (r .0 .0 .0 .0 .0 .0 .0 .0 .0 .0 .0 .0 .0 .0 .1)) (r .0 .0 .0 .0 .0 .0 .0 .0 .0 .0 .0 .0 .0 .1)) (r .0 .0 .0 .0 .0 .0 .0 .0 .0 .0 .0 .0 .1)) (r .0 .0 .0 .0 .0 .0 .0 .0 .0 .0 .0 .1)) (r .0 .0 .0 .0 .0 .0 .0 .0 .0 .0 .1)) (r .0 .0 .0 .0 .0 .0 .0 .0 .0 .1)) (r .0 .0 .0 .0 .0 .0 .0 .0 .1)) (r .0 .0 .0 .0 .0 .0 .0 .1)) (r .0 .0 .0 .0 .0 .0 .1)) (r .0 .0 .0 .0 .0 .1)) (r .0 .0 .0 .0 .1)) (r .0 .0 .0 .1)) (r .0 .0 .1)) (r .0 .1)) (r .1)))
+returns-21 c = rw (le-ltb (c .before .args .n) 20 (past-arms 20 (c .match .rest)))
 
 pub binary-of-spec : {M : Type 1} → statement M
 binary-of-spec =

@@ -1,6 +1,6 @@
 -- `operators::tables::unary_of` meets its contract: an arm for each operator of the list.
 use borrow.Author.Tests.{le-ltb}
-use Rattle.operators.proofs.Arms.{first, past}
+use Rattle.operators.proofs.Arms.{past-arms}
 use Rattle.operators.proofs.tables.unary_of.Statement.{statement}
 use Rattle.operators.proofs.tables.unary_of.Tie as tie
 
@@ -29,9 +29,7 @@ returns-8 : tie.Need-returns-8
 returns-8 c = rw (c .match .keys8)
 
 returns-9 : tie.Need-returns-9
-returns-9 c =
-    let r = c .match .rest in
-    rw (le-ltb (c .before .args .n) 8 (past 7 (past 6 (past 5 (past 4 (past 3 (past 2 (past 1 (first (r .0 .0 .0 .0 .0 .0 .0 .1)) (r .0 .0 .0 .0 .0 .0 .1)) (r .0 .0 .0 .0 .0 .1)) (r .0 .0 .0 .0 .1)) (r .0 .0 .0 .1)) (r .0 .0 .1)) (r .0 .1)) (r .1)))
+returns-9 c = rw (le-ltb (c .before .args .n) 8 (past-arms 8 (c .match .rest)))
 
 pub unary-of-spec : {M : Type 1} → statement M
 unary-of-spec =

@@ -35,8 +35,7 @@ enum-known-bank : tie.Need-enum-known-bank
 enum-known-bank c = search needs
 
 cell-at-requires : tie.Need-cell-at-requires
-cell-at-requires c κs =
-    ((c .before .before .before .before .before .before .before .before .before .pre .0, (c .before .before .before .before .before .before .before .before .before .pre .1, sym (c .before .before .before .bank-of .ensures) ∙ c .before .bank .given .1)), ap isDigit (sym (c .before .before .before .before .before .before .before .byte-at .ensures)) ∙ sym (c .before .before .before .before .before .before .is-digit .ensures) ∙ not-false _ (c .before .before .before .before .before .if1 .left))
+cell-at-requires c κs = ((c .before .before .before .before .before .before .before .before .before .pre .0, (c .before .before .before .before .before .before .before .before .before .pre .1, sym (c .before .before .before .bank-of .ensures) ∙ c .before .bank .given .1)), (c .before .before .before .before .before .before .before .byte-at .ensures, sym (c .before .before .before .before .before .before .is-digit .ensures) ∙ not-false _ (c .before .before .before .before .before .if1 .left)))
 
 enum-told : tie.Need-enum-told
 enum-told c = search needs

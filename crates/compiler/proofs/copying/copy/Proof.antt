@@ -1,14 +1,14 @@
--- `draft::copy` meets its contract. The invariant: the first i words are there as bytes, and the rest is as before. The measure is what is left.
+-- `copying::copy` meets its contract. The invariant: the first i words are there as bytes, and the rest is as before. The measure is what is left.
 use mathlib.Core.Path.{_≡_, refl}
 use Prim.Native.Nat.{_-_, _≤_}
 use native.Mathlib.Omega.{arith}
 use lib.ListN.{length, take, length-set}
 use lib.Seq.{sets}
 use borrow.Author.Needs.{needs}
 use Rattle.draft.specs.private.Draft.{wordBytes}
-use Rattle.draft.proofs.Copied.{copied-more}
-use Rattle.draft.proofs.copy.Statement.{statement}
-use Rattle.draft.proofs.copy.Tie as tie
+use Rattle.compiler.proofs.copying.Copied.{copied-more}
+use Rattle.compiler.proofs.copying.copy.Statement.{statement}
+use Rattle.compiler.proofs.copying.copy.Tie as tie
 
 abbrev Inv-loop : tie.InvT-loop
 Inv-loop draft n code₀ i₀ code i = (i ≤ n) × (length code ≡ length code₀) × (code ≡ sets code₀ 0 (wordBytes (take i draft)))

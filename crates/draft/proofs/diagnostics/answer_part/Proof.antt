@@ -1,7 +1,7 @@
--- `results::answer_part` meets its contract.
+-- `diagnostics::answer_part` meets its contract.
 use borrow.Author.Needs.{needs}
-use Rattle.draft.proofs.results.answer_part.Statement.{statement}
-use Rattle.draft.proofs.results.answer_part.Tie as tie
+use Rattle.draft.proofs.diagnostics.answer_part.Statement.{statement}
+use Rattle.draft.proofs.diagnostics.answer_part.Tie as tie
 
 cast-result : tie.Need-cast-result
 cast-result c = search needs
