@@ -26,7 +26,7 @@ use Rattle.code.specs.declared.Class.{Class}
 use Rattle.code.specs.declared.Class.the-variants as Class
 use Rattle.code.specs.Instructions.{PUSH-INT, PUSH-REAL, JUMP, JUMP-IF-FALSE, JUMP-IF-TRUE, LOAD, LOAD-INDEXED, UNARY, BINARY}
 use Rattle.code.specs.Instructions.{pushInt, pushReal, loadElement, loadIndexed, applyUnary, applyBinary}
-use Rattle.code.specs.Instructions.{Row, rows, singles, lookup, instruction, opcodeOf, wordOf, instructionOf}
+use Rattle.code.specs.Instructions.{Row, rows, unnumbered, lookup, instruction, opcodeOf, wordOf, instructionOf}
 use Rattle.code.specs.private.Classes.{classSize, singleClass, classOf, ofBank, ofUnary, ofBinary, classed, instrIn}
 
 -- ---- the rows of a list
@@ -59,7 +59,7 @@ module _ {A : Type 0} (f : A → ℕ → Instr) (rest : List Row) (w : ℕ) wher
 
 -- ---- the page from each class on
 abbrev binaryPage : List Row
-binaryPage = rows BINARY applyBinary binaryOps ++ singles
+binaryPage = rows BINARY applyBinary binaryOps ++ unnumbered
 
 abbrev unaryPage : List Row
 unaryPage = rows UNARY applyUnary unaryOps ++ binaryPage
@@ -68,19 +68,19 @@ abbrev indexedPage : List Row
 indexedPage = rows LOAD-INDEXED loadIndexed banks ++ unaryPage
 
 -- ---- the single opcodes
-above-singles : (o w : ℕ) → LOAD ≤ o → lookup singles o w ≡ Unknown
+above-singles : (o w : ℕ) → LOAD ≤ o → lookup unnumbered o w ≡ Unknown
 above-singles o w h =
     let other : (n : ℕ) → n < LOAD → eqb o n ≡ false = λ n l. ne-eqb o n (λ e. omega arith) in
     rw (other PUSH-INT (lit< tt), other PUSH-REAL (lit< tt), other JUMP (lit< tt), other JUMP-IF-FALSE (lit< tt), other JUMP-IF-TRUE (lit< tt))
 
 module _ (o w : ℕ) where
-  below-load : o < LOAD → instruction o w ≡ lookup singles o w
+  below-load : o < LOAD → instruction o w ≡ lookup unnumbered o w
   unfolding instruction
   below-load h =
       rows-before loadElement indexedPage w LOAD banks o h
       ∙ rows-before loadIndexed unaryPage w LOAD-INDEXED banks o (omega arith)
       ∙ rows-before applyUnary binaryPage w UNARY unaryOps o (omega arith)
-      ∙ rows-before applyBinary singles w BINARY binaryOps o (omega arith)
+      ∙ rows-before applyBinary unnumbered w BINARY binaryOps o (omega arith)
 
   -- the classes have room for 32 numbers each
   beyond-classes : BINARY + classSize ≤ o → instruction o w ≡ Unknown
@@ -89,7 +89,7 @@ module _ (o w : ℕ) where
       rows-past loadElement indexedPage w LOAD banks o (omega arith)
       ∙ rows-past loadIndexed unaryPage w LOAD-INDEXED banks o (omega arith)
       ∙ rows-past applyUnary binaryPage w UNARY unaryOps o (omega arith)
-      ∙ rows-past applyBinary singles w BINARY binaryOps o (omega arith)
+      ∙ rows-past applyBinary unnumbered w BINARY binaryOps o (omega arith)
       ∙ above-singles o w (omega arith)
 
 -- ---- the classes: the bank or the operator of a number, or none
@@ -104,7 +104,7 @@ module _ (k w : ℕ) (h : k < classSize) where
       let none : lookup indexedPage (LOAD + k) w ≡ Unknown =
       rows-before loadIndexed unaryPage w LOAD-INDEXED banks (LOAD + k) (omega arith)
       ∙ rows-before applyUnary binaryPage w UNARY unaryOps (LOAD + k) (omega arith)
-      ∙ rows-before applyBinary singles w BINARY binaryOps (LOAD + k) (omega arith)
+      ∙ rows-before applyBinary unnumbered w BINARY binaryOps (LOAD + k) (omega arith)
       ∙ above-singles (LOAD + k) w (omega arith) in
       rows-at loadElement indexedPage w X LOAD banks k
       ∙ among (λ (b : BankOf). ofBank loadElement b w) (ltb k 6) (BankOf.Is (getD banks k X)) BankOf.Nothing _ none
@@ -114,7 +114,7 @@ module _ (k w : ℕ) (h : k < classSize) where
   indexed-class =
       let none : lookup unaryPage (LOAD-INDEXED + k) w ≡ Unknown =
       rows-before applyUnary binaryPage w UNARY unaryOps (LOAD-INDEXED + k) (omega arith)
-      ∙ rows-before applyBinary singles w BINARY binaryOps (LOAD-INDEXED + k) (omega arith)
+      ∙ rows-before applyBinary unnumbered w BINARY binaryOps (LOAD-INDEXED + k) (omega arith)
       ∙ above-singles (LOAD-INDEXED + k) w (omega arith) in
       rows-past loadElement indexedPage w LOAD banks (LOAD-INDEXED + k) (omega arith)
       ∙ rows-at loadIndexed unaryPage w X LOAD-INDEXED banks k
@@ -124,7 +124,7 @@ module _ (k w : ℕ) (h : k < classSize) where
   unfolding instruction
   unary-class =
       let none : lookup binaryPage (UNARY + k) w ≡ Unknown =
-      rows-before applyBinary singles w BINARY binaryOps (UNARY + k) (omega arith)
+      rows-before applyBinary unnumbered w BINARY binaryOps (UNARY + k) (omega arith)
       ∙ above-singles (UNARY + k) w (omega arith) in
       rows-past loadElement indexedPage w LOAD banks (UNARY + k) (omega arith)
       ∙ rows-past loadIndexed unaryPage w LOAD-INDEXED banks (UNARY + k) (omega arith)
@@ -137,7 +137,7 @@ module _ (k w : ℕ) (h : k < classSize) where
       rows-past loadElement indexedPage w LOAD banks (BINARY + k) (omega arith)
       ∙ rows-past loadIndexed unaryPage w LOAD-INDEXED banks (BINARY + k) (omega arith)
       ∙ rows-past applyUnary binaryPage w UNARY unaryOps (BINARY + k) (omega arith)
-      ∙ rows-at applyBinary singles w (Arith Add) BINARY binaryOps k
+      ∙ rows-at applyBinary unnumbered w (Arith Add) BINARY binaryOps k
       ∙ among (λ (u : BinaryOf). ofBinary u w) (ltb k 20) (BinaryOf.Is (getD binaryOps k (Arith Add))) BinaryOf.Nothing _
       (above-singles (BINARY + k) w (omega arith))
 

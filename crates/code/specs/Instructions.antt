@@ -88,13 +88,13 @@ abbrev pub rows : {A : Type 0} → ℕ → (A → ℕ → Instr) → List A → 
 rows o f [] = []
 rows o f (a ∷ l) = row o (f a) ∷ rows (suc o) f l
 
-abbrev pub singles : List Row
-singles = row PUSH-INT pushInt ∷ row PUSH-REAL pushReal ∷ row JUMP Jump ∷ row JUMP-IF-FALSE (JumpIf false) ∷ row JUMP-IF-TRUE (JumpIf true) ∷ []
+abbrev pub unnumbered : List Row
+unnumbered = row PUSH-INT pushInt ∷ row PUSH-REAL pushReal ∷ row JUMP Jump ∷ row JUMP-IF-FALSE (JumpIf false) ∷ row JUMP-IF-TRUE (JumpIf true) ∷ []
 
 abbrev pub page : List Row
 page =
     rows LOAD loadElement banks ++ (rows LOAD-INDEXED loadIndexed banks ++ (rows UNARY applyUnary unaryOps ++ (rows BINARY applyBinary binaryOps
-    ++ singles)))
+    ++ unnumbered)))
 
 abbrev pub lookup : List Row → ℕ → ℕ → Instr
 lookup [] o w = Unknown

@@ -12,7 +12,7 @@ use Rattle.tokens.specs.Bytes.{all, isHex}
 use Rattle.tokens.specs.Numerals.{hexDigit, hexFrom}
 use Rattle.lines.specs.declared.forms.Form.the-variants.{Pattern}
 use Rattle.lines.specs.Forms.{hexForm}
-use Rattle.lines.specs.Printing.{numeralByte, digitsOf}
+use Rattle.lines.specs.Printing.{numeralByte, lowDigits}
 use Rattle.lines.proofs.Tests.{both}
 use Rattle.lines.proofs.printing.Digits.{digits-last, length-digits}
 
@@ -39,20 +39,20 @@ from-last : (n : ℕ) (s : List ℕ) (c : ℕ) → hexFrom n (s ++ (c ∷ [])) �
 from-last n [] c = refl
 from-last n (b ∷ s) c = from-last (n * 16 + hexDigit b) s c
 
-digits : (k n : ℕ) → n < 16 ^ k → (all isHex (digitsOf 16 k n) ≡ true) × (hexFrom 0 (digitsOf 16 k n) ≡ n)
+digits : (k n : ℕ) → n < 16 ^ k → (all isHex (lowDigits 16 k n) ≡ true) × (hexFrom 0 (lowDigits 16 k n) ≡ n)
 digits zero n h = (refl, omega arith)
 digits (suc k) n h =
     let small : n < 16 ^ k * 16 = rw (pow-suc 16 k) at h in
     let rest = digits k (n / 16) (omega arith) in
     let b = byte (n % 16) (omega arith) in
     let whole : n / 16 * 16 + n % 16 ≡ n = omega arith in (
-      rw (digits-last 16 k n) (all-last (digitsOf 16 k (n / 16)) (numeralByte (n % 16)) (rest .0) (b .0)),
-      rw (digits-last 16 k n) (from-last 0 (digitsOf 16 k (n / 16)) (numeralByte (n % 16)) ∙ rw (rest .1, b .1) whole),
+      rw (digits-last 16 k n) (all-last (lowDigits 16 k (n / 16)) (numeralByte (n % 16)) (rest .0) (b .0)),
+      rw (digits-last 16 k n) (from-last 0 (lowDigits 16 k (n / 16)) (numeralByte (n % 16)) ∙ rw (rest .1, b .1) whole),
     )
 
 eight : (cs : List ℕ) (n : ℕ) → length cs ≡ 8 → all isHex cs ≡ true → hexFrom 0 cs ≡ n → hexForm (48 ∷ 120 ∷ cs) ≡ Pattern n
 eight cs n l d e = rw (l, d, e)
 
-pub pattern-back : (n : ℕ) → n < 4294967296 → hexForm (48 ∷ 120 ∷ digitsOf 16 8 n) ≡ Pattern n
+pub pattern-back : (n : ℕ) → n < 4294967296 → hexForm (48 ∷ 120 ∷ lowDigits 16 8 n) ≡ Pattern n
 pattern-back n h =
-    let d = digits 8 n h in eight (digitsOf 16 8 n) n (length-digits 16 8 n) (d .0) (d .1)
+    let d = digits 8 n h in eight (lowDigits 16 8 n) n (length-digits 16 8 n) (d .0) (d .1)

@@ -20,8 +20,8 @@ digitsBefore base zero n cs = cs
 digitsBefore base (suc k) n cs = digitsBefore base k (n / base) (numeralByte (n % base) ∷ cs)
 
 -- the k lowest digits of n, the highest first
-abbrev pub digitsOf : ℕ → ℕ → ℕ → List ℕ
-digitsOf base k n = digitsBefore base k n []
+abbrev pub lowDigits : ℕ → ℕ → ℕ → List ℕ
+lowDigits base k n = digitsBefore base k n []
 
 -- how many decimal digits n has without leading zeros; each step takes one away, so n steps are enough
 abbrev pub widthFrom : ℕ → ℕ → ℕ
@@ -33,7 +33,7 @@ widthOf n = widthFrom n n
 
 -- a number in decimal
 abbrev pub decimalText : ℕ → List ℕ
-decimalText n = digitsOf 10 (widthOf n) n
+decimalText n = lowDigits 10 (widthOf n) n
 
 -- "Integers print in signed decimal": a `-` before one below zero
 abbrev pub signedText : ℤ → List ℕ
@@ -47,7 +47,7 @@ cellText C n = signedText (bitOf n)
 cellText «V» n = signedText (pos n)
 cellText N n = signedText (signedOf 16 n)
 cellText D n = signedText (signedOf 32 n)
-cellText R n = byte "0" ∷ byte "x" ∷ digitsOf 16 8 n
+cellText R n = byte "0" ∷ byte "x" ∷ lowDigits 16 8 n
 
 -- the bank letter's byte
 abbrev pub letterByte : Bank → ℕ

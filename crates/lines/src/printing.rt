@@ -5,7 +5,7 @@ ghost use Prim.Native.Nat.{_+_, _*_, _^_, _≤_, _<_};
 ghost use lib.ListN.{length};
 ghost use Rattle.memory.specs.Layout.{layoutOf};
 ghost use Rattle.memory.specs.Cells.{bitOf};
-ghost use Rattle.lines.specs.Printing.{numeralByte, digitsOf, widthOf, decimalText, signedText, cellText, letterByte, cellName};
+ghost use Rattle.lines.specs.Printing.{numeralByte, lowDigits, widthOf, decimalText, signedText, cellText, letterByte, cellName};
 ghost use Rattle.lines.specs.private.Steps.{Puts, halfText};
 use memory::Bank;
 
@@ -36,7 +36,7 @@ fn digit(d: u64) -> u8
 fn spell(out: &mut [u8], at: usize, k: usize, base: u64, n: u64) -> usize
     requires { ⌜ (0 < base) × (base ≤ 16) ⌝ }
     requires { ⌜ at + k ≤ length (now out) ⌝ }
-    ensures { λ r. ⌜ Puts (now (out .entry)) at (now (out .exit)) r (digitsOf base k n) ⌝ }
+    ensures { λ r. ⌜ Puts (now (out .entry)) at (now (out .exit)) r (lowDigits base k n) ⌝ }
 {
     let mut rest = n;
     let mut i = k;
@@ -85,7 +85,7 @@ fn put_half(out: &mut [u8], at: usize, n: u64, half: u64) -> usize
 
 fn put_hexadecimal(out: &mut [u8], at: usize, n: u64) -> usize
     requires { ⌜ at + 10 ≤ length (now out) ⌝ }
-    ensures { λ r. ⌜ Puts (now (out .entry)) at (now (out .exit)) r (48 ∷ 120 ∷ digitsOf 16 8 n) ⌝ }
+    ensures { λ r. ⌜ Puts (now (out .entry)) at (now (out .exit)) r (48 ∷ 120 ∷ lowDigits 16 8 n) ⌝ }
 {
     let next = put_all(out, at, b"0x");
     spell(out, next, 8, 16, n)

@@ -64,26 +64,40 @@ pub fn unary_kind(op: u32, k: u8) -> u8
     }
 }
 
-// The classes in the order of the list: a power, arithmetic, shifts, comparisons, bitwise operators, MAX and MIN.
+// The classes of binary operators stand in the list one behind the other: a power, arithmetic, and from these numbers on shifts,
+// comparisons, bitwise operators, MAX and MIN.
+const POWER: u32 = 0;
+
+const SHIFTS: u32 = 6;
+
+const COMPARISONS: u32 = 9;
+
+const BITWISE: u32 = 15;
+
+const CHOICES: u32 = 18;
+
+const END: u32 = 20;
+
+// As `unary_kind`, of two operands.
 pub fn binary_kind(op: u32, left: u8, right: u8) -> u8
     ensures { λ r. ⌜ r ≡ binaryTyped (binaryOf op) (numberKind left) (numberKind right) ⌝ }
 {
-    if op == 0 {
+    if op == POWER {
         return raised(left, right);
     }
-    if op < 6 {
+    if op < SHIFTS {
         return joined(left, right);
     }
-    if op < 9 {
+    if op < COMPARISONS {
         return whole(left, right);
     }
-    if op < 15 {
+    if op < BITWISE {
         return INT;
     }
-    if op < 18 {
+    if op < CHOICES {
         return whole(left, right);
     }
-    if op < 20 {
+    if op < END {
         joined(left, right)
     } else {
         NOT_TAKEN

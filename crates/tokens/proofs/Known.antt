@@ -28,7 +28,7 @@ use Rattle.tokens.specs.declared.Scanned.{Scanned}
 use Rattle.tokens.specs.declared.Scanned.the-variants.{Good, Bad}
 use Rattle.tokens.specs.Bytes.{all, isLetter, isWord, runLen, isHex}
 use Rattle.tokens.specs.Symbols.{equalBytes, symbolCount, longest}
-use Rattle.tokens.specs.Numerals.{nonEmpty, decimalDigits, isHexRun, hexFrom, hexOf, behindDigits, hasPart, partOf, fraction, behindMantissa, mantissaDigits, isExponent, isNegative, exponentSize, realOf, decimalOf, numeralOf, numeralLen}
+use Rattle.tokens.specs.Numerals.{nonEmpty, decimalDigits, isHexRun, hexFrom, hexOf, behindDigits, hasPart, partOf, fractionDigits, behindMantissa, mantissaDigits, isExponent, isNegative, exponentSize, realOf, decimalOf, numeralOf, numeralLen}
 use Rattle.tokens.specs.Words.{nameOf, functionNamed, functions, letterWord, cellWord, otherWord, wordToken}
 use Rattle.tokens.specs.Scan.{Lexeme, Found, Wrong, End, lexeme, symbolLexeme, lexemeOf, blanks, lexemeAt}
 use Rattle.tokens.proofs.Tests.{by-test, choose, both, hex-small}
@@ -89,9 +89,9 @@ a-real c cs d =
     (λ _. choose Judged (leb (length (mantissaDigits s)) 9 && leb (exponentSize x) 20) _ _
     (λ e. let h = both (leb (length (mantissaDigits s)) 9) (leb (exponentSize x) 20) e in
     let n = leb-true (length (mantissaDigits s)) 9 (h .0) in
-    let few : length (fraction s) ≤ 8 = omega (arith, digits-first c cs d, length-append (digitsOf s) (fraction s)) in
-    let all = both-digits (digitsOf s) (fraction s) (digits-only s) (part-digits (behindDigits s)) in
-    good _ (number _ (Proper.real _ (literal-single (isNegative x) (mantissaDigits s) (exponentSize x) (length (fraction s)) all n (leb-true (exponentSize x) 20 (h .1)) few))))
+    let few : length (fractionDigits s) ≤ 8 = omega (arith, digits-first c cs d, length-append (digitsOf s) (fractionDigits s)) in
+    let all = both-digits (digitsOf s) (fractionDigits s) (digits-only s) (part-digits (behindDigits s)) in
+    good _ (number _ (Proper.real _ (literal-single (isNegative x) (mantissaDigits s) (exponentSize x) (length (fractionDigits s)) all n (leb-true (exponentSize x) 20 (h .1)) few))))
     (λ _. bad 5))
     (λ _. bad 4)
 

@@ -8,7 +8,7 @@ use lib.Dec.{T, leb}
 use borrow.Author.Tests.{leb-true, le-leb, lt-leb}
 use Rattle.memory.specs.Names.{isDigit}
 use Rattle.memory.proofs.names.Decimals.{digit-range}
-use Rattle.tokens.specs.Bytes.{between, isHex}
+use Rattle.tokens.specs.Bytes.{byteBetween, isHex}
 use Rattle.tokens.specs.Numerals.{hexDigit}
 
 pub no : {A : Type 0} → false ≡ true → A
@@ -32,7 +32,7 @@ pub either : (a b : Bool) → (a || b) ≡ true → (a ≡ true) ⊎ (b ≡ true
 either true b e = inl refl
 either false b e = inr e
 
-pub within : (lo hi c : ℕ) → between lo hi c ≡ true → (lo ≤ c) × (c ≤ hi)
+pub within : (lo hi c : ℕ) → byteBetween lo hi c ≡ true → (lo ≤ c) × (c ≤ hi)
 within lo hi c e =
     let h = both (leb lo c) (leb c hi) e in (leb-true lo c (h .0), leb-true c hi (h .1))
 
@@ -43,14 +43,14 @@ pub data HexRange (c : ℕ) : Type 0 where
   lower : 97 ≤ c → c ≤ 102 → HexRange c
 
 pub hex-range : (c : ℕ) → isHex c ≡ true → HexRange c
-hex-range c e = go (either (isDigit c || between 65 70 c) (between 97 102 c) e)
+hex-range c e = go (either (isDigit c || byteBetween 65 70 c) (byteBetween 97 102 c) e)
   where
-    first : (isDigit c ≡ true) ⊎ (between 65 70 c ≡ true) → HexRange c
+    first : (isDigit c ≡ true) ⊎ (byteBetween 65 70 c ≡ true) → HexRange c
     first (inl d) = let h = digit-range c d in ten (h .0) (h .1)
     first (inr u) = let h = within 65 70 c u in upper (h .0) (h .1)
 
-    go : ((isDigit c || between 65 70 c) ≡ true) ⊎ (between 97 102 c ≡ true) → HexRange c
-    go (inl f) = first (either (isDigit c) (between 65 70 c) f)
+    go : ((isDigit c || byteBetween 65 70 c) ≡ true) ⊎ (byteBetween 97 102 c ≡ true) → HexRange c
+    go (inl f) = first (either (isDigit c) (byteBetween 65 70 c) f)
     go (inr l) = let h = within 97 102 c l in lower (h .0) (h .1)
 
 pub digit-small : (c : ℕ) → isDigit c ≡ true → c - 48 < 10

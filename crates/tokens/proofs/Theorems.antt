@@ -15,7 +15,7 @@ use Rattle.tokens.specs.declared.Token.{Token}
 use Rattle.tokens.specs.declared.Token.the-variants.{Symbol}
 use Rattle.tokens.specs.declared.Scanned.{Scanned}
 use Rattle.tokens.specs.declared.Scanned.the-variants.{Good, Bad}
-use Rattle.tokens.specs.Bytes.{between, isLetter, isSpace, isWord, runLen, all}
+use Rattle.tokens.specs.Bytes.{byteBetween, isLetter, isSpace, isWord, runLen, all}
 use Rattle.tokens.specs.Symbols.{symbolCount, symbolBytes, symbolOf, longest}
 use Rattle.tokens.specs.Numerals.{numeralLen, numeralOf}
 use Rattle.tokens.specs.Words.{wordToken}
@@ -30,9 +30,9 @@ use Rattle.tokens.proofs.symbols.Longest.{Front, front, in-table, some-
 
 -- ---- classes of bytes
 letter-range : (c : ℕ) → isLetter c ≡ true → 57 < c
-letter-range c e = go (either (between 65 90 c) (between 97 122 c) e)
+letter-range c e = go (either (byteBetween 65 90 c) (byteBetween 97 122 c) e)
   where
-    go : (between 65 90 c ≡ true) ⊎ (between 97 122 c ≡ true) → 57 < c
+    go : (byteBetween 65 90 c ≡ true) ⊎ (byteBetween 97 122 c ≡ true) → 57 < c
     go (inl u) = omega (arith, within 65 90 c u)
     go (inr l) = omega (arith, within 97 122 c l)
 

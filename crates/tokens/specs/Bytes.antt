@@ -9,11 +9,11 @@ use Rattle.tokens.specs.declared.bytes.Class.{Class}
 use Rattle.tokens.specs.declared.bytes.Class.the-variants.{Blank, Word, Numeral, Hexadecimal}
 use Rattle.words.specs.Ascii.{byte}
 
-abbrev pub between : ℕ → ℕ → ℕ → Bool
-between lo hi c = leb lo c && leb c hi
+abbrev pub byteBetween : ℕ → ℕ → ℕ → Bool
+byteBetween lo hi c = leb lo c && leb c hi
 
 abbrev pub isLetter : ℕ → Bool
-isLetter c = between (byte "A") (byte "Z") c || between (byte "a") (byte "z") c
+isLetter c = byteBetween (byte "A") (byte "Z") c || byteBetween (byte "a") (byte "z") c
 
 abbrev pub isSpace : ℕ → Bool
 isSpace c = eqb c (byte " ") || eqb c (byte "\t")
@@ -26,7 +26,7 @@ abbrev pub isRun : ℕ → Bool
 isRun c = isWord c || eqb c (byte ".")
 
 abbrev pub isHex : ℕ → Bool
-isHex c = isDigit c || between (byte "A") (byte "F") c || between (byte "a") (byte "f") c
+isHex c = isDigit c || byteBetween (byte "A") (byte "F") c || byteBetween (byte "a") (byte "f") c
 
 -- the classes that a run is read by
 abbrev pub inClass : Class → ℕ → Bool

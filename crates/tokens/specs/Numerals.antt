@@ -60,33 +60,33 @@ partOf cs = cond (hasPart cs) (digitsOf (drop 1 cs)) []
 abbrev pub behindPart : List ℕ → List ℕ
 behindPart cs = cond (hasPart cs) (behindDigits (drop 1 cs)) cs
 
-abbrev pub fraction : List ℕ → List ℕ
-fraction cs = partOf (behindDigits cs)
+abbrev pub fractionDigits : List ℕ → List ℕ
+fractionDigits cs = partOf (behindDigits cs)
 
 -- what follows the mantissa
 abbrev pub behindMantissa : List ℕ → List ℕ
 behindMantissa cs = behindPart (behindDigits cs)
 
 abbrev pub mantissaDigits : List ℕ → List ℕ
-mantissaDigits cs = digitsOf cs ++ fraction cs
+mantissaDigits cs = digitsOf cs ++ fractionDigits cs
 
 -- ---- the exponent: nothing, or `E`, an optional sign and digits
 abbrev pub isSign : ℕ → Bool
 isSign c = eqb c (byte "+") || eqb c (byte "-")
 
-abbrev pub unsigned : List ℕ → List ℕ
-unsigned [] = []
-unsigned (c ∷ cs) = cond (isSign c) cs (c ∷ cs)
+abbrev pub withoutSign : List ℕ → List ℕ
+withoutSign [] = []
+withoutSign (c ∷ cs) = cond (isSign c) cs (c ∷ cs)
 
 abbrev pub isExponent : List ℕ → Bool
 isExponent [] = true
-isExponent (c ∷ cs) = eqb c (byte "E") && decimalDigits (unsigned cs)
+isExponent (c ∷ cs) = eqb c (byte "E") && decimalDigits (withoutSign cs)
 
 abbrev pub isNegative : List ℕ → Bool
 isNegative x = eqb (getD x 1 0) (byte "-")
 
 abbrev pub exponentSize : List ℕ → ℕ
-exponentSize x = decimalValue (unsigned (drop 1 x))
+exponentSize x = decimalValue (withoutSign (drop 1 x))
 
 -- ---- the value: n is what the digits make, and k of them stand behind the dot
 abbrev pub scaleOf : Bool → ℕ → ℕ → ℤ
@@ -99,13 +99,13 @@ abbrev pub literalNumber : List ℕ → ℕ
 literalNumber cs = decimalValue (mantissaDigits cs)
 
 abbrev pub literalScale : List ℕ → ℤ
-literalScale cs = scaleOf (isNegative (behindMantissa cs)) (exponentSize (behindMantissa cs)) (length (fraction cs))
+literalScale cs = scaleOf (isNegative (behindMantissa cs)) (exponentSize (behindMantissa cs)) (length (fractionDigits cs))
 
 -- a mantissa and an exponent
 abbrev pub realOf : List ℕ → Scanned
 realOf cs =
     cond (isExponent (behindMantissa cs))
-    (literalOf (literalNumber cs) (length (mantissaDigits cs)) (length (fraction cs)) (isNegative (behindMantissa cs)) (exponentSize (behindMantissa cs)))
+    (literalOf (literalNumber cs) (length (mantissaDigits cs)) (length (fractionDigits cs)) (isNegative (behindMantissa cs)) (exponentSize (behindMantissa cs)))
     (Bad 4)
 
 -- a run that starts with a digit

@@ -2,10 +2,10 @@
 ghost use mathlib.Core.Path.{_≡_};
 ghost use Prim.Native.Nat.{_+_, _≤_};
 ghost use lib.ListN.{length, getD, drop};
-ghost use Rattle.tokens.specs.Bytes.{between, isLetter, isSpace, isWord, isRun, isHex, inClass, runLen};
+ghost use Rattle.tokens.specs.Bytes.{byteBetween, isLetter, isSpace, isWord, isRun, isHex, inClass, runLen};
 
 pub fn between(lo: u8, b: u8, hi: u8) -> bool
-    ensures { λ r. ⌜ r ≡ between lo hi b ⌝ }
+    ensures { λ r. ⌜ r ≡ byteBetween lo hi b ⌝ }
 {
     lo <= b && b <= hi
 }

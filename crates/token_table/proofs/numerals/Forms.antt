@@ -18,7 +18,7 @@ use Rattle.tokens.specs.declared.Token.the-variants.{Number}
 use Rattle.tokens.specs.declared.Scanned.{Scanned}
 use Rattle.tokens.specs.declared.Scanned.the-variants.{Good, Bad}
 use Rattle.tokens.specs.Bytes.{isWord, isRun, runLen}
-use Rattle.tokens.specs.Numerals.{nonEmpty, decimalDigits, decimalOf, hexOf, isHexRun, hasPart, isSign, unsigned, literalOf}
+use Rattle.tokens.specs.Numerals.{nonEmpty, decimalDigits, decimalOf, hexOf, isHexRun, hasPart, isSign, withoutSign, literalOf}
 use Rattle.tokens.specs.Scan.{Lexeme, Wrong, lexeme, numeralLexeme}
 use Rattle.tokens.proofs.Tests.{by-test, both, no}
 use Rattle.tokens.proofs.Runs.{run-most}
@@ -128,14 +128,14 @@ module _ {s : List ℕ} {at : ℕ} {m : Mantissa} (h : MantissaAt s at m) where
       first-tail : getD tail 0 0 ≡ b
       first-tail = first-at s (m .end + 1) ∙ sym sign
 
-      sign-is : (y : List ℕ) → (signLen y ≡ cond (isSign (getD y 0 0)) 1 0) × (unsigned y ≡ drop (cond (isSign (getD y 0 0)) 1 0) y)
+      sign-is : (y : List ℕ) → (signLen y ≡ cond (isSign (getD y 0 0)) 1 0) × (withoutSign y ≡ drop (cond (isSign (getD y 0 0)) 1 0) y)
       sign-is [] = (refl, refl)
       sign-is (c ∷ cs) = by-test (isSign c) (λ t. rw t (refl, refl)) (λ t. rw t (refl, refl))
 
       sign-size : signLen tail ≡ cond (isSign b) 1 0
       sign-size = sign-is tail .0 ∙ ap (λ (c : ℕ). cond (isSign c) 1 0) first-tail
 
-      digits-at : unsigned tail ≡ drop f s
+      digits-at : withoutSign tail ≡ drop f s
       digits-at =
           sign-is tail .1 ∙ ap (λ (c : ℕ). drop (cond (isSign c) 1 0) tail) first-tail ∙ drop-drop (cond (isSign b) 1 0) (m .end + 1) s ∙ ap (λ (k : ℕ). drop k s) (sym start)
 
@@ -145,7 +145,7 @@ module _ {s : List ℕ} {at : ℕ} {m : Mantissa} (h : MantissaAt s at m) where
       run-there : exponentRun tail ≡ run
       run-there = ap (λ (l : List ℕ). take (runLen isRun l) l) digits-at
 
-      lexed : numeralLexeme (drop at s) at ≡ lexeme at (length (h .bytes) + suc (signLen tail + runLen isRun (unsigned tail))) (exponentOf (h .ds) (h .ps) tail)
+      lexed : numeralLexeme (drop at s) at ≡ lexeme at (length (h .bytes) + suc (signLen tail + runLen isRun (withoutSign tail))) (exponentOf (h .ds) (h .ps) tail)
       lexed = ap (λ (l : List ℕ). numeralLexeme l at) there ∙ exponent-lexeme tail at (splits-of (69 ∷ tail) refl refl)
 
       no-number : {w k : ℕ} → decimalDigits run ≡ false → ((p : ℕ) → Lexes (Wrong 4 p) w k) → Lexes (numeralLexeme (drop at s) at) w k
@@ -171,9 +171,9 @@ module _ {s : List ℕ} {at : ℕ} {m : Mantissa} (h : MantissaAt s at m) where
             let good : decimalDigits (exponentRun tail) ≡ true = rw (run-there, is) (some-digits es (digits-only (drop f s)) (omega (arith, ends))) in
             let r = literalOf (decimalValue (h .ds ++ h .ps)) (length (h .ds ++ h .ps)) (length (h .ps)) (eqb b 45) (decimalValue es) in
             let judge : exponentOf (h .ds) (h .ps) tail ≡ r = rw (good, first-tail, run-there, is) in
-            let size : at + (length (h .bytes) + suc (signLen tail + runLen isRun (unsigned tail))) ≡ e = rw (digits-at, count, sign-size) (omega (arith, ends, start, h .ends)) in
+            let size : at + (length (h .bytes) + suc (signLen tail + runLen isRun (withoutSign tail))) ≡ e = rw (digits-at, count, sign-size) (omega (arith, ends, start, h .ends)) in
             let word : w ≡ scannedWord r = q ∙ ap scannedWord (word-of (eqb b 45) (decimalValue es) value) in
-            rw (lexed, judge) (lexes-as word (sym size) (judged at (length (h .bytes) + suc (signLen tail + runLen isRun (unsigned tail))) r))
+            rw (lexed, judge) (lexes-as word (sym size) (judged at (length (h .bytes) + suc (signLen tail + runLen isRun (withoutSign tail))) r))
           where
             length-take-run : (u : List ℕ) → length (take (runLen isRun u) u) ≡ runLen isRun u
             length-take-run u = rw length-take (omega (arith, run-most isRun u))

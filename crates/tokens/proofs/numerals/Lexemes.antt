@@ -12,7 +12,7 @@ use Rattle.memory.specs.Names.{isDigit, allDigits, digitsOf, decimalValue}
 use Rattle.tokens.specs.declared.Scanned.{Scanned}
 use Rattle.tokens.specs.declared.Scanned.the-variants.{Bad}
 use Rattle.tokens.specs.Bytes.{isRun, runLen, all}
-use Rattle.tokens.specs.Numerals.{nonEmpty, decimalDigits, decimalOf, hexOf, isHexRun, hasPart, isSign, unsigned, literalOf, numeralOf, opensExponent, tailLen, numeralLen}
+use Rattle.tokens.specs.Numerals.{nonEmpty, decimalDigits, decimalOf, hexOf, isHexRun, hasPart, isSign, withoutSign, literalOf, numeralOf, opensExponent, tailLen, numeralLen}
 use Rattle.tokens.specs.Scan.{Wrong, lexeme, numeralLexeme}
 use Rattle.tokens.proofs.Tests.{by-test, both, no}
 use Rattle.tokens.proofs.numerals.Mantissas.{Splits, whole, dotted, parts, shorter, take-past, length-is, literal, real-is, followed-is, dotted-is, not-all, runs}
@@ -104,7 +104,7 @@ signLen (c ∷ cs) = cond (isSign c) 1 0
 
 -- the run behind `E` and a sign
 abbrev pub exponentRun : List ℕ → List ℕ
-exponentRun y = take (runLen isRun (unsigned y)) (unsigned y)
+exponentRun y = take (runLen isRun (withoutSign y)) (withoutSign y)
 
 abbrev pub exponentOf : List ℕ → List ℕ → List ℕ → Scanned
 exponentOf ds ps y =
@@ -114,33 +114,33 @@ no-minus : (c : ℕ) → isSign c ≡ false → eqb c 45 ≡ false
 no-minus c f = by-test (eqb c 45) (λ e. no (sym f ∙ rw (e, or-true))) (λ e. e)
 
 -- a run that begins with no sign has none to take off
-kept : (k c : ℕ) (t : List ℕ) → isSign c ≡ false → (unsigned (take k (c ∷ t)) ≡ take k (c ∷ t)) × (eqb (getD (take k (c ∷ t)) 0 0) 45 ≡ false)
+kept : (k c : ℕ) (t : List ℕ) → isSign c ≡ false → (withoutSign (take k (c ∷ t)) ≡ take k (c ∷ t)) × (eqb (getD (take k (c ∷ t)) 0 0) 45 ≡ false)
 kept zero c t f = (refl, refl)
 kept (suc k) c t f = (rw f, no-minus c f)
 
-exponent-tail : (ds ps y : List ℕ) → (tailLen (69 ∷ y) ≡ suc (signLen y + runLen isRun (unsigned y))) × (literal ds ps (take (tailLen (69 ∷ y)) (69 ∷ y)) ≡ exponentOf ds ps y)
+exponent-tail : (ds ps y : List ℕ) → (tailLen (69 ∷ y) ≡ suc (signLen y + runLen isRun (withoutSign y))) × (literal ds ps (take (tailLen (69 ∷ y)) (69 ∷ y)) ≡ exponentOf ds ps y)
 exponent-tail ds ps [] = (refl, refl)
 exponent-tail ds ps (c ∷ t) = by-test (isSign c) signed plain
   where
-    signed : isSign c ≡ true → (tailLen (69 ∷ c ∷ t) ≡ suc (signLen (c ∷ t) + runLen isRun (unsigned (c ∷ t)))) × (literal ds ps (take (tailLen (69 ∷ c ∷ t)) (69 ∷ c ∷ t)) ≡ exponentOf ds ps (c ∷ t))
+    signed : isSign c ≡ true → (tailLen (69 ∷ c ∷ t) ≡ suc (signLen (c ∷ t) + runLen isRun (withoutSign (c ∷ t)))) × (literal ds ps (take (tailLen (69 ∷ c ∷ t)) (69 ∷ c ∷ t)) ≡ exponentOf ds ps (c ∷ t))
     signed e =
         let k : 2 + runLen isRun t ≡ suc (suc (runLen isRun t)) = omega arith in
         let j : suc (1 + runLen isRun t) ≡ suc (suc (runLen isRun t)) = omega arith in
         (rw (e, k, j), rw (e, k, e))
 
-    plain : isSign c ≡ false → (tailLen (69 ∷ c ∷ t) ≡ suc (signLen (c ∷ t) + runLen isRun (unsigned (c ∷ t)))) × (literal ds ps (take (tailLen (69 ∷ c ∷ t)) (69 ∷ c ∷ t)) ≡ exponentOf ds ps (c ∷ t))
+    plain : isSign c ≡ false → (tailLen (69 ∷ c ∷ t) ≡ suc (signLen (c ∷ t) + runLen isRun (withoutSign (c ∷ t)))) × (literal ds ps (take (tailLen (69 ∷ c ∷ t)) (69 ∷ c ∷ t)) ≡ exponentOf ds ps (c ∷ t))
     plain f =
         let j : 0 + runLen isRun (c ∷ t) ≡ runLen isRun (c ∷ t) = omega arith in
         let h = kept (runLen isRun (c ∷ t)) c t f in
         (rw (f, j), rw (f, h .0, h .1, no-minus c f))
 
 pub exponent-lexeme : {m ds ps : List ℕ} (y : List ℕ) (p : ℕ) → Splits m ds ps (69 ∷ y)
-    → numeralLexeme (m ++ (69 ∷ y)) p ≡ lexeme p (length m + suc (signLen y + runLen isRun (unsigned y))) (exponentOf ds ps y)
+    → numeralLexeme (m ++ (69 ∷ y)) p ≡ lexeme p (length m + suc (signLen y + runLen isRun (withoutSign y))) (exponentOf ds ps y)
 exponent-lexeme {m} {ds} {ps} y p s =
     let t = exponent-tail ds ps y in
     lexeme-is p s ∙ ap (λ (k : ℕ). lexeme p (length m + k) (numeralOf (m ++ take (tailLen (69 ∷ y)) (69 ∷ y)))) (t .0)
-    ∙ ap (lexeme p (length m + suc (signLen y + runLen isRun (unsigned y)))) (front (tailLen (69 ∷ y)) (t .0) ∙ t .1)
+    ∙ ap (lexeme p (length m + suc (signLen y + runLen isRun (withoutSign y)))) (front (tailLen (69 ∷ y)) (t .0) ∙ t .1)
   where
-    front : (k : ℕ) → k ≡ suc (signLen y + runLen isRun (unsigned y)) → numeralOf (m ++ take k (69 ∷ y)) ≡ literal ds ps (take k (69 ∷ y))
+    front : (k : ℕ) → k ≡ suc (signLen y + runLen isRun (withoutSign y)) → numeralOf (m ++ take k (69 ∷ y)) ≡ literal ds ps (take k (69 ∷ y))
     front zero q = absurd (omega arith)
     front (suc k) q = followed-is 69 (take k y) (shorter (suc k) s) refl

@@ -13,7 +13,7 @@ use Rattle.memory.proofs.names.Decimals.{digit-range, digits-split, digits-only
 use Rattle.tokens.specs.declared.Scanned.{Scanned}
 use Rattle.tokens.specs.declared.Scanned.the-variants.{Bad}
 use Rattle.tokens.specs.Bytes.{isRun, runLen, all}
-use Rattle.tokens.specs.Numerals.{nonEmpty, decimalDigits, decimalOf, hexOf, isHexRun, behindDigits, hasPart, partOf, behindPart, fraction, behindMantissa, isSign, unsigned, isExponent, isNegative, exponentSize, literalOf, realOf, numeralOf, opensExponent, tailLen, numeralLen}
+use Rattle.tokens.specs.Numerals.{nonEmpty, decimalDigits, decimalOf, hexOf, isHexRun, behindDigits, hasPart, partOf, behindPart, fractionDigits, behindMantissa, isSign, withoutSign, isExponent, isNegative, exponentSize, literalOf, realOf, numeralOf, opensExponent, tailLen, numeralLen}
 use Rattle.tokens.specs.Scan.{Wrong, lexeme, numeralLexeme}
 use Rattle.tokens.proofs.Tests.{by-test, both, no}
 
@@ -46,7 +46,7 @@ pub data Splits (m ds ps x : List ℕ) : Type 0 where
 -- how the rules split the bytes cs
 pub record Parts (cs ds ps x : List ℕ) : Type 0 where
   pub digits : digitsOf cs ≡ ds
-  pub part : fraction cs ≡ ps
+  pub part : fractionDigits cs ≡ ps
   pub rest : behindMantissa cs ≡ x
 
 has-part : (ps x : List ℕ) → decimalDigits ps ≡ true → isDigit (getD x 0 0) ≡ false → hasPart (46 ∷ (ps ++ x)) ≡ true
@@ -116,7 +116,7 @@ literal ds ps x = cond (isExponent x) (literalOf (decimalValue (ds ++ ps)) (leng
 
 pub real-is : {cs ds ps x : List ℕ} → Parts cs ds ps x → realOf cs ≡ literal ds ps x
 real-is {cs} {ds} {ps} p =
-    ap (λ (l : List ℕ). literal l (fraction cs) (behindMantissa cs)) (p .digits) ∙ ap (λ (l : List ℕ). literal ds l (behindMantissa cs)) (p .part) ∙ ap (literal ds ps) (p .rest)
+    ap (λ (l : List ℕ). literal l (fractionDigits cs) (behindMantissa cs)) (p .digits) ∙ ap (λ (l : List ℕ). literal ds l (behindMantissa cs)) (p .part) ∙ ap (literal ds ps) (p .rest)
 
 pub numeral-is : {cs ds ps x : List ℕ} → Parts cs ds ps x → decimalDigits cs ≡ false → isHexRun cs ≡ false → numeralOf cs ≡ literal ds ps x
 numeral-is p n h = rw (n, h) (real-is p)

@@ -4,7 +4,7 @@ use mathlib.Core.Path.{ap}
 use Prim.Native.Nat.{ℕ}
 use native.Mathlib.Omega.{arith}
 use borrow.Author.Needs.{needs}
-use Rattle.lines.specs.Printing.{digitsOf}
+use Rattle.lines.specs.Printing.{lowDigits}
 use Rattle.lines.proofs.Stores.{as-text}
 use Rattle.lines.proofs.printing.put_decimal.Statement.{statement}
 use Rattle.lines.proofs.printing.put_decimal.Tie as tie
@@ -21,7 +21,7 @@ same-length c = search needs
 returns : tie.Need-returns
 returns c =
     let n = c .before .before .before .before .before .before .args .n in (
-      as-text (ap (λ (k : ℕ). digitsOf 10 k n) (c .before .before .before .width-of .ensures)) (c .before .before .spell .ensures),
+      as-text (ap (λ (k : ℕ). lowDigits 10 k n) (c .before .before .before .width-of .ensures)) (c .before .before .spell .ensures),
       omega (arith, c .before .before .spell .ensures .end, length-digits 10 (c .before .before .before .width-of .result) n, c .before .before .before .width-of .ensures),
     )
 

@@ -5,14 +5,14 @@ use native.Mathlib.Omega.{arith}
 use lib.ListN.{length}
 use lib.Seq.{sets, length-sets}
 use borrow.Author.Needs.{needs}
-use Rattle.lines.specs.Printing.{digitsOf}
+use Rattle.lines.specs.Printing.{lowDigits}
 use Rattle.lines.proofs.Stores.{Left, start, long}
 use Rattle.lines.proofs.printing.Digits.{length-digits, inside, next, end}
 use Rattle.lines.proofs.printing.spell.Statement.{statement}
 use Rattle.lines.proofs.printing.spell.Tie as tie
 
 abbrev Inv-loop : tie.InvT-loop
-Inv-loop out₀ at k base n rest₀ i₀ out rest i = Left (sets out₀ at (digitsOf base k n)) out at (digitsOf base i rest)
+Inv-loop out₀ at k base n rest₀ i₀ out rest i = Left (sets out₀ at (lowDigits base k n)) out at (lowDigits base i rest)
 
 abbrev μ-loop : tie.MeasureT-loop
 μ-loop out₀ at k base n rest₀ i₀ out rest i = i
