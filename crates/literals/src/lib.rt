@@ -156,12 +156,12 @@ fn doubled(n: u32, power: u64) -> Mixed
     split((n as u64) * 2147483648, power, 1)
 }
 
-// The power of one digit behind the dot or two, which most literals have: it needs no table.
+// The power of one digit behind the dot or two, which most literals have: at a literal index the table is not built.
 fn short_power(d: u32) -> u64
     requires { ⌜ (0 < d) × (d < 3) ⌝ }
     ensures { λ r. ⌜ r ≡ 10 ^ d ⌝ }
 {
-    if d == 1 { 10 } else { 100 }
+    if d == 1 { TENS[1] } else { TENS[2] }
 }
 
 // The pattern of n / 10 ^ d.

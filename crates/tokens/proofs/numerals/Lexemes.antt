@@ -30,7 +30,9 @@ no-run-part (c ∷ cs) f = rw (no-run-is c 46 refl f)
 
 no-tail : (x : List ℕ) → isRun (getD x 0 0) ≡ false → tailLen x ≡ 0
 no-tail [] f = refl
-no-tail (c ∷ cs) f = rw (no-run-is c 69 refl f, f)
+no-tail (c ∷ cs) f =
+    let closed : opensExponent (c ∷ cs) ≡ false = ap (λ (t : Bool). t && isSign (getD cs 0 0)) (no-run-is c 69 refl f) in
+    rw (closed, f)
 
 -- ---- any mantissa
 lexeme-is : {m ds ps x : List ℕ} (p : ℕ) → Splits m ds ps x → numeralLexeme (m ++ x) p ≡ lexeme p (length m + tailLen x) (numeralOf (m ++ take (tailLen x) x))
