@@ -1,2 +1,3 @@
 pub mod Judge
+pub mod Targets
 pub mod Theorems
