@@ -1,7 +1,7 @@
 // Names of cells: a bank letter and an element's number (paper 01, "Tokens" and answer 2).
 ghost use mathlib.Core.Path.{_≡_};
 ghost use Prim.Native.Nat.{_+_, _≤_, min};
-ghost use lib.ListN.{length, drop};
+ghost use lib.ListN.{length, getD, drop};
 ghost use Rattle.memory.specs.Names.{letterBank, isDigit, digitsOf, decimalFrom, decimalLimit, numberRule, namedRule, targetRule};
 use crate::Bank;
 
@@ -10,10 +10,11 @@ pub enum Letter {
     Other,
 }
 
-// Digits that were read: their number, at most LIMIT, and where they end.
+// Digits that were read: their number, at most LIMIT, where they end, and the byte that stands there, 0 past the end of the text.
 pub struct Reading {
     pub value: u64,
     pub end: usize,
+    pub next: u8,
 }
 
 pub enum Number {
@@ -63,18 +64,27 @@ pub fn digits(text: &[u8], at: usize, n: u64) -> Reading
     requires { ⌜ (at ≤ length (now text)) × (n ≤ decimalLimit) ⌝ }
     ensures { λ r. ⌜ r .value ≡ min (decimalFrom n (digitsOf (drop at (now (text .entry))))) decimalLimit ⌝ }
     ensures { λ r. ⌜ (r .end ≡ at + length (digitsOf (drop at (now (text .entry))))) × (r .end ≤ length (now (text .entry))) ⌝ }
+    ensures { λ r. ⌜ r .next ≡ getD (now (text .entry)) (r .end) 0 ⌝ }
 {
     let mut value = n;
     let mut i = at;
     while i < text.len() {
         let b = text[i];
         if !is_digit(b) {
-            return Reading { value, end: i };
+            return Reading {
+                value,
+                end: i,
+                next: b,
+            };
         }
         value = at_most_limit(value * 10 + ((b - 48) as u64));
         i += 1;
     }
-    Reading { value, end: i }
+    Reading {
+        value,
+        end: i,
+        next: 0,
+    }
 }
 
 // A decimal number without a leading zero, below a bound.

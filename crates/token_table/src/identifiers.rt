@@ -16,14 +16,14 @@ use memory::Bank;
 use memory::names;
 use memory::names::Letter;
 use tokens::bytes;
-use tokens::bytes::Class;
+use tokens::bytes::ByteClass;
 
 // A word without a digit in the second place: it is judged as a whole.
 fn judged(text: &[u8], at: usize) -> Lex
     requires { ⌜ (at ≤ length (now text)) × (isDigit (getD (now text) (at + 1) 0) ≡ false) ⌝ }
     ensures { λ r. ⌜ Lexes (runLexeme isWord wordToken (drop at (now (text .entry))) at) (r .word) (r .end) ⌝ }
 {
-    let end = bytes::run_end(text, at, Class::Word);
+    let end = bytes::run_end(text, at, ByteClass::Word);
     Lex {
         word: packing::pack_scanned(tokens::identifiers::word(&text[at..end])),
         end,
@@ -39,7 +39,7 @@ fn cell_at(text: &[u8], at: usize, bank: Bank, first: u8) -> Lex
     let d = names::digits(text, at + 2, (first - b'0') as u64);
     let end = d.end;
     let element = d.value;
-    if bytes::is_word(bytes::byte_at(text, end)) {
+    if bytes::is_word(d.next) {
         return crate::refused(6);
     }
     if (memory::layout_of(bank).elements as u64) <= element {

@@ -6,7 +6,6 @@ ghost use Rattle.tokens.specs.Scan.{Wrong, lexemeOf, scan};
 ghost use Rattle.token_table.specs.private.Table.{wordClass, wordOperand, wordPlace, wordNumber, wordAt, Fills, TokenWords};
 ghost use Rattle.token_table.specs.private.Lexing.{Lexes};
 use tokens::bytes;
-use tokens::bytes::Class;
 
 pub mod classes;
 mod identifiers;
@@ -92,19 +91,20 @@ pub fn fill(text: &[u8], table: &mut [u64]) -> Filled
 {
     let mut at: usize = 0;
     let mut n: usize = 0;
-    loop {
-        let start = bytes::run_end(text, at, Class::Blank);
-        if text.len() <= start {
-            table[n] = 0;
-            return Filled::Good;
+    while at < text.len() {
+        if bytes::is_space(text[at]) {
+            at += 1;
+        } else {
+            let lex = token_at(text, at);
+            let w = lex.word;
+            if class_of(w) == classes::NONE {
+                return Filled::Wrong(number_of(w), at);
+            }
+            table[n] = w + 65536 * (at as u64);
+            n += 1;
+            at = lex.end;
         }
-        let lex = token_at(text, start);
-        let w = lex.word;
-        if class_of(w) == classes::NONE {
-            return Filled::Wrong(number_of(w), start);
-        }
-        table[n] = w + 65536 * (start as u64);
-        n += 1;
-        at = lex.end;
     }
+    table[n] = 0;
+    Filled::Good
 }

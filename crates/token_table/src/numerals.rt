@@ -12,7 +12,7 @@ use crate::classes;
 use crate::packing;
 use memory::names;
 use tokens::bytes;
-use tokens::bytes::Class;
+use tokens::bytes::ByteClass;
 
 // The largest decimal.
 const LARGEST: u64 = 2147483647;
@@ -35,7 +35,7 @@ fn judged(text: &[u8], at: usize) -> Lex
     requires { ⌜ OtherNumeral (now text) at ⌝ }
     ensures { λ r. ⌜ Lexes (numeralLexeme (drop at (now (text .entry))) at) (r .word) (r .end) ⌝ }
 {
-    let end = bytes::run_end(text, at, Class::Numeral);
+    let end = bytes::run_end(text, at, ByteClass::Numeral);
     Lex {
         word: packing::pack_scanned(tokens::numerals::other_numeral(&text[at..end])),
         end,
@@ -92,7 +92,7 @@ fn exponent_at(text: &[u8], at: usize, m: Mantissa) -> Lex
     if end == first {
         return crate::refused(4);
     }
-    if bytes::is_run(bytes::byte_at(text, end)) {
+    if bytes::is_run(d.next) {
         return crate::refused(4);
     }
     Lex {
@@ -119,7 +119,7 @@ fn real_at(text: &[u8], at: usize, dot: usize, whole: u64) -> Lex
         digits: end - at - 1,
         places: end - dot - 1,
     };
-    let next = bytes::byte_at(text, end);
+    let next = d.next;
     if next == b'E' {
         return exponent_at(text, at, m);
     }
@@ -139,7 +139,7 @@ pub fn numeral_at(text: &[u8], at: usize) -> Lex
     let d = names::digits(text, at, 0);
     let n = d.value;
     let end = d.end;
-    let next = bytes::byte_at(text, end);
+    let next = d.next;
     if next == b'.' {
         return real_at(text, at, end, n);
     }

@@ -1,18 +1,20 @@
 -- Laws of the lexer for the layers above: where a lexeme lies, and how a scan goes on by one lexeme, whatever its fuel.
 use mathlib.Core.Path.{_≡_, refl, sym, ap, _∙_}
-use mathlib.Core.Bool.{Bool, true}
+use mathlib.Core.Bool.{Bool, true, false}
 use mathlib.Core.List.{List, [], _∷_}
 use Prim.Native.Nat.{ℕ, zero, suc, _+_, _-_, _≤_, _<_}
+use native.Mathlib.Numerals.{add-one}
 use native.Mathlib.Omega.{arith}
 use lib.Dec.{eqb}
-use lib.ListN.{length, take, drop, length-drop}
+use lib.ListN.{length, getD, take, drop, length-drop}
+use lib.Seq.{drop-cons}
 use borrow.Author.Tests.{eqb-false}
 use Rattle.memory.specs.Names.{isDigit}
 use Rattle.tokens.specs.declared.Token.{Token}
 use Rattle.tokens.specs.declared.Token.the-variants.{Symbol}
 use Rattle.tokens.specs.declared.Scanned.{Scanned}
 use Rattle.tokens.specs.declared.Scanned.the-variants.{Good, Bad}
-use Rattle.tokens.specs.Bytes.{isLetter, isWord, runLen}
+use Rattle.tokens.specs.Bytes.{isLetter, isSpace, isWord, runLen}
 use Rattle.tokens.specs.Symbols.{symbolCount, symbolBytes, longest}
 use Rattle.tokens.specs.Numerals.{numeralLen, numeralOf}
 use Rattle.tokens.specs.Words.{wordToken}
@@ -119,6 +121,20 @@ same (suc f) (suc g) s at h k =
 -- the scan from a position on; `scan s` is the one from 0
 abbrev pub rest : List ℕ → ℕ → Scan
 rest s at = scanFrom (suc (length s)) s at
+
+-- ---- byte by byte: a blank is passed over, any other byte begins a lexeme
+module _ (s : List ℕ) (at : ℕ) (h : at < length s) where
+  pub at-blank : isSpace (getD s at 0) ≡ true → rest s at ≡ rest s (at + 1)
+  at-blank e =
+      let b : blanks s at ≡ suc (blanks s (at + 1)) = rw (drop-cons s at 0 h, e, add-one) in
+      let k : at + blanks s at ≡ at + 1 + blanks s (at + 1) = omega (arith, b) in
+      step (length s) s at ∙ ap (λ (p : ℕ). onward (λ e. scanFrom (length s) s e) (lexemeOf (drop p s) p)) k ∙ sym (step (length s) s (at + 1))
+
+  pub no-blank : isSpace (getD s at 0) ≡ false → at + blanks s at ≡ at
+  no-blank e = let b : blanks s at ≡ 0 = rw (drop-cons s at 0 h, e) in omega (arith, b)
+
+  pub at-once : isSpace (getD s at 0) ≡ false → lexemeAt s at ≡ lexemeOf (drop at s) at
+  at-once e = ap (λ (p : ℕ). lexemeOf (drop p s) p) (no-blank e)
 
 module _ (s : List ℕ) (at : ℕ) where
   pub enough : (f : ℕ) → length s - at < f → scanFrom f s at ≡ rest s at

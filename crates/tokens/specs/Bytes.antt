@@ -5,8 +5,8 @@ use mathlib.Core.List.{List, [], _∷_}
 use Prim.Native.Nat.{ℕ, suc}
 use lib.Dec.{eqb, leb}
 use Rattle.memory.specs.Names.{isDigit}
-use Rattle.tokens.specs.declared.bytes.Class.{Class}
-use Rattle.tokens.specs.declared.bytes.Class.the-variants.{Blank, Word, Numeral, Hexadecimal}
+use Rattle.tokens.specs.declared.bytes.ByteClass.{ByteClass}
+use Rattle.tokens.specs.declared.bytes.ByteClass.the-variants.{Word, Numeral, Hexadecimal}
 use Rattle.words.specs.Ascii.{byte}
 
 abbrev pub byteBetween : ℕ → ℕ → ℕ → Bool
@@ -29,8 +29,7 @@ abbrev pub isHex : ℕ → Bool
 isHex c = isDigit c || byteBetween (byte "A") (byte "F") c || byteBetween (byte "a") (byte "f") c
 
 -- the classes that a run is read by
-abbrev pub inClass : Class → ℕ → Bool
-inClass Blank c = isSpace c
+abbrev pub inClass : ByteClass → ℕ → Bool
 inClass Word c = isWord c
 inClass Numeral c = isRun c
 inClass Hexadecimal c = isHex c

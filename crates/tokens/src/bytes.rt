@@ -43,27 +43,25 @@ pub fn is_hex(b: u8) -> bool
     between(65, b, 70) || between(97, b, 102)
 }
 
-// Classes of which runs are made: blanks, the bytes of words, those of numerals, hexadecimal digits.
-pub enum Class {
-    Blank,
+// Classes of which runs are made: the bytes of words, those of numerals, hexadecimal digits.
+pub enum ByteClass {
     Word,
     Numeral,
     Hexadecimal,
 }
 
-fn is_in(class: Class, b: u8) -> bool
+fn is_in(class: ByteClass, b: u8) -> bool
     ensures { λ r. ⌜ r ≡ inClass class b ⌝ }
 {
     match class {
-        Class::Blank => is_space(b),
-        Class::Word => is_word(b),
-        Class::Numeral => is_run(b),
-        Class::Hexadecimal => is_hex(b),
+        ByteClass::Word => is_word(b),
+        ByteClass::Numeral => is_run(b),
+        ByteClass::Hexadecimal => is_hex(b),
     }
 }
 
 // The end of the longest run of a class from a position.
-pub fn run_end(text: &[u8], at: usize, class: Class) -> usize
+pub fn run_end(text: &[u8], at: usize, class: ByteClass) -> usize
     requires { ⌜ at ≤ length (now text) ⌝ }
     ensures { λ r. ⌜ (r ≡ at + runLen (inClass class) (drop at (now (text .entry)))) × (r ≤ length (now (text .entry))) ⌝ }
 {

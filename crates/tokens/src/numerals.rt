@@ -9,7 +9,7 @@ ghost use Rattle.tokens.specs.Numerals.{nonEmpty, hexDigit, hexFrom, hex
 use crate::Scanned;
 use crate::Token;
 use crate::bytes;
-use crate::bytes::Class;
+use crate::bytes::ByteClass;
 use values::Value;
 
 fn hex_digit(b: u8) -> u32
@@ -33,7 +33,7 @@ fn all_hex(run: &[u8]) -> bool
     if run.len() == 0 {
         return false;
     }
-    run.len() <= bytes::run_end(run, 0, Class::Hexadecimal)
+    run.len() <= bytes::run_end(run, 0, ByteClass::Hexadecimal)
 }
 
 // The number of hexadecimal digits.

@@ -7,7 +7,7 @@ use native.Mathlib.Numerals.{add-one}
 use native.Mathlib.Omega.{arith}
 use lib.Dec.{T, leb, ltb, leb→le, ltb→lt}
 use lib.Ieee.Fits.{and-l, and-r}
-use lib.ListN.{length, getD, drop, drop-of-length-le}
+use lib.ListN.{length, getD, drop, drop-of-length-le, List·getD-eq-default}
 use lib.Seq.{drop-cons}
 use borrow.Author.Tests.{lt-ltb, le-ltb, ltb-true, ltb-false, eq-eqb, ne-eqb}
 use Rattle.memory.specs.Names.{isDigit, allDigits, digitsOf, noLeadingZero, decimalFrom, decimalValue, decimalLimit, numberBelow}
@@ -111,17 +111,20 @@ module _ {s : List ℕ} {at n i v : ℕ} (r : Reads s at n i v) where
         value = r .value ∙ rw more (cut (v * 10 + (getD s i 0 - 48)) (digitsOf (drop (i + 1) s)));
       }
 
-  -- what was read, where no digit comes next
-  last : digitsOf (drop i s) ≡ [] → (v ≡ min (decimalFrom n (digitsOf (drop at s))) decimalLimit) × ((i ≡ at + length (digitsOf (drop at s))) × (i ≤ length s))
-  last e =
+  -- what was read, and the byte x behind it, where that is no digit
+  abbrev Stopped : ℕ → Type 0
+  Stopped x = (v ≡ min (decimalFrom n (digitsOf (drop at s))) decimalLimit) × (((i ≡ at + length (digitsOf (drop at s))) × (i ≤ length s)) × (x ≡ getD s i 0))
+
+  last : {x : ℕ} → digitsOf (drop i s) ≡ [] → x ≡ getD s i 0 → Stopped x
+  last e b =
       let q : min (decimalFrom v (digitsOf (drop i s))) decimalLimit ≡ v = rw e (omega (arith, r .small)) in
-      (sym (r .value ∙ q), (omega (arith, r .ends, ap length e), r .within))
+      (sym (r .value ∙ q), ((omega (arith, r .ends, ap length e), r .within), b))
 
-  pub stop : i < length s → isDigit (getD s i 0) ≡ false → (v ≡ min (decimalFrom n (digitsOf (drop at s))) decimalLimit) × ((i ≡ at + length (digitsOf (drop at s))) × (i ≤ length s))
-  stop h e = last (rw (drop-cons s i 0 h, e))
+  pub stop : i < length s → isDigit (getD s i 0) ≡ false → Stopped (getD s i 0)
+  stop h e = last (rw (drop-cons s i 0 h, e)) refl
 
-  pub end : length s ≤ i → (v ≡ min (decimalFrom n (digitsOf (drop at s))) decimalLimit) × ((i ≡ at + length (digitsOf (drop at s))) × (i ≤ length s))
-  end h = last (rw (drop-of-length-le s h))
+  pub end : length s ≤ i → Stopped 0
+  end h = last (rw (drop-of-length-le s h)) (sym (List·getD-eq-default s 0 h))
 
 -- ---- a number below a bound
 pub not-digits : (ds : List ℕ) (m : ℕ) → (length (digitsOf ds) ≡ length ds → ⊥) → numberBelow m ds ≡ false
