@@ -1,56 +1,45 @@
 // A line of text in an array, and the texts of results. Each function puts its text at a place and answers the place after it.
-// Past the array's end nothing is put: a line that is cut so differs from the expected one.
+// A text that has no room is not put: a line without it differs from the expected one.
 use libc::STDOUT_FILENO;
+use lines::printing;
+use memory::Bank;
 use values::Fault;
 use values::Outcome;
 use values::Value;
 
-const DIGITS: [u8; 16] = *b"0123456789ABCDEF";
-
-pub fn put(line: &mut [u8; 512], at: usize, b: u8) -> usize {
-    if at < 512 {
-        line[at] = b;
-        return at + 1;
+pub fn put_all(line: &mut [u8; 512], at: usize, text: &[u8]) -> usize {
+    let room: &mut [u8] = line;
+    if at <= room.len() {
+        if text.len() <= room.len() - at {
+            return printing::put_all(room, at, text);
+        }
     }
     at
 }
 
-pub fn put_all(line: &mut [u8; 512], at: usize, text: &[u8]) -> usize {
-    let mut end = at;
-    let mut k = 0;
-    while k < text.len() {
-        end = put(line, end, text[k]);
-        k += 1;
-    }
-    end
+pub fn put(line: &mut [u8; 512], at: usize, b: u8) -> usize {
+    let text = [b];
+    put_all(line, at, &text)
 }
 
 pub fn put_decimal(line: &mut [u8; 512], at: usize, n: u64) -> usize {
-    let mut digits = [0u8; 20];
-    let k = io::decimal(n, &mut digits);
-    put_all(line, at, &digits[..k])
+    let mut text = [0u8; 20];
+    let k = printing::put_decimal(&mut text, 0, n);
+    put_all(line, at, &text[..k])
 }
 
-// Eight digits.
+// The eight digits of a pattern, without the `0x` before them.
 pub fn put_hex(line: &mut [u8; 512], at: usize, n: u32) -> usize {
-    if 504 < at {
-        return at;
-    }
-    for k in 0usize..8 {
-        line[at + k] = DIGITS[((n >> (28 - 4 * k)) % 16) as usize];
-    }
-    at + 8
+    let mut text = [0u8; 11];
+    printing::put_value(&mut text, 0, Bank::R, n as u64);
+    put_all(line, at, &text[2..10])
 }
 
 fn put_integer(line: &mut [u8; 512], at: usize, z: i32) -> usize {
-    let n = values::patterns::pattern(z) as u64;
-    if n < 2147483648 {
-        let end = put(line, at, b'i');
-        put_decimal(line, end, n)
-    } else {
-        let end = put_all(line, at, b"i-");
-        put_decimal(line, end, 4294967296 - n)
-    }
+    let end = put(line, at, b'i');
+    let mut text = [0u8; 11];
+    let k = printing::put_value(&mut text, 0, Bank::D, values::patterns::pattern(z) as u64);
+    put_all(line, end, &text[..k])
 }
 
 // A NaN has no pattern; no operator gives one.
