@@ -19,18 +19,18 @@ impl Sides {
     }
 
     // Both compile and run, then check and run again what was compiled. The instructions are each one's own, but as many.
-    fn same(&mut self, Formula { target, text }: &Formula) -> Report {
+    fn same(&mut self, Formula { target, text }: &Formula, tick: u32) -> Report {
         let [ours, theirs] = &mut self.memories;
         let [code, other] = &mut self.codes;
         let same = |a: Report, b: Report| assert_eq!(a, b, "{}", String::from_utf8_lossy(text));
-        let report = library::compile_and_run(target, text, ours, code);
-        same(report, rival::compile_and_run(target, text, theirs, other));
+        let report = library::compile_and_run(target, text, ours, code, tick);
+        same(report, rival::compile_and_run(target, text, theirs, other, tick));
         let compiled = library::compile(text, code);
         same(compiled, rival::compile(text, other));
         if compiled.answer == 0 {
             let n = compiled.count as usize;
             same(library::check(code, n), rival::check(other, n));
-            same(library::run(code, n, ours, target), rival::run(other, n, theirs, target));
+            same(library::run(code, n, ours, target, tick), rival::run(other, n, theirs, target, tick));
         }
         assert!(ours == theirs, "memory: {}", String::from_utf8_lossy(text));
         report
@@ -66,7 +66,7 @@ fn memory(number: usize) -> Vec<u8> {
 pub fn compare(texts: usize) {
     let mut sides = Sides::new(data::memory());
     for formula in data::scans().iter().chain(&data::texts()).flat_map(|scan| &scan.formulas) {
-        assert_eq!(sides.same(formula).answer, 0, "{}", String::from_utf8_lossy(&formula.text));
+        assert_eq!(sides.same(formula, data::TICK).answer, 0, "{}", String::from_utf8_lossy(&formula.text));
     }
     let mut answers = [0; 16];
     for number in 0..texts {
@@ -75,7 +75,8 @@ pub fn compare(texts: usize) {
             sides = Sides::new(if number % 32 == 0 { data::memory() } else { memory(number) });
         }
         let formula = Formula { target: target(number), text: text(number) };
-        answers[sides.same(&formula).answer as usize] += 1;
+        let tick = Random::new(SEED, !(number as u64)).tick();
+        answers[sides.same(&formula, tick).answer as usize] += 1;
     }
     println!("the same on {texts} texts (answers 0 to 15: {answers:?})");
 }

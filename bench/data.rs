@@ -15,6 +15,10 @@ pub struct Scan {
 }
 
 const SCAN: usize = 40;
+
+/// The tick of every measured run: a second before the end of a day.
+pub const TICK: u32 = 86_399_000;
+
 const LONGEST: usize = 1024;
 
 fn lines(file: &str) -> impl Iterator<Item = &str> {

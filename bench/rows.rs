@@ -1,7 +1,7 @@
 //! The rows of the table. A run through the library is check, run and store, and so is the rival's; run and store is that less
 //! the check.
 
-use crate::data::{self, Formula, Scan};
+use crate::data::{self, Formula, Scan, TICK};
 use crate::library::{self, CODE_BYTES};
 use crate::reference::memory::FLAGS;
 use crate::rival;
@@ -67,8 +67,8 @@ impl Measured<'_> {
     // Each side has a memory of its own; they run equally often, so both are the same in the end.
     fn run(&self) -> Pair {
         let (mut memory, mut other) = (data::memory(), data::memory());
-        let ours = &mut || each(&self.ready, |r| library::run(&r.ours, r.instructions, &mut memory, r.target));
-        let theirs = &mut || each(&self.ready, |r| rival::run(&r.theirs, r.instructions, &mut other, r.target));
+        let ours = &mut || each(&self.ready, |r| library::run(&r.ours, r.instructions, &mut memory, r.target, TICK));
+        let theirs = &mut || each(&self.ready, |r| rival::run(&r.theirs, r.instructions, &mut other, r.target, TICK));
         let times = least(self.batches, self.calls, [ours, theirs]);
         hold_to_each_other(&memory, &other);
         times
@@ -78,8 +78,8 @@ impl Measured<'_> {
         let (mut memory, mut other) = (data::memory(), data::memory());
         let (mut code, mut other_code) = (vec![0; CODE_BYTES], vec![0; CODE_BYTES]);
         let formulas = &self.scan.formulas;
-        let ours = &mut || each(formulas, |f| library::compile_and_run(&f.target, &f.text, &mut memory, &mut code));
-        let theirs = &mut || each(formulas, |f| rival::compile_and_run(&f.target, &f.text, &mut other, &mut other_code));
+        let ours = &mut || each(formulas, |f| library::compile_and_run(&f.target, &f.text, &mut memory, &mut code, TICK));
+        let theirs = &mut || each(formulas, |f| rival::compile_and_run(&f.target, &f.text, &mut other, &mut other_code, TICK));
         let times = least(self.batches, self.calls, [ours, theirs]);
         hold_to_each_other(&memory, &other);
         times

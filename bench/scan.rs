@@ -44,7 +44,7 @@ fn check_scan(codes: &[Vec<u8>], counts: &[usize]) {
 #[inline(never)]
 fn run_scan(scan: &Scan, codes: &[Vec<u8>], counts: &[usize], memory: &mut [u8]) {
     for ((formula, code), count) in scan.formulas.iter().zip(codes).zip(counts) {
-        assert!(library::run(code, *count, memory, &formula.target).answer == 0);
+        assert!(library::run(code, *count, memory, &formula.target, data::TICK).answer == 0);
     }
 }
 

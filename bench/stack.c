@@ -21,6 +21,7 @@ static uint8_t code[FORMULA_CODE_BYTES];
 static struct formula_report report;
 static const uint8_t *expr, *target;
 static size_t expr_len, target_len, count;
+static const uint32_t tick = 86399000;
 
 static void nothing(void) {
 }
@@ -34,11 +35,11 @@ static void check(void) {
 }
 
 static void run(void) {
-    formula_run(code, sizeof code, count, memory, sizeof memory, target, target_len, &report);
+    formula_run(code, sizeof code, count, memory, sizeof memory, target, target_len, tick, &report);
 }
 
 static void compile_and_run(void) {
-    formula_compile_and_run(target, target_len, expr, expr_len, memory, sizeof memory, code, sizeof code, &report);
+    formula_compile_and_run(target, target_len, expr, expr_len, memory, sizeof memory, code, sizeof code, tick, &report);
 }
 
 static size_t painted_depth(void (*operation)(void), uint8_t paint) {

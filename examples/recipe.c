@@ -122,25 +122,26 @@ static void show_and_clear_flags(void)
     printf(faults == 0 ? "  dose\n" : "  do not dose\n");
 }
 
-static void scan(void)
+/* The tick is the box's counter of milliseconds, read once for the whole scan. */
+static void scan(uint32_t tick)
 {
     for (size_t i = 0; i < LINES; i++) {
         struct line *line = &recipe[i];
         struct formula_report report;
         formula_run(line->code, sizeof line->code, line->instructions, memory, sizeof memory,
-                    (const uint8_t *)line->target, strlen(line->target), &report);
+                    (const uint8_t *)line->target, strlen(line->target), tick, &report);
         show_value(line, &report);
     }
     show_and_clear_flags();
 }
 
-static void scan_with(uint16_t grams, uint16_t skeins, uint16_t vat)
+static void scan_with(uint32_t tick, uint16_t grams, uint16_t skeins, uint16_t vat)
 {
     printf("scan: %u g, %u skeins, vat %u\n", grams, skeins, vat);
     set_v(0, grams);
     set_v(1, skeins);
     set_v(2, vat);
-    scan();
+    scan(tick);
 }
 
 /* What the screen shows for a formula with a slip. */
@@ -163,9 +164,9 @@ int main(void)
     set_r(10, 12.5f);
     set_r(11, 8.0f);
     set_r(12, 20.25f);
-    scan_with(1500, 6, 0);
-    scan_with(40000, 16, 2);
-    scan_with(250, 0, 1);
-    scan_with(1500, 6, 300);
+    scan_with(0, 1500, 6, 0);
+    scan_with(100, 40000, 16, 2);
+    scan_with(200, 250, 0, 1);
+    scan_with(300, 1500, 6, 300);
     return 0;
 }

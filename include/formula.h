@@ -9,6 +9,9 @@
  * Calls. Each ends and fills in the whole report. There is no static data: calls on buffers of their own may interrupt one another
  * or run side by side.
  *
+ * Tick. The caller's counter of milliseconds, any 32 bits, which goes on from 0xFFFFFFFF to 0. TICKms() is this pattern and SINCE(x) the tick
+ * less x, for the whole of a run; nothing is remembered from one call to the next.
+ *
  * Stack. FORMULA_STACK_BYTES are enough for any call, by measurement.
  *
  * Floating point. It must round to nearest and keep subnormals: ask formula_float_mode_ok at the start, in each thread. A program
@@ -25,7 +28,7 @@
 extern "C" {
 #endif
 
-#define FORMULA_VERSION 2 /* rises where this header, an answer or the bytes of an instruction change their meaning */
+#define FORMULA_VERSION 3 /* rises where this header, an answer or the bytes of an instruction change their meaning */
 
 #define FORMULA_TEXT_BYTES        1024u  /* the longest expression */
 #define FORMULA_MEMORY_BYTES      3204u  /* the only size of a memory */
@@ -94,13 +97,13 @@ void formula_check(const uint8_t *code, size_t code_len, size_t instructions, st
  * On answer 0 the target's cell is written, on 11 to 14 the fault's flag, and nothing else ever.
  * Answers: 0, 1, 2, 11 to 15. */
 void formula_run(const uint8_t *code, size_t code_len, size_t instructions, uint8_t *memory, size_t memory_len,
-                 const uint8_t *target, size_t target_len, struct formula_report *report);
+                 const uint8_t *target, size_t target_len, uint32_t tick, struct formula_report *report);
 
 /* Compiles and runs in one call; the memory is written as by formula_run, the code buffer as by formula_compile.
  * The code is written on 11 to 14 too, and count is that of the run. Answers: 0 to 14. */
 void formula_compile_and_run(const uint8_t *target, size_t target_len, const uint8_t *expr, size_t expr_len,
                              uint8_t *memory, size_t memory_len, uint8_t *code, size_t code_len,
-                             struct formula_report *report);
+                             uint32_t tick, struct formula_report *report);
 
 /* C's fmodf for every x and y, in any floating-point mode and with at most 32 divisions of whole numbers. Where the remainder is
  * a NaN, which NaN is not fixed; errno is left alone. */

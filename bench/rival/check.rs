@@ -1,7 +1,7 @@
 //! The check of code: one pass, since jumps go forward. Kinds held are bits, 1 for a real, the last pushed lowest.
 
 use super::image::REAL_BANK;
-use super::machine::{decode, taken, BINARY, JUMP, LOAD, LOAD_INDEXED, PUSH_REAL, UNARY};
+use super::machine::{decode, taken, BINARY, JUMP, LOAD, LOAD_INDEXED, PUSH_REAL, SINCE, UNARY};
 use super::op;
 
 #[derive(Clone, Copy, PartialEq)]
@@ -104,7 +104,7 @@ fn kind_left(opcode: u8, operand: u8, kinds: u128) -> Option<u8> {
         (PUSH_REAL, _) => Some(1),
         (LOAD | LOAD_INDEXED, bank) => Some((bank == REAL_BANK) as u8),
         (UNARY, op::NEGATE | op::ABS) => Some(right),
-        (UNARY, op::INVERT) if right == 1 => None,
+        (UNARY, op::INVERT) | (SINCE, _) if right == 1 => None,
         (UNARY, op::TO_REAL | op::FRAC) => Some(1),
         (BINARY, op::POWER) if right == 1 => None,
         (BINARY, op::POWER) => Some(left),

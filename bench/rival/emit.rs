@@ -47,6 +47,14 @@ impl Code {
         self.push(BINARY, operator, 0);
     }
 
+    pub fn tick(&mut self) {
+        self.push(TICK, 0, 0);
+    }
+
+    pub fn elapsed(&mut self) {
+        self.push(SINCE, 0, 0);
+    }
+
     /// After the left side of `&&` and `||`, and after the condition of IF.
     pub fn gap(&mut self) -> usize {
         self.push(JUMP, 0, 0);

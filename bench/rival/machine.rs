@@ -2,7 +2,7 @@
 
 use super::image::{elements, read, read_indexed, REAL_BANK};
 use super::op;
-use super::values::{binary, unary, Outcome, Stop, Value};
+use super::values::{binary, since, unary, Outcome, Stop, Value};
 
 pub type Instruction = [u8; 8];
 
@@ -13,9 +13,11 @@ pub const LOAD: u8 = 3;
 pub const LOAD_INDEXED: u8 = 4;
 pub const UNARY: u8 = 5;
 pub const BINARY: u8 = 6;
-pub const JUMP: u8 = 7;
-pub const JUMP_IF_FALSE: u8 = 8;
-pub const JUMP_IF_TRUE: u8 = 9;
+pub const TICK: u8 = 7;
+pub const SINCE: u8 = 8;
+pub const JUMP: u8 = 9;
+pub const JUMP_IF_FALSE: u8 = 10;
+pub const JUMP_IF_TRUE: u8 = 11;
 
 pub fn instruction(opcode: u8, operand: u8, word: u32) -> Instruction {
     let [a, b, c, d] = word.to_le_bytes();
@@ -39,6 +41,7 @@ pub fn decode(code: &[u8], place: usize) -> Option<(u8, u8, u32)> {
         LOAD_INDEXED => operand <= REAL_BANK && word == 0,
         UNARY => operand < op::UNARIES && word == 0,
         BINARY => operand < op::BINARIES && word == 0,
+        TICK | SINCE => operand == 0 && word == 0,
         _ => false,
     };
     if good {
@@ -52,7 +55,7 @@ pub fn decode(code: &[u8], place: usize) -> Option<(u8, u8, u32)> {
 #[inline]
 pub fn taken(opcode: u8) -> usize {
     match opcode {
-        LOAD_INDEXED | UNARY | JUMP_IF_FALSE | JUMP_IF_TRUE => 1,
+        LOAD_INDEXED | UNARY | SINCE | JUMP_IF_FALSE | JUMP_IF_TRUE => 1,
         BINARY => 2,
         _ => 0,
     }
@@ -76,13 +79,15 @@ impl Stack<'_> {
 
     // What an instruction gives that is no jump.
     #[inline]
-    fn given(&mut self, opcode: u8, operand: u8, word: u32, image: &[u8]) -> Outcome {
+    fn given(&mut self, opcode: u8, operand: u8, word: u32, image: &[u8], tick: u32) -> Outcome {
         match opcode {
             PUSH_INT => Ok(Value::Int(word as i32)),
             PUSH_REAL => Ok(Value::Real(f32::from_bits(word))),
             LOAD => read(image, operand, word as usize),
             LOAD_INDEXED => read_indexed(image, operand, self.pop()?),
             UNARY => unary(operand, self.pop()?),
+            TICK => Ok(Value::Int(tick as i32)),
+            SINCE => since(tick, self.pop()?),
             _ => {
                 let right = self.pop()?;
                 binary(operand, self.pop()?, right)
@@ -109,7 +114,7 @@ impl Stack<'_> {
 
 // Runs to the end and counts the instructions begun.
 #[inline]
-fn go(code: &[u8], n: usize, image: &[u8], count: &mut usize) -> Outcome {
+fn go(code: &[u8], n: usize, image: &[u8], tick: u32, count: &mut usize) -> Outcome {
     let mut stack = Stack { values: &mut [Value::Int(0); 128], height: 0 };
     let mut place = 0;
     while place < n {
@@ -117,7 +122,7 @@ fn go(code: &[u8], n: usize, image: &[u8], count: &mut usize) -> Outcome {
         let (opcode, operand, word) = decode(code, place).ok_or(Stop::Stuck)?;
         place += 1;
         if opcode < JUMP {
-            let v = stack.given(opcode, operand, word, image)?;
+            let v = stack.given(opcode, operand, word, image, tick)?;
             stack.push(v)?;
         } else if stack.jumps(opcode)? {
             if word as usize > n - place {
@@ -135,8 +140,8 @@ fn go(code: &[u8], n: usize, image: &[u8], count: &mut usize) -> Outcome {
 
 /// What the code gives, and the instructions begun.
 #[inline(never)]
-pub fn run(code: &[u8], n: usize, image: &[u8]) -> (Outcome, usize) {
+pub fn run(code: &[u8], n: usize, image: &[u8], tick: u32) -> (Outcome, usize) {
     let mut count = 0;
-    let given = go(code, n, image, &mut count);
+    let given = go(code, n, image, tick, &mut count);
     (given, count)
 }

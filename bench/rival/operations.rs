@@ -45,7 +45,7 @@ pub fn check(code: &[u8], n: usize) -> Report {
 }
 
 #[inline(never)]
-pub fn run(code: &[u8], n: usize, memory: &mut [u8], target: &[u8]) -> Report {
+pub fn run(code: &[u8], n: usize, memory: &mut [u8], target: &[u8], tick: u32) -> Report {
     if memory.len() != image::BYTES {
         return answered(1);
     }
@@ -55,12 +55,12 @@ pub fn run(code: &[u8], n: usize, memory: &mut [u8], target: &[u8]) -> Report {
     if !accepts(code, n) {
         return answered(15);
     }
-    let (given, count) = machine::run(code, n, memory);
+    let (given, count) = machine::run(code, n, memory, tick);
     settled(memory, cell, given, count)
 }
 
 #[inline(never)]
-pub fn compile_and_run(target: &[u8], text: &[u8], memory: &mut [u8], code: &mut [u8]) -> Report {
+pub fn compile_and_run(target: &[u8], text: &[u8], memory: &mut [u8], code: &mut [u8], tick: u32) -> Report {
     if memory.len() != image::BYTES {
         return answered(1);
     }
@@ -73,7 +73,7 @@ pub fn compile_and_run(target: &[u8], text: &[u8], memory: &mut [u8], code: &mut
     match emit::compile(text, code) {
         Ok(n) => {
             // just compiled, so there is nothing to check
-            let (given, count) = machine::run(code, n, memory);
+            let (given, count) = machine::run(code, n, memory, tick);
             settled(memory, cell, given, count)
         }
         Err(refusal) => refused(refusal),

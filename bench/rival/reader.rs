@@ -145,9 +145,13 @@ impl Reader<'_> {
     }
 
     fn call(&mut self, open: u8, function: Function) -> Read<Kind> {
+        let place = self.ahead.place;
         self.advance()?;
         if !matches!(self.ahead.token, Token::Open) {
             return self.refused(7);
+        }
+        if let Function::Tick = function {
+            return self.clock(open);
         }
         let first = self.bracket(open)?;
         let kind = match function {
@@ -172,17 +176,37 @@ impl Reader<'_> {
                 self.code.choose(gap, first, second);
                 joined(first, second)
             }
+            // the other one has no argument
+            Function::Since | Function::Tick => {
+                self.code.elapsed();
+                if first == Real {
+                    self.wrong_at(place);
+                }
+                Int
+            }
         };
         self.close()?;
         Ok(kind)
     }
 
-    // The opener ahead and the expression after it.
-    fn bracket(&mut self, open: u8) -> Read<Kind> {
+    // The opener ahead and its closer, with nothing between them.
+    fn clock(&mut self, open: u8) -> Read<Kind> {
+        self.opener(open)?;
+        self.close()?;
+        self.code.tick();
+        Ok(Int)
+    }
+
+    fn opener(&mut self, open: u8) -> Read<()> {
         if open == MOST_OPEN {
             return self.refused(8);
         }
-        self.advance()?;
+        self.advance()
+    }
+
+    // The opener ahead and the expression after it.
+    fn bracket(&mut self, open: u8) -> Read<Kind> {
+        self.opener(open)?;
         self.expression(open + 1, LOOSEST)
     }
 

@@ -10,6 +10,8 @@ pub enum Function {
     One(u8),
     Two(u8),
     If,
+    Tick,
+    Since,
 }
 
 #[derive(Clone, Copy)]
@@ -54,6 +56,8 @@ pub fn word(run: &[u8]) -> Option<Token> {
         b"MAX" => return Some(Token::Name(Function::Two(op::MAX))),
         b"MIN" => return Some(Token::Name(Function::Two(op::MIN))),
         b"IF" => return Some(Token::Name(Function::If)),
+        b"TICKms" => return Some(Token::Name(Function::Tick)),
+        b"SINCE" => return Some(Token::Name(Function::Since)),
         _ => {}
     }
     let bank = bank(run[0])?;

@@ -105,6 +105,13 @@ pub fn unary(operator: u8, v: Value) -> Outcome {
     }
 }
 
+pub fn since(tick: u32, v: Value) -> Outcome {
+    match v {
+        Int(z) => Ok(Int(tick.wrapping_sub(z as u32) as i32)),
+        Real(_) => Err(Stuck),
+    }
+}
+
 pub fn binary(operator: u8, a: Value, b: Value) -> Outcome {
     if let (Int(x), Int(y)) = (a, b) {
         return on_integers(operator, x, y);

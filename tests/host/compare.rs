@@ -40,8 +40,8 @@ fn expected(request: &Request) -> Expected {
     let report = match request.operation {
         Operation::Compile => operations::compile(expr, &mut code),
         Operation::Check => operations::check(&code, *instructions),
-        Operation::Run => operations::run(&code, *instructions, &mut memory, target),
-        Operation::CompileAndRun => operations::compile_and_run(target, expr, &mut memory, &mut code),
+        Operation::Run => operations::run(&code, *instructions, &mut memory, target, request.tick),
+        Operation::CompileAndRun => operations::compile_and_run(target, expr, &mut memory, &mut code, request.tick),
     };
     Expected { report, memory, code }
 }
@@ -53,8 +53,8 @@ fn actual(request: &Request) -> Result<Actual, String> {
     let report = match request.operation {
         Operation::Compile => library::compile(&expr, &mut code),
         Operation::Check => library::check(&code, request.instructions),
-        Operation::Run => library::run(&code, request.instructions, &mut memory, &target),
-        Operation::CompileAndRun => library::compile_and_run(&target, &expr, &mut memory, &mut code),
+        Operation::Run => library::run(&code, request.instructions, &mut memory, &target, request.tick),
+        Operation::CompileAndRun => library::compile_and_run(&target, &expr, &mut memory, &mut code, request.tick),
     };
     same_bytes("target", &request.target, target.content())?;
     same_bytes("expression", &request.expr, expr.content())?;
@@ -71,7 +71,7 @@ fn same_as_tree(request: &Request, actual: &Actual) -> Result<(), String> {
         return Ok(());
     }
     let mut memory = request.memory.clone();
-    let walked = operations::walk(&request.target, &request.expr, &mut memory);
+    let walked = operations::walk(&request.target, &request.expr, &mut memory, request.tick);
     let report = Report { count: 0, ..actual.report };
     if walked != report {
         return Err(format!("the tree gives {walked:?}\nthe code      {report:?}"));
@@ -108,6 +108,7 @@ pub fn show(request: &Request) -> String {
     if matches!(request.operation, Operation::Run | Operation::CompileAndRun) {
         lines += &format!("target {}\n", text(&request.target));
         lines += &format!("memory {} bytes {}\n", request.memory.len(), hex(&request.memory));
+        lines += &format!("tick {:08x}\n", request.tick);
     }
     lines
 }

@@ -1,7 +1,7 @@
 //! The examples of the documents, by both implementations.
 //!
-//! In a block ```cells a line `R1 = 2.5` says what a cell holds in the examples. In any other block a line with an
-//! arrow is an example: `EXPR -> 64` (an integer), `EXPR -> 3.5` (a real), `EXPR -> V0 = 0` (the cell after the
+//! In a block ```cells a line `R1 = 2.5` says what a cell holds in the examples that follow, and `tick = 704` their tick, which
+//! is 0 before. In any other block a line with an arrow is an example: `EXPR -> 64` (an integer), `EXPR -> 3.5` (a real), `EXPR -> V0 = 0` (the cell after the
 //! store), `EXPR -> answer 12` or `EXPR -> answer 7 at 4` (the place).
 
 use crate::library::{self, Lent};
@@ -16,6 +16,7 @@ pub struct Examples {
     pub number: usize,
     /// Each cell's name and its line of the program.
     cells: Vec<(String, String)>,
+    tick: u32,
 }
 
 struct Stated {
@@ -43,6 +44,10 @@ impl Examples {
 
     fn add_cell(&mut self, line: &str) -> Option<()> {
         let (name, value) = line.split_once(" = ")?;
+        if name == "tick" {
+            self.tick = value.parse().ok()?;
+            return Some(());
+        }
         let value = match cell_name(name.as_bytes())? {
             (Bank::R, Some(_)) => pattern(value)?,
             _ => value.to_string(),
@@ -56,12 +61,12 @@ impl Examples {
         let stated = stated(result).ok_or(format!("no result: {line}"))?;
         let case = format!("{}target={}\nexpr={expr}\n", self.cells_of(expr), stated.target);
         for operation in [compile_and_run, through_library] {
-            let given = output(read_input(case.as_bytes()), operation);
+            let given = output(read_input(case.as_bytes()), operation, self.tick);
             if given != stated.output {
                 return Err(format!("{line}\nexpected\n{}got\n{given}", stated.output));
             }
         }
-        if stated.kind.is_some_and(|kind| kind != kind_of(&case)) {
+        if stated.kind.is_some_and(|kind| kind != kind_of(&case, self.tick)) {
             return Err(format!("the other kind of number: {line}"));
         }
         self.number += 1;
@@ -82,16 +87,17 @@ impl Examples {
     }
 }
 
-fn through_library(target: &[u8], expr: &[u8], memory: &mut [u8], code: &mut [u8]) -> Report {
+fn through_library(target: &[u8], expr: &[u8], memory: &mut [u8], code: &mut [u8], tick: u32) -> Report {
     let (mut lent_memory, mut lent_code) = (Lent::new(memory, 0), Lent::new(code, 0));
-    let report = library::compile_and_run(&Lent::new(target, 0), &Lent::new(expr, 0), &mut lent_memory, &mut lent_code);
+    let (target, expr) = (Lent::new(target, 0), Lent::new(expr, 0));
+    let report = library::compile_and_run(&target, &expr, &mut lent_memory, &mut lent_code, tick);
     memory.copy_from_slice(lent_memory.content());
     report
 }
 
-fn kind_of(case: &str) -> u32 {
+fn kind_of(case: &str, tick: u32) -> u32 {
     let mut input = read_input(case.as_bytes());
-    walk(&input.target, &input.expr, &mut input.memory).kind
+    walk(&input.target, &input.expr, &mut input.memory, tick).kind
 }
 
 fn pattern(decimal: &str) -> Option<String> {

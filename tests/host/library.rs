@@ -60,21 +60,24 @@ pub fn check(code: &Lent, instructions: usize) -> Report {
     report
 }
 
-pub fn run(code: &Lent, instructions: usize, memory: &mut Lent, target: &Lent) -> Report {
+pub fn run(code: &Lent, instructions: usize, memory: &mut Lent, target: &Lent, tick: u32) -> Report {
     let mut report = UNWRITTEN;
     let (code, target, memory) = (code.lend(), target.lend(), memory.lend_to_write());
     unsafe {
-        formula_run(code.0, code.1, instructions, memory.0, memory.1, target.0, target.1, &mut report);
+        formula_run(code.0, code.1, instructions, memory.0, memory.1, target.0, target.1, tick, &mut report);
     }
     report
 }
 
-pub fn compile_and_run(target: &Lent, expr: &Lent, memory: &mut Lent, code: &mut Lent) -> Report {
+#[rustfmt::skip]
+pub fn compile_and_run(target: &Lent, expr: &Lent, memory: &mut Lent, code: &mut Lent, tick: u32) -> Report {
     let mut report = UNWRITTEN;
     let (target, expr) = (target.lend(), expr.lend());
     let (memory, code) = (memory.lend_to_write(), code.lend_to_write());
     unsafe {
-        formula_compile_and_run(target.0, target.1, expr.0, expr.1, memory.0, memory.1, code.0, code.1, &mut report);
+        formula_compile_and_run(
+            target.0, target.1, expr.0, expr.1, memory.0, memory.1, code.0, code.1, tick, &mut report,
+        );
     }
     report
 }

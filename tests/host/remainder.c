@@ -145,7 +145,7 @@ static unsigned test_operator(void)
         int fault = (dividends[i] & INFINITE) == INFINITE || (divisors[i] & INFINITE) == INFINITE || (divisors[i] & ~SIGN) == 0;
         memcpy(memory + FORMULA_R, &dividends[i], 4);
         memcpy(memory + FORMULA_R + 4, &divisors[i], 4);
-        formula_run(code, sizeof code, instructions, memory, sizeof memory, (const uint8_t *)"R2", 2, &report);
+        formula_run(code, sizeof code, instructions, memory, sizeof memory, (const uint8_t *)"R2", 2, 0, &report);
         found[i] = fault ? expected[i] : report.bits;
         if (fault != (report.answer != FORMULA_DONE)) {
             printf("R0 %% R1: %08x %% %08x gives answer %u, %s\n", dividends[i], divisors[i], report.answer,

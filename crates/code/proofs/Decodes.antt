@@ -26,11 +26,11 @@ use Rattle.memory.specs.declared.Bank.the-variants.{X}
 use Rattle.memory.specs.Layout.{layoutOf}
 use Rattle.memory.specs.Numbers.{banks, bankNumber}
 use Rattle.code.specs.declared.Instr.{Instr}
-use Rattle.code.specs.declared.Instr.the-variants.{Load, LoadIndexed, Unary, Binary, Unknown}
+use Rattle.code.specs.declared.Instr.the-variants.{Load, LoadIndexed, Unary, Binary, Tick, Since, Unknown}
 use Rattle.code.specs.Instructions.{PUSH-INT, PUSH-REAL, LOAD, LOAD-INDEXED, UNARY, BINARY}
 use Rattle.code.specs.Instructions.{ifZero, finiteOnly, pushInt, pushReal, loadElement, loadIndexed, applyUnary, applyBinary}
 use Rattle.code.specs.Instructions.{Row, rows, page, lookup, instruction, opcodeOf, wordOf, instructionOf}
-use Rattle.code.specs.Encode.{joinWord, codeWord, Encodable, push-int, push-real, load, load-indexed, unary, binary, jump, jump-if}
+use Rattle.code.specs.Encode.{joinWord, codeWord, Encodable, push-int, push-real, load, load-indexed, unary, binary, jump, jump-if, push-tick, since}
 use Rattle.code.proofs.Numbers.{bank-forth, unary-forth, binary-forth}
 
 pub data Decodes (n : ℕ) : Instr → Type 0 where
@@ -92,7 +92,8 @@ page-right =
     (rows-right bankNumber X LOAD-INDEXED loadIndexed (λ b. alone _ (LoadIndexed b) (load-indexed b) refl)
     (rows-right unaryNumber Neg UNARY applyUnary (λ o. alone _ (Unary o) (unary o) refl)
     (rows-right binaryNumber (Arith Add) BINARY applyBinary (λ o. alone _ (Binary o) (binary o) refl)
-    (next integer (next real (next (λ w h. one (jump w h) refl) (next (λ w h. one (jump-if false w h) refl) (next (λ w h. one (jump-if true w h) refl) end)))))
+    (next integer (next real (next (λ w h. one (jump w h) refl) (next (λ w h. one (jump-if false w h) refl) (next (λ w h. one (jump-if true w h) refl)
+    (next (alone _ Tick push-tick refl) (next (alone _ Since since refl) end)))))))
     0 binaryOps (λ n h. binary-forth n h ∙ sym (zero-add n)))
     0 unaryOps (λ n h. unary-forth n h ∙ sym (zero-add n)))
     0 banks (λ n h. bank-forth n h ∙ sym (zero-add n)))

@@ -30,10 +30,10 @@ use Rattle.memory.specs.Numbers.{bankNumber}
 use Rattle.operators.specs.Tables.{unaryNumber, binaryNumber}
 use Rattle.code.specs.declared.Instr.{Instr}
 use Rattle.code.specs.declared.Instr.the-variants.{PushInt, Unknown}
-use Rattle.code.specs.Instructions.{PUSH-INT, PUSH-REAL, JUMP, JUMP-IF-FALSE, JUMP-IF-TRUE, LOAD, LOAD-INDEXED, UNARY, BINARY}
+use Rattle.code.specs.Instructions.{PUSH-INT, PUSH-REAL, JUMP, JUMP-IF-FALSE, JUMP-IF-TRUE, TICK, SINCE, LOAD, LOAD-INDEXED, UNARY, BINARY}
 use Rattle.code.specs.Instructions.{finiteOnly, loadIndexed, instruction, opcodeOf, wordOf, instructionOf, decodeAt}
 use Rattle.code.specs.private.Classes.{ofBank, ofUnary, ofBinary}
-use Rattle.code.specs.Encode.{joinWord, codeWord, encode, Encodable, push-int, push-real, load, load-indexed, unary, binary, jump, jump-if, EncodeLaws}
+use Rattle.code.specs.Encode.{joinWord, codeWord, encode, Encodable, push-int, push-real, load, load-indexed, unary, binary, jump, jump-if, push-tick, since, EncodeLaws}
 use Rattle.code.proofs.Finite.{finite-kept}
 use Rattle.code.proofs.Numbers.{bank-back, unary-back, binary-back, bank-below, unary-below, binary-below}
 use Rattle.code.proofs.Page.{load-class, indexed-class, unary-class, binary-class}
@@ -89,6 +89,8 @@ word-decoded _ (binary o) =
 word-decoded _ (jump d h) = joined-parts JUMP d (lit< tt)
 word-decoded _ (jump-if false d h) = joined-parts JUMP-IF-FALSE d (lit< tt)
 word-decoded _ (jump-if true d h) = joined-parts JUMP-IF-TRUE d (lit< tt)
+word-decoded _ push-tick = joined-parts TICK 0 (lit< tt)
+word-decoded _ since = joined-parts SINCE 0 (lit< tt)
 
 pub word-below : (i : Instr) → Encodable i → codeWord i < 2 ^ 64
 word-below _ (push-int z t) = let low = low-below z in omega arith
@@ -100,6 +102,8 @@ word-below _ (binary o) = let few = binary-below o in omega arith
 word-below _ (jump d h) = omega arith
 word-below _ (jump-if false d h) = omega arith
 word-below _ (jump-if true d h) = omega arith
+word-below _ push-tick = omega arith
+word-below _ since = omega arith
 
 decoded : (i : Instr) → Encodable i → decodeAt (encode i) 0 ≡ i
 decoded i e =

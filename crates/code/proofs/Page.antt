@@ -24,8 +24,8 @@ use Rattle.code.specs.declared.Instr.{Instr}
 use Rattle.code.specs.declared.Instr.the-variants.{Jump, JumpIf, Unknown}
 use Rattle.code.specs.declared.Class.{Class}
 use Rattle.code.specs.declared.Class.the-variants as Class
-use Rattle.code.specs.Instructions.{PUSH-INT, PUSH-REAL, JUMP, JUMP-IF-FALSE, JUMP-IF-TRUE, LOAD, LOAD-INDEXED, UNARY, BINARY}
-use Rattle.code.specs.Instructions.{pushInt, pushReal, loadElement, loadIndexed, applyUnary, applyBinary}
+use Rattle.code.specs.Instructions.{PUSH-INT, PUSH-REAL, JUMP, JUMP-IF-FALSE, JUMP-IF-TRUE, TICK, SINCE, LOAD, LOAD-INDEXED, UNARY, BINARY}
+use Rattle.code.specs.Instructions.{pushInt, pushReal, loadElement, loadIndexed, applyUnary, applyBinary, pushTick, applySince}
 use Rattle.code.specs.Instructions.{Row, rows, unnumbered, lookup, instruction, opcodeOf, wordOf, instructionOf}
 use Rattle.code.specs.private.Classes.{classSize, singleClass, classOf, ofBank, ofUnary, ofBinary, classed, instrIn}
 
@@ -71,7 +71,15 @@ indexedPage = rows LOAD-INDEXED loadIndexed banks ++ unaryPage
 above-singles : (o w : ℕ) → LOAD ≤ o → lookup unnumbered o w ≡ Unknown
 above-singles o w h =
     let other : (n : ℕ) → n < LOAD → eqb o n ≡ false = λ n l. ne-eqb o n (λ e. omega arith) in
-    rw (other PUSH-INT (lit< tt), other PUSH-REAL (lit< tt), other JUMP (lit< tt), other JUMP-IF-FALSE (lit< tt), other JUMP-IF-TRUE (lit< tt))
+    rw (
+      other PUSH-INT (lit< tt),
+      other PUSH-REAL (lit< tt),
+      other JUMP (lit< tt),
+      other JUMP-IF-FALSE (lit< tt),
+      other JUMP-IF-TRUE (lit< tt),
+      other TICK (lit< tt),
+      other SINCE (lit< tt),
+    )
 
 module _ (o w : ℕ) where
   below-load : o < LOAD → instruction o w ≡ lookup unnumbered o w
@@ -144,18 +152,24 @@ module _ (k w : ℕ) (h : k < classSize) where
 -- ---- an opcode by its class
 module _ (o w : ℕ) where
   single-class : o < LOAD → instruction o w ≡ classed (singleClass o) (o % classSize) w
-  single-class h = below-load o w h ∙ by (eqb o PUSH-INT) (eqb o PUSH-REAL) (eqb o JUMP) (eqb o JUMP-IF-FALSE) (eqb o JUMP-IF-TRUE)
+  single-class h =
+      below-load o w h
+      ∙ by (eqb o PUSH-INT) (eqb o PUSH-REAL) (eqb o JUMP) (eqb o JUMP-IF-FALSE) (eqb o JUMP-IF-TRUE) (eqb o TICK) (eqb o SINCE)
     where
-      by : (a b c d e : Bool)
-          → cond a (pushInt w) (cond b (pushReal w) (cond c (Jump w) (cond d (JumpIf false w) (cond e (JumpIf true w) Unknown))))
-          ≡ classed (cond a Class.PushInt (cond b Class.PushReal (cond c Class.Jump (cond d Class.JumpIfFalse (cond e Class.JumpIfTrue Class.Unknown)))))
+      by : (a b c d e f g : Bool)
+          → cond a (pushInt w) (cond b (pushReal w) (cond c (Jump w) (cond d (JumpIf false w) (cond e (JumpIf true w)
+          (cond f (pushTick w) (cond g (applySince w) Unknown))))))
+          ≡ classed (cond a Class.PushInt (cond b Class.PushReal (cond c Class.Jump (cond d Class.JumpIfFalse (cond e Class.JumpIfTrue
+          (cond f Class.Tick (cond g Class.Since Class.Unknown)))))))
           (o % classSize) w
-      by true b c d e = refl
-      by false true c d e = refl
-      by false false true d e = refl
-      by false false false true e = refl
-      by false false false false true = refl
-      by false false false false false = refl
+      by true b c d e f g = refl
+      by false true c d e f g = refl
+      by false false true d e f g = refl
+      by false false false true e f g = refl
+      by false false false false true f g = refl
+      by false false false false false true g = refl
+      by false false false false false false true = refl
+      by false false false false false false false = refl
 
   -- the opcode is the k-th of a class
   in-class : (first : ℕ) (c : Class) → ((k : ℕ) → k < classSize → instruction (first + k) w ≡ classed c k w) → first % classSize ≡ 0

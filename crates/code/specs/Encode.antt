@@ -21,8 +21,8 @@ use Rattle.memory.specs.Layout.{layoutOf}
 use Rattle.memory.specs.Numbers.{bankNumber}
 use Rattle.operators.specs.Tables.{unaryNumber, binaryNumber}
 use Rattle.code.specs.declared.Instr.{Instr}
-use Rattle.code.specs.declared.Instr.the-variants.{PushInt, PushReal, Load, LoadIndexed, Unary, Binary, Jump, JumpIf, Unknown}
-use Rattle.code.specs.Instructions.{PUSH-INT, PUSH-REAL, JUMP, JUMP-IF-FALSE, JUMP-IF-TRUE, LOAD, LOAD-INDEXED, UNARY, BINARY, decodeAt}
+use Rattle.code.specs.declared.Instr.the-variants.{PushInt, PushReal, Load, LoadIndexed, Unary, Binary, Jump, JumpIf, Tick, Since, Unknown}
+use Rattle.code.specs.Instructions.{PUSH-INT, PUSH-REAL, JUMP, JUMP-IF-FALSE, JUMP-IF-TRUE, TICK, SINCE, LOAD, LOAD-INDEXED, UNARY, BINARY, decodeAt}
 
 -- the number of eight bytes, of an opcode and a word
 abbrev pub joinWord : ℕ → ℕ → ℕ
@@ -39,6 +39,8 @@ codeWord (Binary o) = joinWord (BINARY + binaryNumber o) 0
 codeWord (Jump d) = joinWord JUMP d
 codeWord (JumpIf false d) = joinWord JUMP-IF-FALSE d
 codeWord (JumpIf true d) = joinWord JUMP-IF-TRUE d
+codeWord Tick = joinWord TICK 0
+codeWord Since = joinWord SINCE 0
 codeWord Unknown = 0
 
 abbrev pub encode : Instr → List ℕ
@@ -54,6 +56,8 @@ pub data Encodable : Instr → Type 0 where
   binary : (o : BinaryOp) → Encodable (Binary o)
   jump : (d : ℕ) → d < 2 ^ 32 → Encodable (Jump d)
   jump-if : (t : Bool) (d : ℕ) → d < 2 ^ 32 → Encodable (JumpIf t d)
+  push-tick : Encodable Tick
+  since : Encodable Since
 
 pub record EncodeLaws : Type 0 where
   -- decoding undoes encoding

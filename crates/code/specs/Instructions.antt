@@ -16,7 +16,7 @@ use Rattle.memory.specs.declared.Bank.{Bank}
 use Rattle.memory.specs.Layout.{layoutOf}
 use Rattle.memory.specs.Numbers.{banks}
 use Rattle.code.specs.declared.Instr.{Instr}
-use Rattle.code.specs.declared.Instr.the-variants.{PushInt, PushReal, Load, LoadIndexed, Unary, Binary, Jump, JumpIf, Unknown}
+use Rattle.code.specs.declared.Instr.the-variants.{PushInt, PushReal, Load, LoadIndexed, Unary, Binary, Jump, JumpIf, Tick, Since, Unknown}
 
 -- ---- the opcodes
 abbrev pub PUSH-INT : ℕ
@@ -33,6 +33,12 @@ JUMP-IF-FALSE = 4
 
 abbrev pub JUMP-IF-TRUE : ℕ
 JUMP-IF-TRUE = 5
+
+abbrev pub TICK : ℕ
+TICK = 6
+
+abbrev pub SINCE : ℕ
+SINCE = 7
 
 -- the first of a class: the number of the bank or of the operator is added
 abbrev pub LOAD : ℕ
@@ -75,6 +81,12 @@ applyUnary o w = ifZero w (Unary o)
 abbrev pub applyBinary : BinaryOp → ℕ → Instr
 applyBinary o w = ifZero w (Binary o)
 
+abbrev pub pushTick : ℕ → Instr
+pushTick w = ifZero w Tick
+
+abbrev pub applySince : ℕ → Instr
+applySince w = ifZero w Since
+
 -- ---- the page
 pub record Row : Type 0 where
   pub opcode : ℕ
@@ -89,7 +101,9 @@ rows o f [] = []
 rows o f (a ∷ l) = row o (f a) ∷ rows (suc o) f l
 
 abbrev pub unnumbered : List Row
-unnumbered = row PUSH-INT pushInt ∷ row PUSH-REAL pushReal ∷ row JUMP Jump ∷ row JUMP-IF-FALSE (JumpIf false) ∷ row JUMP-IF-TRUE (JumpIf true) ∷ []
+unnumbered =
+    row PUSH-INT pushInt ∷ row PUSH-REAL pushReal ∷ row JUMP Jump ∷ row JUMP-IF-FALSE (JumpIf false) ∷ row JUMP-IF-TRUE (JumpIf true)
+    ∷ row TICK pushTick ∷ row SINCE applySince ∷ []
 
 abbrev pub page : List Row
 page =

@@ -11,6 +11,7 @@ use operators::UnaryOp;
 pub mod encoding;
 
 // A jump's number is how many instructions it skips after itself. JumpIf takes a value, and jumps if its truth is the one given.
+// Tick leaves the tick, and Since takes a value and leaves the tick less it.
 pub enum Instr {
     PushInt(i32),
     PushReal(f32),
@@ -20,6 +21,8 @@ pub enum Instr {
     Binary(BinaryOp),
     Jump(u32),
     JumpIf(bool, u32),
+    Tick,
+    Since,
     Unknown,
 }
 
@@ -33,6 +36,10 @@ pub const JUMP: u32 = 3;
 pub const JUMP_IF_FALSE: u32 = 4;
 
 pub const JUMP_IF_TRUE: u32 = 5;
+
+pub const TICK: u32 = 6;
+
+pub const SINCE: u32 = 7;
 
 // The first of a class: the number of the bank or of the operator is added.
 pub const LOAD: u32 = 32;
@@ -55,6 +62,8 @@ pub enum Class {
     Jump,
     JumpIfFalse,
     JumpIfTrue,
+    Tick,
+    Since,
     Load,
     LoadIndexed,
     Unary,
@@ -97,6 +106,8 @@ fn single(opcode: u32) -> Class
         JUMP => Class::Jump,
         JUMP_IF_FALSE => Class::JumpIfFalse,
         JUMP_IF_TRUE => Class::JumpIfTrue,
+        TICK => Class::Tick,
+        SINCE => Class::Since,
         _ => Class::Unknown,
     }
 }

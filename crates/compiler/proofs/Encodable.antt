@@ -20,11 +20,11 @@ use Rattle.tokens.proofs.Known.{Known}
 use Rattle.tokens.proofs.Known as Known
 use Rattle.code.specs.declared.Instr.{Instr}
 use Rattle.code.specs.declared.Instr.the-variants.{Jump, JumpIf}
-use Rattle.code.specs.Encode.{Encodable, push-int, push-real, load, load-indexed, unary, binary, jump, jump-if}
+use Rattle.code.specs.Encode.{Encodable, push-int, push-real, load, load-indexed, unary, binary, jump, jump-if, push-tick, since}
 use Rattle.grammar.specs.Tree as Tree
-use Rattle.grammar.specs.Tree.{Tree, literal, cell, indexed, logic, choice, treeKind}
-use Rattle.grammar.specs.Symbols.{Callee, of-one, of-two, of-choice, Arguments, argument, callTree}
-use Rattle.grammar.specs.Grammar.{Derives, number, name, index, parenthesis, call, prefixed, up, infixed, last, next, Formula}
+use Rattle.grammar.specs.Tree.{Tree, literal, cell, indexed, logic, choice, tick, treeKind}
+use Rattle.grammar.specs.Symbols.{Callee, of-one, of-two, of-choice, of-since, Arguments, argument, callTree}
+use Rattle.grammar.specs.Grammar.{Derives, number, name, index, parenthesis, call, clocked, prefixed, up, infixed, last, next, Formula}
 use Rattle.tree_code.specs.Code.{pushBool, truthTail, branchTail, branchTailSkip, codeOf}
 use Rattle.compiler.proofs.Each.{Each, none, some, each-append, each-first, each-rest, each-front, each-back}
 use Rattle.compiler.proofs.Scanned.{AllKnown}
@@ -80,6 +80,14 @@ on-indexed : (b : Bank) (t : Tree) → Fits t → Fits (indexed b t)
 unfolding codeOf
 on-indexed b t f = follows (codeOf t) _ f (plain (load-indexed b))
 
+on-tick : Fits tick
+unfolding codeOf
+on-tick = plain push-tick
+
+on-since : (p : ℕ) (t : Tree) → Fits t → Fits (Tree.since p t)
+unfolding codeOf
+on-since p t f = follows (codeOf t) _ f (plain since)
+
 on-unary : (p : ℕ) (o : UnaryOp) (t : Tree) → Fits t → Fits (Tree.unary p o t)
 unfolding codeOf
 on-unary p o t f = follows (codeOf t) _ f (plain (unary o))
@@ -105,6 +113,7 @@ on-call : (c : Callee) (p : ℕ) (ts : Arguments) → ((k : ℕ) → Fits (argum
 on-call (of-one o) p ts f = on-unary p o (argument 0 ts) (f 0)
 on-call (of-two o) p ts f = on-binary p o (argument 0 ts) (argument 1 ts) (f 0) (f 1)
 on-call of-choice p ts f = on-choice p (argument 0 ts) (argument 1 ts) (argument 2 ts) (f 0) (f 1) (f 2)
+on-call of-since p ts f = on-since p (argument 0 ts) (f 0)
 
 on-infix : {p b : ℕ} {t u r : Tree} → Infix p t u b r → Fits t → Fits u → Fits r
 on-infix {p} {t = t} {u = u} (of-values o) = on-binary p o t u
@@ -118,6 +127,7 @@ fits d = elim d as (λ l w t d. AllKnown w → Fits t) (λ m w ts a. AllKnown w 
   | index {b} r {w} {t} (d → f) ↦ λ e. on-indexed b t (f (each-front w _ (each-rest (each-rest e))))
   | parenthesis q {w} (d → f) ↦ λ e. f (each-front w _ (each-rest e))
   | call {c = c} {p} {ts = ts} q (a → g) ↦ λ e. on-call c p ts (g (each-rest (each-rest e)))
+  | clocked r q ↦ λ e. on-tick
   | prefixed {p = p} {o = o} {t = t} q (d → f) ↦ λ e. on-unary p o t (f (each-rest e))
   | up (d → f) ↦ f
   | infixed n p {w} {t = t} {u = u} q (d → f) (d′ → g) ↦ λ e. on-infix (infix-node n p t u) (f (each-front w _ e)) (g (each-rest (each-back w _ e)))

@@ -6,20 +6,21 @@ use native.Mathlib.Omega.{arith}
 use lib.ListN.{length}
 use Rattle.code.specs.Instructions.{instructions}
 use Rattle.grammar.specs.Tree.{Tree}
-use Rattle.text.specs.Judge.{accepted, judge}
+use Rattle.text.specs.Judge.{accepted, judgeFrom}
 use Rattle.text.specs.Theorems.{AcceptedFormula}
-use Rattle.text.proofs.Theorems.{text-theorems}
+use Rattle.text.proofs.Theorems.{text-theorems, text-from}
 use Rattle.tree_code.specs.Code.{codeOf}
 use Rattle.tree_code.specs.Demand.{Compiled}
-use Rattle.compiler.specs.Compile.{codedBytes, CompileTheorems}
+use Rattle.compiler.specs.Compile.{codedBytes, CompileTheoremsFrom, CompileTheorems}
 use Rattle.tree_code.proofs.Demand.{demand}
 use Rattle.compiler.proofs.Scanned.{known-tokens, least}
 use Rattle.compiler.proofs.Encodable.{encodable}
 use Rattle.compiler.proofs.Bytes.{read-back}
 
-module _ (s : List ℕ) (t : Tree) (q : judge s ≡ accepted t) where
+-- what is accepted behind open brackets is a formula of its own
+module _ (d : ℕ) (s : List ℕ) (t : Tree) (q : judgeFrom d s ≡ accepted t) where
   formula : AcceptedFormula s t
-  formula = text-theorems .accepts s t .0 q
+  formula = text-theorems .accepts s t .0 (text-from .fewer d 0 s t (omega arith) q)
 
   pub compiled : Compiled t (length s)
   compiled =
@@ -37,5 +38,8 @@ module _ (s : List ℕ) (t : Tree) (q : judge s ≡ accepted t) where
         let known = known-tokens s (formula .toks) (formula .reads .scanned) in
         read-back code (encodable (formula .formula) known short) (omega (arith, short))
 
+pub compile-theorems-from : (d : ℕ) → CompileTheoremsFrom d
+compile-theorems-from d = record { there = λ s code t q room. there d s t q code room; demand = compiled d }
+
 pub compile-theorems : CompileTheorems
-compile-theorems = record { there = λ s code t q room. there s t q code room; demand = compiled }
+compile-theorems = compile-theorems-from 0

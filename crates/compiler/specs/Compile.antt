@@ -8,7 +8,7 @@ use lib.Dec.{ltb}
 use lib.ListN.{length}
 use lib.Seq.{sets}
 use Rattle.grammar.specs.Tree.{Tree}
-use Rattle.text.specs.Judge.{Judgement, accepted, refused, judge}
+use Rattle.text.specs.Judge.{Judgement, accepted, refused, judgeFrom}
 use Rattle.code.specs.declared.Instr.{Instr}
 use Rattle.code.specs.Encode.{encode}
 use Rattle.code.specs.Instructions.{instructions}
@@ -22,9 +22,13 @@ unfoldable pub encodeAll : List Instr → List ℕ
 encodeAll [] = []
 encodeAll (i ∷ c) = encode i ++ encodeAll c
 
--- the judgement of a text for a buffer of so many bytes
+-- the judgement of a text for a buffer of so many bytes, with d brackets open before the text
+abbrev pub compilingFrom : ℕ → ℕ → List ℕ → Judgement
+compilingFrom d room s = cond (ltb room 16384) (refused 10 0) (judgeFrom d s)
+
+-- the expression that an operation is given
 abbrev pub compiling : ℕ → List ℕ → Judgement
-compiling room s = cond (ltb room 16384) (refused 10 0) (judge s)
+compiling room s = compilingFrom 0 room s
 
 abbrev pub codedAnswer : Judgement → Coded
 codedAnswer (accepted t) = Done (length (codeOf t))
@@ -35,8 +39,12 @@ abbrev pub codedBytes : List ℕ → Judgement → List ℕ
 codedBytes code (accepted t) = sets code 0 (encodeAll (codeOf t))
 codedBytes code (refused a p) = code
 
-pub record CompileTheorems : Type 0 where
+-- with d brackets open before the text
+pub record CompileTheoremsFrom (d : ℕ) : Type 0 where
   -- the instructions in the buffer, in the number returned, are the code of the formula's tree
-  pub there : (s code : List ℕ) (t : Tree) → judge s ≡ accepted t → 16384 ≤ length code → instructions (codedBytes code (accepted t)) (length (codeOf t)) ≡ codeOf t
+  pub there : (s code : List ℕ) (t : Tree) → judgeFrom d s ≡ accepted t → 16384 ≤ length code → instructions (codedBytes code (accepted t)) (length (codeOf t)) ≡ codeOf t
   -- demand 3 of an accepted text
-  pub demand : (s : List ℕ) (t : Tree) → judge s ≡ accepted t → Compiled t (length s)
+  pub demand : (s : List ℕ) (t : Tree) → judgeFrom d s ≡ accepted t → Compiled t (length s)
+
+abbrev pub CompileTheorems : Type 0
+CompileTheorems = CompileTheoremsFrom 0

@@ -5,9 +5,9 @@ ghost use Prim.Native.Nat.{_*_, _<_, _≤_};
 ghost use lib.Dec.{leb};
 ghost use lib.ListN.{length};
 ghost use Rattle.token_table.specs.private.Table.{TokenWords};
-ghost use Rattle.text.specs.Judge.{judge};
+ghost use Rattle.text.specs.Judge.{judge, judgeFrom};
 ghost use Rattle.text.specs.Theorems.{Sized};
-ghost use Rattle.compiler.specs.Compile.{compiling, codedAnswer, codedBytes};
+ghost use Rattle.compiler.specs.Compile.{compiling, compilingFrom, codedAnswer, codedBytes};
 ghost use Rattle.compiler.specs.private.Reading.{Judged};
 use token_table::Filled;
 
@@ -36,21 +36,27 @@ fn is_sized(text: &[u8]) -> bool
     }
 }
 
-// A text of one to 1,024 bytes, read with a table lent for its tokens and a draft for its code.
-fn read(text: &[u8], table: &mut [u64], draft: &mut [u64]) -> Coded
+// A text of one to 1,024 bytes behind so many open brackets, read with a table lent for its tokens and a draft for its code.
+fn read(text: &[u8], opened: u8, table: &mut [u64], draft: &mut [u64]) -> Coded
     requires { ⌜ Sized (now text) × (length (now text) < length (now table)) × (length (now table) ≤ 1025) ⌝ }
     requires { ⌜ TokenWords (now table) ⌝ }
-    ensures { λ r. ⌜ Judged (judge (now (text .entry))) (now (draft .entry)) (now (draft .exit)) r ⌝ }
+    ensures { λ r. ⌜ Judged (judgeFrom opened (now (text .entry))) (now (draft .entry)) (now (draft .exit)) r ⌝ }
 {
     match token_table::fill(text, table) {
-        Filled::Good => reader::formula(table, draft, text.len()),
+        Filled::Good => reader::formula(table, draft, text.len(), opened),
         Filled::Wrong(a, p) => Coded::Refused(a, p),
     }
 }
 
-// The answer alone: nothing is written behind a draft's end, so that of a judgement has no room.
 pub fn judge(text: &[u8]) -> Coded
     ensures { λ r. ⌜ r ≡ codedAnswer (judge (now (text .entry))) ⌝ }
+{
+    judge_from(text, 0)
+}
+
+// The answer alone: nothing is written behind a draft's end, so that of a judgement has no room.
+pub fn judge_from(text: &[u8], opened: u8) -> Coded
+    ensures { λ r. ⌜ r ≡ codedAnswer (judgeFrom opened (now (text .entry))) ⌝ }
 {
     if !is_sized(text) {
         return Coded::Refused(3, 0);
@@ -58,21 +64,27 @@ pub fn judge(text: &[u8]) -> Coded
     let mut draft = [0u64; 0];
     if text.len() < 64 {
         let mut table = [0u64; 64];
-        return read(text, &mut table, &mut draft);
+        return read(text, opened, &mut table, &mut draft);
     }
     let mut table = [0u64; 1025];
-    read(text, &mut table, &mut draft)
+    read(text, opened, &mut table, &mut draft)
 }
 
 // The code of a formula, from a draft with room for two instructions a byte.
-fn compile_in(text: &[u8], table: &mut [u64], draft: &mut [u64], code: &mut [u8]) -> Coded
+fn compile_in(
+    text: &[u8],
+    opened: u8,
+    table: &mut [u64],
+    draft: &mut [u64],
+    code: &mut [u8],
+) -> Coded
     requires { ⌜ Sized (now text) × (length (now text) < length (now table)) × (length (now table) ≤ 1025) ⌝ }
     requires { ⌜ TokenWords (now table) ⌝ }
     requires { ⌜ (2 * length (now text) ≤ length (now draft)) × (16384 ≤ length (now code)) ⌝ }
-    ensures { λ r. ⌜ r ≡ codedAnswer (judge (now (text .entry))) ⌝ }
-    ensures { λ r. ⌜ now (code .exit) ≡ codedBytes (now (code .entry)) (judge (now (text .entry))) ⌝ }
+    ensures { λ r. ⌜ r ≡ codedAnswer (judgeFrom opened (now (text .entry))) ⌝ }
+    ensures { λ r. ⌜ now (code .exit) ≡ codedBytes (now (code .entry)) (judgeFrom opened (now (text .entry))) ⌝ }
 {
-    match read(text, table, draft) {
+    match read(text, opened, table, draft) {
         Coded::Done(n) => {
             copying::copy(draft, n, code);
             Coded::Done(n)
@@ -81,10 +93,17 @@ fn compile_in(text: &[u8], table: &mut [u64], draft: &mut [u64], code: &mut [u8]
     }
 }
 
-// Most formulas are short: small arrays are quicker to clear.
 pub fn compile(text: &[u8], code: &mut [u8]) -> Coded
     ensures { λ r. ⌜ r ≡ codedAnswer (compiling (length (now (code .entry))) (now (text .entry))) ⌝ }
     ensures { λ r. ⌜ now (code .exit) ≡ codedBytes (now (code .entry)) (compiling (length (now (code .entry))) (now (text .entry))) ⌝ }
+{
+    compile_from(text, 0, code)
+}
+
+// Most formulas are short: small arrays are quicker to clear.
+pub fn compile_from(text: &[u8], opened: u8, code: &mut [u8]) -> Coded
+    ensures { λ r. ⌜ r ≡ codedAnswer (compilingFrom opened (length (now (code .entry))) (now (text .entry))) ⌝ }
+    ensures { λ r. ⌜ now (code .exit) ≡ codedBytes (now (code .entry)) (compilingFrom opened (length (now (code .entry))) (now (text .entry))) ⌝ }
 {
     if code.len() < LEAST_CODE {
         return Coded::Refused(10, 0);
@@ -95,14 +114,14 @@ pub fn compile(text: &[u8], code: &mut [u8]) -> Coded
     if text.len() < 64 {
         let mut table = [0u64; 64];
         let mut draft = [0u64; 128];
-        return compile_in(text, &mut table, &mut draft, code);
+        return compile_in(text, opened, &mut table, &mut draft, code);
     }
     if text.len() < 256 {
         let mut table = [0u64; 256];
         let mut draft = [0u64; 512];
-        return compile_in(text, &mut table, &mut draft, code);
+        return compile_in(text, opened, &mut table, &mut draft, code);
     }
     let mut table = [0u64; 1025];
     let mut draft = [0u64; 2048];
-    compile_in(text, &mut table, &mut draft, code)
+    compile_in(text, opened, &mut table, &mut draft, code)
 }

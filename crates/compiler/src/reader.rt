@@ -4,22 +4,24 @@
 ghost use mathlib.Core.Path.{_≡_};
 ghost use mathlib.Core.Bool.{true};
 ghost use mathlib.Core.List.{List};
-ghost use Prim.Native.Nat.{ℕ, _+_, _<_};
+ghost use Prim.Native.Nat.{ℕ, _+_, _-_, _<_};
 ghost use lib.ListN.{length};
-ghost use Rattle.token_table.specs.private.Table.{listed};
-ghost use Rattle.grammar.specs.Symbols.{loosest};
-ghost use Rattle.grammar.specs.Parse.{enter, expression, operand, bracket, parse};
+ghost use Rattle.tokens.specs.Words.{functionAt};
+ghost use Rattle.token_table.specs.private.Table.{wordOperand, wordPlace, listed};
+ghost use Rattle.grammar.specs.Tree.{tick};
+ghost use Rattle.grammar.specs.Symbols.{loosest, closeParen};
+ghost use Rattle.grammar.specs.Parse.{ok, expect, mostOpen, enter, expression, operand, bracket, parseFrom};
 ghost use Rattle.text.specs.Judge.{judgeParse};
 ghost use Rattle.draft.specs.private.Results.{isDone, readNext, readEnd, readOf};
-ghost use Rattle.draft.specs.private.Words.{functionAt, Signs};
+ghost use Rattle.draft.specs.private.Words.{Signs};
 ghost use Rattle.draft.specs.private.Draft.{Unaries};
-ghost use Rattle.compiler.specs.private.Reading.{Fits, ReaderAgrees, primaryOf, thenSymbol, callOf, Branches, Judged};
+ghost use Rattle.compiler.specs.private.Reading.{Fits, ReaderAgrees, primaryOf, thenSymbol, callOf, Arguing, Branches, Judged};
 use crate::Coded;
 use draft::ahead;
 use draft::diagnostics;
 use draft::diagnostics::CLEAR;
 use draft::results;
-use operators::functions;
+use grammar::functions;
 use token_table::classes;
 use tokens::symbols;
 
@@ -42,6 +44,17 @@ fn signed(table: &[u64], draft: &mut [u64], at: usize, first: usize, inner: u64)
         read = draft::prefixed(draft, token_table::word_at(table, i), read);
     }
     read
+}
+
+// The parenthesis behind no arguments: the tick.
+fn clock(table: &[u64], draft: &mut [u64], at: usize, pc: usize) -> u64
+    requires { ⌜ Fits (now table) at pc ⌝ }
+    ensures { λ r. ⌜ ReaderAgrees (λ n ts. expect closeParen ts (λ q. ok tick q)) 4 (now (table .entry)) at pc (now (draft .entry)) (now (draft .exit)) (readOf r) ⌝ }
+{
+    if ahead::expected(table, at, symbols::CLOSE) {
+        return draft::ticked(draft, at + 1, pc);
+    }
+    results::bad(at)
 }
 
 // expression: operand { infix expression of a tighter group }
@@ -106,7 +119,7 @@ fn primary(table: &[u64], draft: &mut [u64], at: usize, pc: usize, room: u8) -> 
             }
             draft::loaded(draft, n, index)
         }
-        classes::NAME => arguments(table, draft, at + 1, pc, room, n),
+        classes::NAME => call(table, draft, at + 1, pc, room, w),
         classes::SYMBOL => bracket(table, draft, at, pc, room, symbols::OPEN, symbols::CLOSE),
         _ => draft::leaf(draft, w, at, pc),
     }
@@ -150,11 +163,10 @@ fn bracket(
     enclosed(table, draft, at + 1, pc, room - 1, closer)
 }
 
-// arguments: ( expression { , expression } ), and what the function f makes of them.
-fn arguments(table: &[u64], draft: &mut [u64], at: usize, pc: usize, room: u8, f: u8) -> u64
+// call: ( arguments ), of the function whose word is w
+fn call(table: &[u64], draft: &mut [u64], at: usize, pc: usize, room: u8, w: u64) -> u64
     requires { ⌜ Fits (now table) at pc ⌝ }
-    requires { ⌜ f < 9 ⌝ }
-    ensures { λ r. ⌜ ((p : ℕ) → ReaderAgrees (λ n ts. callOf (functionAt f) p room n ts) 0 (now (table .entry)) at pc (now (draft .entry)) (now (draft .exit)) (readOf r)) ⌝ }
+    ensures { λ r. ⌜ ReaderAgrees (λ n ts. callOf (functionAt (wordOperand w)) (wordPlace w) room n ts) 0 (now (table .entry)) at pc (now (draft .entry)) (now (draft .exit)) (readOf r) ⌝ }
 {
     if !ahead::expected(table, at, symbols::OPEN) {
         return results::bad(at);
@@ -162,28 +174,53 @@ fn arguments(table: &[u64], draft: &mut [u64], at: usize, pc: usize, room: u8, f
     if room == 0 {
         return results::deep(at);
     }
-    let arity = functions::arity(f);
-    if arity == 1 {
-        let only = enclosed(table, draft, at + 1, pc, room - 1, symbols::CLOSE);
-        if !results::is_done(only) {
-            return only;
+    arguments(table, draft, at, pc, room - 1, w)
+}
+
+// arguments: [ expression { , expression } ] ), behind the parenthesis at `opener`, and what the function makes of them
+fn arguments(table: &[u64], draft: &mut [u64], opener: usize, pc: usize, room: u8, w: u64) -> u64
+    requires { ⌜ Fits (now table) opener pc × (opener < length (now table)) ⌝ }
+    ensures { λ r. ⌜ Arguing w room (now (table .entry)) opener pc (now (draft .entry)) (now (draft .exit)) (readOf r) ⌝ }
+{
+    let f = token_table::operand_of(w);
+    let at = opener + 1;
+    match functions::form(f) {
+        functions::OF_ONE => {
+            let only = enclosed(table, draft, at, pc, room, symbols::CLOSE);
+            if !results::is_done(only) {
+                return only;
+            }
+            draft::applied(draft, f, only)
         }
-        return draft::applied(draft, f, only);
-    }
-    let first = enclosed(table, draft, at + 1, pc, room - 1, symbols::COMMA);
-    if !results::is_done(first) {
-        return first;
-    }
-    if arity == 2 {
-        let next = results::next_of(first);
-        let end = results::end_of(first);
-        let last = enclosed(table, draft, next, end, room - 1, symbols::CLOSE);
-        if !results::is_done(last) {
-            return last;
+        functions::OF_TWO => {
+            let first = enclosed(table, draft, at, pc, room, symbols::COMMA);
+            if !results::is_done(first) {
+                return first;
+            }
+            let next = results::next_of(first);
+            let end = results::end_of(first);
+            let last = enclosed(table, draft, next, end, room, symbols::CLOSE);
+            if !results::is_done(last) {
+                return last;
+            }
+            draft::paired(draft, f, first, last)
         }
-        return draft::paired(draft, f, first, last);
+        functions::OF_SINCE => {
+            let only = enclosed(table, draft, at, pc, room, symbols::CLOSE);
+            if !results::is_done(only) {
+                return only;
+            }
+            draft::since(draft, w, only)
+        }
+        functions::CLOCK => clock(table, draft, at, pc),
+        _ => {
+            let condition = enclosed(table, draft, at, pc, room, symbols::COMMA);
+            if !results::is_done(condition) {
+                return condition;
+            }
+            branches(table, draft, condition, room)
+        }
     }
-    branches(table, draft, first, room - 1)
 }
 
 // The branches of IF behind its condition: only one of them runs.
@@ -207,12 +244,23 @@ fn branches(table: &[u64], draft: &mut [u64], condition: u64, room: u8) -> u64
     draft::chosen(draft, condition, first, second)
 }
 
-// The whole table, of a text of `size` bytes: an expression, and nothing after it.
-pub fn formula(table: &[u64], draft: &mut [u64], size: usize) -> Coded
-    requires { ⌜ Fits (now table) 0 0 ⌝ }
-    ensures { λ r. ⌜ ((s : List ℕ) → length s ≡ size → Judged (judgeParse s (parse (listed (now (table .entry))))) (now (draft .entry)) (now (draft .exit)) r) ⌝ }
+// How many brackets may be opened behind so many that are open.
+fn room_behind(opened: u8) -> u8
+    ensures { λ r. ⌜ r ≡ mostOpen - opened ⌝ }
 {
-    let whole = expression(table, draft, 0, 0, MOST_OPEN, LOOSEST);
+    if opened < MOST_OPEN {
+        MOST_OPEN - opened
+    } else {
+        0
+    }
+}
+
+// The whole table, of a text of `size` bytes behind so many open brackets: an expression, and nothing after it.
+pub fn formula(table: &[u64], draft: &mut [u64], size: usize, opened: u8) -> Coded
+    requires { ⌜ Fits (now table) 0 0 ⌝ }
+    ensures { λ r. ⌜ ((s : List ℕ) → length s ≡ size → Judged (judgeParse s (parseFrom opened (listed (now (table .entry))))) (now (draft .entry)) (now (draft .exit)) r) ⌝ }
+{
+    let whole = expression(table, draft, 0, 0, room_behind(opened), LOOSEST);
     let at = results::next_of(whole);
     if !results::is_done(whole) {
         return Coded::Refused(results::refusal_of(whole), ahead::place_at(table, at, size));

@@ -19,11 +19,13 @@ use Rattle.operators.specs.declared.UnaryOp.the-variants as U
 use Rattle.operators.specs.declared.BinaryOp.{BinaryOp}
 use Rattle.operators.specs.declared.BinaryOp.the-variants as B
 use Rattle.operators.specs.Tables.{binaryOps, unaryNumber, binaryNumber, unaryOf, binaryOf}
-use Rattle.operators.specs.Kinds.{join, numberKind, kindNumber, unaryKind, unaryTakes, binaryKind, binaryTakes, unaryTyped, binaryTyped}
-use Rattle.operators.specs.Functions.{Call, unary, binary, branch, none, callOf, callArity, callOperator, functionArity, functionOperator}
+use Rattle.operators.specs.Kinds.{isInt, join, numberKind, kindNumber, typed, unaryKind, unaryTakes, binaryKind, binaryTakes, unaryTyped, binaryTyped}
 use Rattle.operators.proofs.Typed.{kind-small, typed-taken, typed-kind}
 use Rattle.memory.specs.Cells.{bankKind}
 use Rattle.memory.specs.Numbers.{bankNumbered, bankTyped}
+use Rattle.tokens.specs.Words.{functionAt}
+use Rattle.grammar.specs.Symbols.{Form, plain, clock, of-one, of-two, of-choice, of-since, formOf}
+use Rattle.grammar.specs.Functions.{formNumber, operatorNumber, functionForm, functionOperator}
 use Rattle.draft.specs.private.Words.{unaryAt, binaryAt, bankAt}
 
 pub number-kind : (k : Kind) → numberKind (kindNumber k) ≡ k
@@ -41,6 +43,9 @@ pub unary-typed : (n : ℕ) → n < 8 → {m r : ℕ} {j k : Kind} → m ≡ n �
 unary-typed n h {k = k} e d q =
     let o = unaryAt n in
     rw (q, e, d, lt-ltb n 8 h) (typed-taken (unaryTakes o k) (unaryKind o k), typed-kind (unaryTakes o k) (unaryKind o k))
+
+pub integer-typed : {r : ℕ} {j k : Kind} → j ≡ k → r ≡ typed (isInt j) Int → ltb r 2 ≡ isInt k
+integer-typed {k = k} d q = rw (q, d) (typed-taken (isInt k) Int)
 
 same-default : {A : Type 0} (l : List A) (d e : A) (n : ℕ) → n < length l → getD l n d ≡ getD l n e
 same-default [] d e n h = absurd (not-suc-le-zero h)
@@ -65,20 +70,22 @@ binary-below (B.Compare o) = elim o [ Lt ↦ lit< tt | Gt ↦ lit< tt | Le ↦ l
 binary-below (B.Bits o) = elim o [ And ↦ lit< tt | Or ↦ lit< tt | Xor ↦ lit< tt ]
 binary-below (B.Choice o) = elim o [ Max ↦ lit< tt | Min ↦ lit< tt ]
 
-one-operator : (c : Call) → callArity c ≡ 1 → callOperator c < 8
-one-operator (unary o) e = unary-below o
-one-operator (binary o) e = absurd (omega arith)
-one-operator branch e = absurd (omega arith)
-one-operator none e = absurd (omega arith)
+one-operator : (x : Form) → formNumber x ≡ 1 → operatorNumber x < 8
+one-operator (plain (of-one o)) e = unary-below o
+one-operator (plain (of-two o)) e = absurd (omega arith)
+one-operator (plain of-choice) e = absurd (omega arith)
+one-operator (plain of-since) e = absurd (omega arith)
+one-operator clock e = absurd (omega arith)
 
-two-operator : (c : Call) → callArity c ≡ 2 → callOperator c < 20
-two-operator (unary o) e = absurd (omega arith)
-two-operator (binary o) e = binary-below o
-two-operator branch e = absurd (omega arith)
-two-operator none e = absurd (omega arith)
+two-operator : (x : Form) → formNumber x ≡ 2 → operatorNumber x < 20
+two-operator (plain (of-one o)) e = absurd (omega arith)
+two-operator (plain (of-two o)) e = binary-below o
+two-operator (plain of-choice) e = absurd (omega arith)
+two-operator (plain of-since) e = absurd (omega arith)
+two-operator clock e = absurd (omega arith)
 
-pub unary-function : (f : ℕ) → functionArity f ≡ 1 → functionOperator f < 8
-unary-function f e = one-operator (callOf f) e
+pub unary-function : (f : ℕ) → functionForm f ≡ 1 → functionOperator f < 8
+unary-function f e = one-operator (formOf (functionAt f)) e
 
-pub binary-function : (f : ℕ) → functionArity f ≡ 2 → functionOperator f < 20
-binary-function f e = two-operator (callOf f) e
+pub binary-function : (f : ℕ) → functionForm f ≡ 2 → functionOperator f < 20
+binary-function f e = two-operator (formOf (functionAt f)) e

@@ -4,12 +4,13 @@ ghost use mathlib.Core.Bool.{false};
 ghost use Prim.Native.Nat.{_+_, _-_, _<_, _≤_};
 ghost use lib.Dec.{eqb};
 ghost use lib.ListN.{length, set};
-ghost use Rattle.operators.specs.Kinds.{join, numberKind, unaryKind, unaryTakes, binaryKind};
-ghost use Rattle.operators.specs.Functions.{functionArity};
+ghost use Rattle.values.specs.declared.Kind.the-variants.{Int};
+ghost use Rattle.operators.specs.Kinds.{isInt, join, numberKind, unaryKind, unaryTakes, binaryKind};
 ghost use Rattle.memory.specs.Cells.{bankKind};
 ghost use Rattle.token_table.specs.private.Table.{wordClass, wordOperand, wordNumber, wordPlace};
+ghost use Rattle.grammar.specs.Functions.{functionForm};
 ghost use Rattle.grammar.specs.Tree.{clear, earlier, unless, wrongKindAt};
-ghost use Rattle.code.specs.declared.Instr.the-variants.{LoadIndexed, Unary, Binary, JumpIf};
+ghost use Rattle.code.specs.declared.Instr.the-variants.{LoadIndexed, Unary, Binary, JumpIf, Tick, Since};
 ghost use Rattle.code.specs.Encode.{joinWord};
 ghost use Rattle.tree_code.specs.Code.{branchTail, branchTailSkip};
 ghost use Rattle.draft.specs.private.Results.{Done, diagnosed, readNext, readEnd, readKind, readWrong, readOf};
@@ -20,10 +21,12 @@ use code::JUMP;
 use code::JUMP_IF_FALSE;
 use code::LOAD_INDEXED;
 use code::PUSH_INT;
+use code::SINCE;
+use code::TICK;
 use code::UNARY;
 use diagnostics::CLEAR;
+use grammar::functions;
 use memory::numbers;
-use operators::functions;
 use operators::kinds;
 use operators::kinds::NOT_TAKEN;
 use operators::tables;
@@ -79,6 +82,16 @@ pub fn loaded(draft: &mut [u64], bank: u8, index: u64) -> u64
     )
 }
 
+// The tick, of a call that ends before the token `next`.
+pub fn ticked(draft: &mut [u64], next: usize, pc: usize) -> u64
+    requires { ⌜ (next < 65536) × (pc < 65535) ⌝ }
+    ensures { λ r. ⌜ readOf r ≡ Done next (pc + 1) Int clear ⌝ }
+    ensures { λ r. ⌜ now (draft .exit) ≡ putInstr (now (draft .entry)) pc Tick ⌝ }
+{
+    put(draft, pc, TICK, 0);
+    results::done(next, pc + 1, kinds::INT, CLEAR)
+}
+
 // A unary operator before an operand. Most are a minus, which takes either kind and keeps it.
 pub fn prefixed(draft: &mut [u64], w: u64, inner: u64) -> u64
     requires { ⌜ (prefixNumber w < 3) × (readEnd inner < 65535) ⌝ }
@@ -104,7 +117,7 @@ pub fn prefixed(draft: &mut [u64], w: u64, inner: u64) -> u64
 
 // A function of one argument.
 pub fn applied(draft: &mut [u64], f: u8, first: u64) -> u64
-    requires { ⌜ (functionArity f ≡ 1) × (readEnd first < 65535) ⌝ }
+    requires { ⌜ (functionForm f ≡ 1) × (readEnd first < 65535) ⌝ }
     ensures { λ r. ⌜ readOf r ≡ Done (readNext first) (readEnd first + 1) (unaryKind (functionOp f) (readKind first)) (readWrong first) ⌝ }
     ensures { λ r. ⌜ now (draft .exit) ≡ putInstr (now (draft .entry)) (readEnd first) (Unary (functionOp f)) ⌝ }
 {
@@ -119,9 +132,21 @@ pub fn applied(draft: &mut [u64], f: u8, first: u64) -> u64
     )
 }
 
+// SINCE, whose word is w, of its argument.
+pub fn since(draft: &mut [u64], w: u64, first: u64) -> u64
+    requires { ⌜ readEnd first < 65535 ⌝ }
+    ensures { λ r. ⌜ readOf r ≡ Done (readNext first) (readEnd first + 1) Int (earlier (unless (isInt (readKind first)) (wrongKindAt (wordPlace w))) (readWrong first)) ⌝ }
+    ensures { λ r. ⌜ now (draft .exit) ≡ putInstr (now (draft .entry)) (readEnd first) Since ⌝ }
+{
+    let kind = kinds::of_integer(results::kind_of(first));
+    let here = diagnostics::wrong_at(kind < NOT_TAKEN, w);
+    let wrong = diagnostics::earlier(here, results::wrong_of(first));
+    added(draft, first, SINCE, kinds::INT, wrong)
+}
+
 // A function of two arguments.
 pub fn paired(draft: &mut [u64], f: u8, first: u64, second: u64) -> u64
-    requires { ⌜ (functionArity f ≡ 2) × (readEnd second < 65535) ⌝ }
+    requires { ⌜ (functionForm f ≡ 2) × (readEnd second < 65535) ⌝ }
     ensures { λ r. ⌜ readOf r ≡ Done (readNext second) (readEnd second + 1) (binaryKind (functionPair f) (readKind first) (readKind second)) (earlier (readWrong first) (readWrong second)) ⌝ }
     ensures { λ r. ⌜ now (draft .exit) ≡ putInstr (now (draft .entry)) (readEnd second) (Binary (functionPair f)) ⌝ }
 {

@@ -68,12 +68,13 @@ pub extern "C" fn formula_run(
     instructions: usize,
     memory: &mut [u8],
     target: &[u8],
+    tick: u32,
     report: &mut [u32; 5],
 )
-    ensures { λ _. ⌜ now (report .exit) ≡ reportWords (runAnswer (now (code .entry)) instructions (now (target .entry)) (now (memory .entry))) ⌝ }
-    ensures { λ _. ⌜ now (memory .exit) ≡ runMemory (now (code .entry)) instructions (now (target .entry)) (now (memory .entry)) ⌝ }
+    ensures { λ _. ⌜ now (report .exit) ≡ reportWords (runAnswer tick (now (code .entry)) instructions (now (target .entry)) (now (memory .entry))) ⌝ }
+    ensures { λ _. ⌜ now (memory .exit) ≡ runMemory tick (now (code .entry)) instructions (now (target .entry)) (now (memory .entry)) ⌝ }
 {
-    let answer = operations::run(code, instructions, memory, target);
+    let answer = operations::run(code, instructions, memory, target, tick);
     fill_report(answer, report);
 }
 
@@ -83,13 +84,14 @@ pub extern "C" fn formula_compile_and_run(
     expr: &[u8],
     memory: &mut [u8],
     code: &mut [u8],
+    tick: u32,
     report: &mut [u32; 5],
 )
-    ensures { λ _. ⌜ now (report .exit) ≡ reportWords (requestAnswer (now (memory .entry)) (request (now (target .entry)) (now (expr .entry)) (now (memory .entry)) (now (code .entry)))) ⌝ }
-    ensures { λ _. ⌜ now (memory .exit) ≡ requestMemory (now (memory .entry)) (request (now (target .entry)) (now (expr .entry)) (now (memory .entry)) (now (code .entry))) ⌝ }
+    ensures { λ _. ⌜ now (report .exit) ≡ reportWords (requestAnswer tick (now (memory .entry)) (request (now (target .entry)) (now (expr .entry)) (now (memory .entry)) (now (code .entry)))) ⌝ }
+    ensures { λ _. ⌜ now (memory .exit) ≡ requestMemory tick (now (memory .entry)) (request (now (target .entry)) (now (expr .entry)) (now (memory .entry)) (now (code .entry))) ⌝ }
     ensures { λ _. ⌜ now (code .exit) ≡ requestCode (now (code .entry)) (request (now (target .entry)) (now (expr .entry)) (now (memory .entry)) (now (code .entry))) ⌝ }
 {
-    let answer = operations::compile_and_run(target, expr, memory, code);
+    let answer = operations::compile_and_run(target, expr, memory, code, tick);
     fill_report(answer, report);
 }
 

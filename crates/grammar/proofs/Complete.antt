@@ -10,9 +10,9 @@ use Rattle.memory.specs.declared.Bank.{Bank}
 use Rattle.tokens.specs.declared.Function.{Function}
 use Rattle.tokens.specs.declared.Token.the-variants.{Number, Cell, Letter, Name, Symbol}
 use Rattle.tokens.specs.Scan.{Tok}
-use Rattle.grammar.specs.Tree.{Tree, literal, cell, indexed, unary}
-use Rattle.grammar.specs.Symbols.{groupNumber, loosest, openParen, closeParen, openIndex, closeIndex, comma, prefixOf, prefixSymbol, is, none, infixTree, Callee, plain, formOf, moreArguments, Arguments, one, more, callTree}
-use Rattle.grammar.specs.Grammar.{tok, Derives, number, name, index, parenthesis, call, prefixed, up, infixed, last, next}
+use Rattle.grammar.specs.Tree.{Tree, literal, cell, indexed, unary, tick}
+use Rattle.grammar.specs.Symbols.{groupNumber, loosest, openParen, closeParen, openIndex, closeIndex, comma, prefixOf, prefixSymbol, is, none, infixTree, Callee, plain, clock, formOf, moreArguments, Arguments, one, more, callTree}
+use Rattle.grammar.specs.Grammar.{tok, Derives, number, name, index, parenthesis, call, clocked, prefixed, up, infixed, last, next}
 use Rattle.grammar.specs.Parse.{Result, ok, expect, expression, climb, operand, primary, bracket, arguments}
 use Rattle.grammar.proofs.Tests.{Follow, at-end, before, follow-less, binds-yes, binds-no}
 
@@ -107,6 +107,10 @@ unfolding primary
 r-call h c p q w ts e g =
     r-primary (tok (Name h) p) (tok (Symbol openParen) q ∷ w) (callTree c p ts) refl (λ d rest n f le. rw (e, g d rest (omega arith) f (omega arith)))
 
+r-clocked : (h : Function) (p q r : ℕ) → formOf h ≡ clock → Reads 0 (tok (Name h) p ∷ tok (Symbol openParen) q ∷ tok (Symbol closeParen) r ∷ []) tick
+unfolding primary
+r-clocked h p q r e = r-primary (tok (Name h) p) (tok (Symbol openParen) q ∷ tok (Symbol closeParen) r ∷ []) tick refl (λ d rest n f le. rw e)
+
 r-last : (q : ℕ) (w : List Tok) (t : Tree) → Reads loosest w t → ReadsAll 0 (w ++ tok (Symbol closeParen) q ∷ []) (one t)
 unfolding arguments groupNumber
 r-last q w t g d rest n zero c = absurd (omega arith)
@@ -130,6 +134,7 @@ complete a = elim a as (λ m w t a. Reads m w t) (λ m w ts a. ReadsAll m w ts) 
   | index {b} {p} {q} r {w} {t} (a → h) ↦ r-index b p q r w t h
   | parenthesis {p} q {w} {t} (a → h) ↦ r-parenthesis p q w t h
   | call {f} {c} {p} {q} {w} {ts} e (a → h) ↦ r-call f c p q w ts e h
+  | clocked {f} {p} {q} r e ↦ r-clocked f p q r e
   | prefixed {n} {p} {o} {w} {t} e (a → h) ↦ r-prefixed n p o w t e h
   | up {l} {w} {t} (a → h) ↦ r-up l w t h
   | infixed {l} n p {w} {v} {t} {u} e (a → h) (b → h′) ↦ r-infixed l n p w v t u e h h′

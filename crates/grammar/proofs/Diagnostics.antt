@@ -5,9 +5,9 @@ use Prim.Native.Nat.{ℕ, _/_, _%_, _≤_, min}
 use native.Mathlib.Omega.{arith}
 use lib.Dec.{eqb, ltb, leb}
 use borrow.Author.Tests.{ltb-true, ltb-false, eqb-true, eqb-false, leb-true, leb-false}
-use Rattle.operators.specs.Kinds.{unaryTakes, binaryTakes}
+use Rattle.operators.specs.Kinds.{isInt, unaryTakes, binaryTakes}
 use Rattle.tokens.proofs.Tests.{choose}
-use Rattle.grammar.specs.Tree.{Tree, literal, cell, indexed, unary, binary, logic, choice, treeKind, Diagnostic, clear, at, precedes, earlier, unless, wrongKindAt, diagnosticOf}
+use Rattle.grammar.specs.Tree.{Tree, literal, cell, indexed, unary, binary, logic, choice, tick, since, treeKind, Diagnostic, clear, at, precedes, earlier, unless, wrongKindAt, diagnosticOf}
 
 abbrev pub numbered : ℕ → Diagnostic
 numbered n = at (n / 16) (n % 16)
@@ -61,6 +61,8 @@ nines (unary p o t) = nine-earlier (nine-unless (unaryTakes o (treeKind t)) p) (
 nines (binary p o t u) = nine-earlier (nine-unless (binaryTakes o (treeKind t) (treeKind u)) p) (nine-earlier (nines t) (nines u))
 nines (logic p d t u) = nine-earlier (nines t) (nines u)
 nines (choice p c t u) = nine-earlier (nines c) (nine-earlier (nines t) (nines u))
+nines tick = no-answer
+nines (since p t) = nine-earlier (nine-unless (isInt (treeKind t)) p) (nines t)
 
 pub shown-nine : (t : Tree) {p a : ℕ} → diagnosticOf t ≡ at p a → a ≡ 9
 shown-nine t {p} {a} e = go (subst Nine e (nines t))

@@ -10,7 +10,7 @@ use Rattle.tokens.specs.declared.Token.{Token}
 use Rattle.tokens.specs.declared.Token.the-variants.{Number, Cell, Letter, Name, Symbol}
 use Rattle.tokens.specs.Scan.{Tok}
 use Rattle.grammar.specs.Tree.{Tree}
-use Rattle.grammar.specs.Symbols.{group, isSymbol, loosest, openParen, closeParen, openIndex, closeIndex, comma, Prefix, prefixOf, is, none, Form, plain, formOf, moreArguments, Arguments}
+use Rattle.grammar.specs.Symbols.{group, isSymbol, loosest, openParen, closeParen, openIndex, closeIndex, comma, Prefix, prefixOf, is, none, Form, plain, clock, formOf, moreArguments, Arguments}
 use Rattle.grammar.specs.Grammar.{tok}
 use Rattle.grammar.specs.Parse.{Result, ok, bad, deep, starved, andThen, expect, enter, binds, callBody, expression, climb, operand, primary, bracket, arguments}
 
@@ -55,6 +55,7 @@ module _ {X : Type 0} where
 fed-call : {n : ℕ} (o : Form) (p : ℕ) (ts : List Tok) (read : ℕ → List Tok → Result Arguments) → length ts ≤ n → ((m : ℕ) → Fed n (read m ts))
     → Fed n (callBody o p read ts)
 fed-call (plain c) p ts read le h = fed-bind _ (h (moreArguments c)) (λ us r lt. left r lt)
+fed-call clock p ts read le h = fed-expect closeParen ts _ (λ ys lt. left ys (omega arith))
 
 mutual
   unfolding expression

@@ -8,7 +8,7 @@ use Rattle.tokens.specs.declared.Token.{Token}
 use Rattle.tokens.specs.declared.Token.the-variants.{Number, Cell, Letter, Name, Symbol}
 use Rattle.tokens.specs.Scan.{Tok}
 use Rattle.grammar.specs.Tree.{Tree}
-use Rattle.grammar.specs.Symbols.{group, isSymbol, loosest, openParen, closeParen, openIndex, closeIndex, comma, Prefix, prefixOf, is, none, Form, plain, formOf, moreArguments, Arguments}
+use Rattle.grammar.specs.Symbols.{group, isSymbol, loosest, openParen, closeParen, openIndex, closeIndex, comma, Prefix, prefixOf, is, none, Form, plain, clock, formOf, moreArguments, Arguments}
 use Rattle.grammar.specs.Grammar.{tok}
 use Rattle.grammar.specs.Parse.{Result, ok, bad, deep, starved, andThen, expect, enter, binds, callBody, expression, climb, operand, primary, bracket, arguments}
 
@@ -63,6 +63,7 @@ module _ {S : Type 0} where
   keep-call : (o : Form) (p : ℕ) (ts : List Tok) (read read′ : ℕ → List Tok → Result Arguments)
       → ((m : ℕ) → Keeps S (read m ts) (read′ m ts)) → Keeps S (callBody o p read ts) (callBody o p read′ ts)
   keep-call (plain c) p ts read read′ h = keep-bind _ (h (moreArguments c)) (λ us r. same)
+  keep-call clock p ts read read′ h = keep-expect closeParen ts (λ ys. same)
 
   mutual
     unfolding expression

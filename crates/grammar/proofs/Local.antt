@@ -8,8 +8,8 @@ use Rattle.operators.specs.declared.UnaryOp.{UnaryOp}
 use Rattle.tokens.specs.declared.Token.{Token}
 use Rattle.tokens.specs.declared.Token.the-variants.{Number, Cell, Letter, Name, Symbol}
 use Rattle.tokens.specs.Scan.{Tok}
-use Rattle.grammar.specs.Tree.{Tree, literal, cell, indexed, unary}
-use Rattle.grammar.specs.Symbols.{group, isSymbol, loosest, openParen, closeParen, openIndex, closeIndex, comma, Prefix, prefixOf, is, none, Form, plain, formOf, moreArguments, Arguments, one, more, callTree}
+use Rattle.grammar.specs.Tree.{Tree, literal, cell, indexed, unary, tick}
+use Rattle.grammar.specs.Symbols.{group, isSymbol, loosest, openParen, closeParen, openIndex, closeIndex, comma, Prefix, prefixOf, is, none, Form, plain, clock, formOf, moreArguments, Arguments, one, more, callTree}
 use Rattle.grammar.specs.Grammar.{tok}
 use Rattle.grammar.specs.Parse.{Result, ok, bad, deep, starved, andThen, expect, enter, binds, callBody, expression, climb, operand, primary, bracket, arguments}
 use Rattle.grammar.proofs.Levels.{joinedTree}
@@ -116,6 +116,7 @@ local-bind k at-none h = at-none
 local-call : (o : Form) (p : ℕ) (read : ℕ → List Tok → Result Arguments) (ts : List Tok) → ((m : ℕ) → Local (λ ts. read m ts) ts (read m ts))
     → Local (λ ts. callBody o p read ts) ts (callBody o p read ts)
 local-call (plain c) p read ts h = local-bind (λ us r. ok (callTree c p us) r) (h (moreArguments c)) (λ us r. kept _ r)
+local-call clock p read ts h = local-expect closeParen (λ r. ok tick r) ts (λ ys. kept tick ys)
 
 mutual
   unfolding expression

@@ -12,13 +12,13 @@ use Rattle.tokens.specs.declared.Function.{Function}
 use Rattle.tokens.specs.declared.Token.{Token}
 use Rattle.tokens.specs.declared.Token.the-variants.{Number, Cell, Letter, Name, Symbol}
 use Rattle.tokens.specs.Scan.{Tok}
-use Rattle.grammar.specs.Tree.{Tree, literal, indexed, unary}
-use Rattle.grammar.specs.Symbols.{group, loosest, openParen, closeParen, openIndex, closeIndex, comma, prefixOf, Form, plain as values, formOf, moreArguments, Arguments, one, more, callTree}
-use Rattle.grammar.specs.Grammar.{tok, Derives, number, name, index, parenthesis, call, DerivesArguments, last, next}
+use Rattle.grammar.specs.Tree.{Tree, literal, indexed, unary, tick}
+use Rattle.grammar.specs.Symbols.{group, loosest, openParen, closeParen, openIndex, closeIndex, comma, prefixOf, Form, plain as values, clock, formOf, moreArguments, Arguments, one, more, callTree}
+use Rattle.grammar.specs.Grammar.{tok, Derives, number, name, index, parenthesis, call, clocked, DerivesArguments, last, next}
 use Rattle.grammar.specs.Parse.{Result, binds, callBody, expression, climb, operand, primary, bracket, arguments, mostOpen}
 use Rattle.grammar.specs.Theorems.{isOpener, isCloser}
 use Rattle.grammar.proofs.Tests.{Follow, before, follow-less, follow-any, binds-true}
-use Rattle.grammar.proofs.Nesting.{Spans, nothing, passing, along, opener, operator, prefix}
+use Rattle.grammar.proofs.Nesting.{Spans, nothing, passing, closing, along, opener, operator, prefix}
 use Rattle.grammar.proofs.Levels.{lift, joinedTree, joined, signed}
 use Rattle.grammar.proofs.Ends.{expression-ends}
 use Rattle.grammar.proofs.Good.{Good, took, stop, dry, bind, wrap, plain, test, prefixes, expects, enters, closes}
@@ -58,12 +58,24 @@ fill-call : (g : Function) (p : ℕ) (o : Form) → formOf g ≡ o
 fill-call g p (values c) e =
     let h = fill (moreArguments c) in
     (h .0, callTree c p (h .1), λ q. call e (h .2))
+fill-call g p clock e = (tok (Symbol closeParen) 0 ∷ [], tick, λ q. clocked 0 e)
 
 sound-call : {d : ℕ} (g : Function) (p q : ℕ) (ys all : List Tok) (read : ℕ → List Tok → Result Arguments) (o : Form) → formOf g ≡ o
     → Spans d (tok (Symbol openParen) q ∷ []) (suc d) → all ≡ tok (Name g) p ∷ tok (Symbol openParen) q ∷ ys
     → ((m : ℕ) → Good (suc d) d (DerivesArguments m) ys (read m ys)) → Good d d (Derives 0) all (callBody o p read ys)
 sound-call g p q ys all read (values c) e s a h =
     wrap (tok (Name g) p ∷ tok (Symbol openParen) q ∷ []) (λ us. callTree c p us) (h (moreArguments c)) (passing refl refl s) a (λ w us b. call e b)
+sound-call g p q ys all read clock e s a h =
+    expects closeParen ys _
+    (λ r zs i. took (tok (Name g) p ∷ tok (Symbol openParen) q ∷ tok (Symbol closeParen) r ∷ []) (a ∙ ap (λ (z : List Tok). tok (Name g) p ∷ tok (Symbol openParen) q ∷ z) i)
+    (clocked r e) (passing refl refl (along s (closing refl refl nothing))))
+    (stop (tok (Symbol closeParen) 0 ∷ []) (record {
+      read = tok (Name g) p ∷ tok (Symbol openParen) q ∷ [];
+      tree = tick;
+      split = a;
+      whole = clocked 0 e;
+      spans = passing refl refl s;
+    }))
 
 mutual
   unfolding expression

@@ -1,13 +1,16 @@
 -- The value of a tree (paper 01: "The rules give the value of the whole tree, or the first fault met in working it out"): left to right, "`&&` and `||` skip the right side where the left decides; IF works
--- out only the chosen branch". Over an environment: whatever a memory holds.
+-- out only the chosen branch". "TICKms(), the tick handed in by the caller as a 32-bit pattern, .. the same throughout" (paper 02, Ask 13).
+-- Over an environment: whatever a memory holds, at any tick.
 use mathlib.Core.Bool.{Bool, true, false, cond, Bool·beq}
 use Prim.Native.Nat.{ℕ}
 use Rattle.values.specs.declared.Value.{Value}
+use Rattle.values.specs.declared.Value.the-variants.{Int}
 use Rattle.values.specs.declared.Outcome.{Outcome}
 use Rattle.values.specs.declared.Outcome.the-variants.{Done, Stopped, WrongKind}
-use Rattle.operators.specs.Operators.{unaryRule, binaryRule, truthRule, fromBool, branchRule}
+use Rattle.values.specs.Patterns.{signedOf}
+use Rattle.operators.specs.Operators.{unaryRule, sinceRule, binaryRule, truthRule, fromBool, branchRule}
 use Rattle.memory.specs.Environment.{Environment, indexedCell}
-use Rattle.grammar.specs.Tree.{Tree, literal, cell, indexed, unary, binary, logic, choice, treeKind}
+use Rattle.grammar.specs.Tree.{Tree, literal, cell, indexed, unary, binary, logic, choice, tick, since, treeKind}
 
 -- a value goes on, anything else stops
 abbrev pub then : Outcome → (Value → Outcome) → Outcome
@@ -30,3 +33,5 @@ eval E (logic p d t u) = then (eval E t) (λ v. shortCircuit d (truthRule v) (ev
 eval E (choice p c t u) =
     then (eval E c)
     (λ v. cond (truthRule v) (then (eval E t) (λ w. Done (branchRule w (treeKind u)))) (then (eval E u) (λ w. Done (branchRule w (treeKind t)))))
+eval E tick = Done (Int (signedOf 32 (E .tick)))
+eval E (since p t) = then (eval E t) (λ v. sinceRule (E .tick) v)

@@ -11,8 +11,8 @@ use Rattle.tokens.specs.declared.Function.{Function}
 use Rattle.tokens.specs.declared.Token.{Token}
 use Rattle.tokens.specs.declared.Token.the-variants.{Number, Cell, Letter, Name, Symbol}
 use Rattle.tokens.specs.Scan.{Tok}
-use Rattle.grammar.specs.Tree.{Tree, literal, cell, indexed, unary}
-use Rattle.grammar.specs.Symbols.{groupNumber, loosest, openParen, closeParen, openIndex, closeIndex, comma, prefixSymbol, is, infixTree, Callee, plain, formOf, moreArguments, Arguments, one, more, callTree}
+use Rattle.grammar.specs.Tree.{Tree, literal, cell, indexed, unary, tick}
+use Rattle.grammar.specs.Symbols.{groupNumber, loosest, openParen, closeParen, openIndex, closeIndex, comma, prefixSymbol, is, infixTree, Callee, plain, clock, formOf, moreArguments, Arguments, one, more, callTree}
 
 abbrev pub tok : Token → ℕ → Tok
 tok x p = record { token = x; place = p }
@@ -25,6 +25,7 @@ mutual
     parenthesis : {p : ℕ} (q : ℕ) {w : List Tok} {t : Tree} → Derives loosest w t → Derives 0 (tok (Symbol openParen) p ∷ (w ++ tok (Symbol closeParen) q ∷ [])) t
     call : {f : Function} {c : Callee} {p q : ℕ} {w : List Tok} {ts : Arguments} → formOf f ≡ plain c → DerivesArguments (moreArguments c) w ts
         → Derives 0 (tok (Name f) p ∷ tok (Symbol openParen) q ∷ w) (callTree c p ts)
+    clocked : {f : Function} {p q : ℕ} (r : ℕ) → formOf f ≡ clock → Derives 0 (tok (Name f) p ∷ tok (Symbol openParen) q ∷ tok (Symbol closeParen) r ∷ []) tick
     prefixed : {n p : ℕ} {o : UnaryOp} {w : List Tok} {t : Tree} → prefixSymbol n ≡ is o → Derives 0 w t → Derives 0 (tok (Symbol n) p ∷ w) (unary p o t)
     up : {l : ℕ} {w : List Tok} {t : Tree} → Derives l w t → Derives (suc l) w t
     infixed : {l : ℕ} (n p : ℕ) {w v : List Tok} {t u : Tree} → groupNumber n ≡ suc l → Derives (suc l) w t → Derives l v u → Derives (suc l) (w ++ tok (Symbol n) p ∷ v) (infixTree n p t u)

@@ -8,8 +8,8 @@ use lib.ListN.{length}
 use Rattle.tokens.specs.declared.Token.{Token}
 use Rattle.tokens.specs.declared.Token.the-variants.{Number, Cell, Letter, Name, Symbol}
 use Rattle.tokens.specs.Scan.{Tok}
-use Rattle.grammar.specs.Tree.{Tree, literal, cell, indexed, unary}
-use Rattle.grammar.specs.Symbols.{group, loosest, isSymbol, openParen, closeParen, openIndex, closeIndex, comma, prefixOf, is, none, infixTree, Form, plain, formOf, moreArguments, Arguments, one, more, callTree}
+use Rattle.grammar.specs.Tree.{Tree, literal, cell, indexed, unary, tick}
+use Rattle.grammar.specs.Symbols.{group, loosest, isSymbol, openParen, closeParen, openIndex, closeIndex, comma, prefixOf, is, none, infixTree, Form, plain, clock, formOf, moreArguments, Arguments, one, more, callTree}
 
 -- a tree and the tokens left; the tokens from the first that no formula has there; the tokens from an opener met with eight still open; or too little fuel
 pub data Result (X : Type 0) : Type 0 where
@@ -53,6 +53,7 @@ binds l x = leb 1 (group x) && leb (group x) l
 -- what stands behind the opening parenthesis of a call at the place p, by its form, given how so many arguments after the first are read
 abbrev pub callBody : Form → ℕ → (ℕ → List Tok → Result Arguments) → List Tok → Result Tree
 callBody (plain c) p read ts = andThen (read (moreArguments c) ts) (λ us r. ok (callTree c p us) r)
+callBody clock p read ts = expect closeParen ts (λ r. ok tick r)
 
 unfoldable mutual
   -- an expression of the group l at the loosest, with room for d brackets

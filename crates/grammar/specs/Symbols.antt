@@ -1,5 +1,5 @@
 -- What each token can be in a formula (paper 01, "Grammar and grouping"): "Tightest first: unary `- ~ !`, which may repeat; `**`; `* / %`; `+ -`; `<< >> >>>`; `< > <= >=`; `== !=`; `&`; `^`;
--- `|`; `&&`; `||`." "ABS, TOREAL, TOINT, TRUNC, ROUND, FRAC one, MAX, MIN two, IF three."
+-- `|`; `&&`; `||`." "ABS, TOREAL, TOINT, TRUNC, ROUND, FRAC one, MAX, MIN two, IF three." TICKms has none, SINCE one (paper 02, Ask 13).
 use mathlib.Core.Bool.{Bool, false, cond}
 use mathlib.Core.List.{List, [], _∷_}
 use Prim.Native.Nat.{ℕ, zero, suc}
@@ -12,10 +12,10 @@ use Rattle.operators.specs.declared.BinaryOp.{BinaryOp}
 use Rattle.operators.specs.declared.BinaryOp.the-variants as B
 use Rattle.operators.specs.Tables.{binaryOps}
 use Rattle.tokens.specs.declared.Function.{Function}
-use Rattle.tokens.specs.declared.Function.the-variants.{Abs, ToReal, ToInt, Trunc, Round, Frac, Max, Min, If}
+use Rattle.tokens.specs.declared.Function.the-variants.{Abs, ToReal, ToInt, Trunc, Round, Frac, Max, Min, If, TickMs, Since}
 use Rattle.tokens.specs.declared.Token.{Token}
 use Rattle.tokens.specs.declared.Token.the-variants.{Number, Cell, Letter, Name, Symbol}
-use Rattle.grammar.specs.Tree.{Tree, unary, binary, logic, choice}
+use Rattle.grammar.specs.Tree.{Tree, unary, binary, logic, choice, since}
 
 -- the groups of the symbols, in the order of the table of symbols; 0 for a symbol that is no binary operator
 abbrev pub groups : List ℕ
@@ -96,15 +96,17 @@ argument k (one t) = t
 argument zero (more t ts) = t
 argument (suc k) (more t ts) = argument k ts
 
--- what a function makes of arguments that are values: an operation of one, of two, or the choice of IF
+-- what a function makes of arguments that are values: an operation of one, of two, the choice of IF, or the time since one
 pub data Callee : Type 0 where
   of-one : UnaryOp → Callee
   of-two : BinaryOp → Callee
   of-choice : Callee
+  of-since : Callee
 
--- what stands between a function's parentheses: values
+-- what stands between a function's parentheses: values, or nothing
 pub data Form : Type 0 where
   plain : Callee → Form
+  clock : Form
 
 abbrev pub formOf : Function → Form
 formOf Abs = plain (of-one U.Abs)
@@ -116,15 +118,19 @@ formOf Frac = plain (of-one U.Frac)
 formOf Max = plain (of-two (B.Choice Choose.Max))
 formOf Min = plain (of-two (B.Choice Choose.Min))
 formOf If = plain of-choice
+formOf TickMs = clock
+formOf Since = plain of-since
 
 -- how many arguments after the first
 abbrev pub moreArguments : Callee → ℕ
 moreArguments (of-one o) = 0
 moreArguments (of-two o) = 1
 moreArguments of-choice = 2
+moreArguments of-since = 0
 
 -- the node of a call
 abbrev pub callTree : Callee → ℕ → Arguments → Tree
 callTree (of-one o) p ts = unary p o (argument 0 ts)
 callTree (of-two o) p ts = binary p o (argument 0 ts) (argument 1 ts)
 callTree of-choice p ts = choice p (argument 0 ts) (argument 1 ts) (argument 2 ts)
+callTree of-since p ts = since p (argument 0 ts)

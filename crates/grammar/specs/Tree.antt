@@ -9,11 +9,11 @@ use Rattle.values.specs.declared.Value.{Value}
 use Rattle.values.specs.Values.{kindOf}
 use Rattle.operators.specs.declared.UnaryOp.{UnaryOp}
 use Rattle.operators.specs.declared.BinaryOp.{BinaryOp}
-use Rattle.operators.specs.Kinds.{join, unaryKind, unaryTakes, binaryKind, binaryTakes}
+use Rattle.operators.specs.Kinds.{isInt, join, unaryKind, unaryTakes, binaryKind, binaryTakes}
 use Rattle.memory.specs.declared.Bank.{Bank}
 use Rattle.memory.specs.Cells.{bankKind}
 
--- logic d: `&&` for d false, `||` for d true, the truth of the left side that decides
+-- logic d: `&&` for d false, `||` for d true, the truth of the left side that decides; tick and since: TICKms() and SINCE (paper 02, Ask 13)
 pub data Tree : Type 0 where
   literal : ℕ → Value → Tree
   cell : Bank → ℕ → Tree
@@ -22,6 +22,8 @@ pub data Tree : Type 0 where
   binary : ℕ → BinaryOp → Tree → Tree → Tree
   logic : ℕ → Bool → Tree → Tree → Tree
   choice : ℕ → Tree → Tree → Tree → Tree
+  tick : Tree
+  since : ℕ → Tree → Tree
 
 -- "The kind is known from the text alone."
 unfoldable pub treeKind : Tree → Kind
@@ -32,6 +34,8 @@ treeKind (unary p o t) = unaryKind o (treeKind t)
 treeKind (binary p o t u) = binaryKind o (treeKind t) (treeKind u)
 treeKind (logic p d t u) = K.Int
 treeKind (choice p c t u) = join (treeKind t) (treeKind u)
+treeKind tick = K.Int
+treeKind (since p t) = K.Int
 
 -- what a tree shows to be wrong with its text: nothing, or a place and the answer that refuses the text there
 pub data Diagnostic : Type 0 where
@@ -64,3 +68,5 @@ diagnosticOf (unary p o t) = earlier (unless (unaryTakes o (treeKind t)) (wrongK
 diagnosticOf (binary p o t u) = earlier (unless (binaryTakes o (treeKind t) (treeKind u)) (wrongKindAt p)) (earlier (diagnosticOf t) (diagnosticOf u))
 diagnosticOf (logic p d t u) = earlier (diagnosticOf t) (diagnosticOf u)
 diagnosticOf (choice p c t u) = earlier (diagnosticOf c) (earlier (diagnosticOf t) (diagnosticOf u))
+diagnosticOf tick = clear
+diagnosticOf (since p t) = earlier (unless (isInt (treeKind t)) (wrongKindAt p)) (diagnosticOf t)

@@ -1,6 +1,8 @@
-// The grammar of formulas. Its code is the table of precedence groups; its definitions and theorems are in specs/ and proofs/.
+// The grammar of formulas. Its code is the table of precedence groups and that of the functions; its definitions and theorems are in specs/ and proofs/.
 ghost use mathlib.Core.Path.{_≡_};
 ghost use Rattle.grammar.specs.Symbols.{groupNumber};
+
+pub mod functions;
 
 // The precedence group of each symbol as a binary operator, 1 the tightest; 0 where it is none.
 const GROUPS: [u8; 27] = [

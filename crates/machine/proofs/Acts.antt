@@ -12,13 +12,13 @@ use Rattle.values.specs.declared.Value.{Value}
 use Rattle.values.specs.declared.Fault.{Fault}
 use Rattle.values.specs.declared.Outcome.{Outcome}
 use Rattle.values.specs.declared.Outcome.the-variants as Outcome
-use Rattle.operators.specs.Operators.{unaryRule, binaryRule, truthRule}
+use Rattle.operators.specs.Operators.{unaryRule, sinceRule, binaryRule, truthRule}
 use Rattle.memory.specs.Environment.{Environment, indexedCell}
 use Rattle.code.specs.declared.Instr.{Instr}
-use Rattle.code.specs.declared.Instr.the-variants.{PushInt, PushReal, Load, LoadIndexed, Unary, Binary, Jump, JumpIf, Unknown}
+use Rattle.code.specs.declared.Instr.the-variants.{PushInt, PushReal, Load, LoadIndexed, Unary, Binary, Jump, JumpIf, Tick, Since, Unknown}
 use Rattle.words.specs.Laws.{Bytes}
 use Rattle.code.specs.Instructions.{decodeAt}
-use Rattle.code.specs.Encode.{Encodable, push-int, push-real, load, load-indexed, unary, binary, jump, jump-if}
+use Rattle.code.specs.Encode.{Encodable, push-int, push-real, load, load-indexed, unary, binary, jump, jump-if, push-tick, since}
 use Rattle.code.proofs.Laws.{decode-encodable}
 use Rattle.machine.specs.declared.Ended.the-variants.{Stopped, Stuck}
 use Rattle.machine.specs.declared.Step.{Step}
@@ -43,6 +43,8 @@ distance (Unary o) = 0
 distance (Binary o) = 0
 distance (Jump d) = d
 distance (JumpIf t d) = d
+distance Tick = 0
+distance Since = 0
 distance Unknown = 0
 
 near : {i : Instr} → Encodable i → distance i < 2 ^ 32
@@ -54,6 +56,8 @@ near (unary o) = lit< tt
 near (binary o) = lit< tt
 near (jump d t) = t
 near (jump-if t d h) = h
+near push-tick = lit< tt
+near since = lit< tt
 
 pub decoded-near : (code : List ℕ) (p : ℕ) → Bytes code → distance (decodeAt code p) < 2 ^ 32
 decoded-near code p B = ⊎-elim near (λ e. rw e (lit< tt)) (decode-encodable code p B)
@@ -104,4 +108,7 @@ module _ (E : Environment) (s : List Value) where
   leads (JumpIf t d) zero q = stick
   leads (JumpIf t d) (suc h) q =
       rw (le-ltb (suc h) 1 (omega arith), last h) (jump-leads s (suc h) h d (Bool·beq (truthRule (getD s h none)) t) (omega arith) q)
+  leads Tick h q = push-leads s h h _ (omega arith)
+  leads Since zero q = stick
+  leads Since (suc h) q = one-leads h (sinceRule (E .tick))
   leads Unknown h q = stick

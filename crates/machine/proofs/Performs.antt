@@ -16,7 +16,7 @@ use Rattle.operators.specs.declared.tables.UnaryOf.the-variants as UnaryOf
 use Rattle.operators.specs.declared.tables.BinaryOf.{BinaryOf}
 use Rattle.operators.specs.declared.tables.BinaryOf.the-variants as BinaryOf
 use Rattle.operators.specs.Tables.{unaryOf, binaryOf}
-use Rattle.operators.specs.Operators.{unaryRule, binaryRule, truthRule}
+use Rattle.operators.specs.Operators.{unaryRule, sinceRule, binaryRule, truthRule}
 use Rattle.memory.specs.declared.Bank.{Bank}
 use Rattle.memory.specs.declared.Layout.{Layout}
 use Rattle.memory.specs.Layout.{layoutOf}
@@ -25,8 +25,8 @@ use Rattle.memory.specs.declared.numbers.BankOf.the-variants as BankOf
 use Rattle.memory.specs.Numbers.{bankNumbered}
 use Rattle.memory.specs.Environment.{Environment, indexedCell}
 use Rattle.code.specs.declared.Instr.{Instr}
-use Rattle.code.specs.declared.Instr.the-variants.{Load, JumpIf, Unknown}
-use Rattle.code.specs.Instructions.{ifZero, pushReal, loadElement, loadIndexed}
+use Rattle.code.specs.declared.Instr.the-variants.{Load, JumpIf, Since, Unknown}
+use Rattle.code.specs.Instructions.{ifZero, pushReal, loadElement, loadIndexed, applySince}
 use Rattle.code.specs.private.Classes.{ofBank, ofUnary, ofBinary}
 use Rattle.code.proofs.Finite.{finite-pushed, special-unknown}
 use Rattle.machine.specs.declared.Step.{Step}
@@ -102,6 +102,9 @@ module _ (E : Environment) (h : ℕ) (l r : Value) where
   short-binary (BinaryOf.Is o) p = rw (lt-ltb h 2 p)
   short-binary BinaryOf.Nothing p = refl
 
+  pub short-since : h < 1 → stuckStep ≡ made (applySince 0)
+  short-since p = rw (lt-ltb h 1 p)
+
   -- ---- of t values, to the outcome o, where the instruction i is j
   worked : (t : ℕ) (o : Outcome) {i j : Instr} {y : Outcome} {x : Step} → i ≡ j → made j ≡ givenStep h t o → t ≤ h → y ≡ o → x ≡ outcomeStep (h - t) y → x ≡ made i
   worked t o f g p d e =
@@ -113,6 +116,9 @@ module _ (E : Environment) (h : ℕ) (l r : Value) where
 
   pub unary-made : (a : ℕ) (o : UnaryOp) {y : Outcome} {x : Step} → unaryOf a ≡ UnaryOf.Is o → 1 ≤ h → y ≡ unaryRule o r → x ≡ outcomeStep (h - 1) y → x ≡ made (ofUnary (unaryOf a) 0)
   unary-made a o e = worked 1 (unaryRule o r) (ap (λ (u : UnaryOf). ofUnary u 0) e) refl
+
+  pub since-made : {y : Outcome} {x : Step} → 1 ≤ h → y ≡ sinceRule (E .tick) r → x ≡ outcomeStep (h - 1) y → x ≡ made (applySince 0)
+  since-made = worked 1 (sinceRule (E .tick) r) {i = Since} {j = Since} refl refl
 
   pub binary-made : (a : ℕ) (o : BinaryOp) {y : Outcome} {x : Step} → binaryOf a ≡ BinaryOf.Is o → 2 ≤ h → y ≡ binaryRule o l r → x ≡ outcomeStep (h - 2) y → x ≡ made (ofBinary (binaryOf a) 0)
   binary-made a o e = worked 2 (binaryRule o l r) (ap (λ (u : BinaryOf). ofBinary u 0) e) refl

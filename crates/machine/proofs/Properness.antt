@@ -4,7 +4,7 @@ use mathlib.Core.Path.{_≡_}
 use mathlib.Core.Logic.{_⊎_, inl, inr}
 use mathlib.Core.Bool.{Bool, true, false, cond, Bool·beq}
 use mathlib.Core.List.{List, [], _∷_}
-use Prim.Native.Nat.{ℕ, zero, suc}
+use Prim.Native.Nat.{ℕ, zero, suc, _^_, _<_}
 use lib.Dec.{ltb}
 use lib.ListN.{length}
 use Rattle.words.specs.Laws.{Bytes}
@@ -14,16 +14,16 @@ use Rattle.values.specs.declared.Outcome.{Outcome}
 use Rattle.operators.specs.Operators.{truthRule}
 use Rattle.operators.specs.Laws.{Proper, int, real, AllProper, done, stopped, wrong}
 use Rattle.operators.proofs.Laws.{rule-laws}
-use Rattle.memory.specs.Environment.{memoryOf}
+use Rattle.memory.specs.Environment.{memoryAt}
 use Rattle.memory.proofs.Laws.{memory-laws}
 use Rattle.code.specs.declared.Instr.{Instr}
 use Rattle.code.specs.declared.Instr.the-variants.{Unknown}
 use Rattle.code.specs.Instructions.{decodeAt, decodeFrom}
-use Rattle.code.specs.Encode.{Encodable, push-int, push-real, load, load-indexed, unary, binary, jump, jump-if}
+use Rattle.code.specs.Encode.{Encodable, push-int, push-real, load, load-indexed, unary, binary, jump, jump-if, push-tick, since}
 use Rattle.code.proofs.Laws.{decode-encodable}
 use Rattle.machine.specs.declared.Ended.{Ended}
 use Rattle.machine.specs.declared.Ended.the-variants.{Done, Stopped, Stuck}
-use Rattle.machine.specs.Machine.{maxHeight, Next, goes, halts, pushValue, pushOutcome, act, cost, finish, exec, runs}
+use Rattle.machine.specs.Machine.{maxHeight, Next, goes, halts, pushValue, pushOutcome, act, cost, finish, exec, runsAt}
 use Rattle.machine.proofs.Laws.{onward}
 
 data AllHeld : List Value → Type 0 where
@@ -58,8 +58,8 @@ module _ {st : List Value} (held : AllHeld st) where
   jumps true d = on held
   jumps false d = on held
 
-module _ (m : List ℕ) (bytes : Bytes m) where
-  acts : {i : Instr} {st : List Value} → Encodable i → AllHeld st → ProperNext (act (memoryOf m) i st)
+module _ (tick : ℕ) (m : List ℕ) (bytes : Bytes m) where
+  acts : {i : Instr} {st : List Value} → Encodable i → AllHeld st → ProperNext (act (memoryAt tick m) i st)
   unfolding act
   acts (push-int z h) s = pushes s (int z h)
   acts (push-real x h) s = pushes s (real x h)
@@ -74,18 +74,21 @@ module _ (m : List ℕ) (bytes : Bytes m) where
   acts (jump d h) s = on s
   acts (jump-if t d h) none = end stuck
   acts (jump-if t d h) (more {v} p s) = jumps s (Bool·beq (truthRule v) t) d
+  acts push-tick s = pushes s (rule-laws .tick-proper tick)
+  acts since none = end stuck
+  acts since (more {v} p s) = gives s (rule-laws .since-proper tick v)
 
-  decoded : (i : Instr) {st : List Value} → Encodable i ⊎ (i ≡ Unknown) → AllHeld st → ProperNext (act (memoryOf m) i st)
+  decoded : (i : Instr) {st : List Value} → Encodable i ⊎ (i ≡ Unknown) → AllHeld st → ProperNext (act (memoryAt tick m) i st)
   decoded i (inl e) s = acts e s
   decoded i {st} (inr e) s = rw e unknown
     where
-      unknown : ProperNext (act (memoryOf m) Unknown st)
+      unknown : ProperNext (act (memoryAt tick m) Unknown st)
       unknown = unfold act in end stuck
 
   -- ---- a run
 
-  goes-on : (n : ℕ) (c : List Instr) (x : Next) → ((k : ℕ) (st : List Value) → AllHeld st → ProperEnd (exec (memoryOf m) c k st .end))
-      → ProperNext x → ProperEnd (onward (memoryOf m) n c x .end)
+  goes-on : (n : ℕ) (c : List Instr) (x : Next) → ((k : ℕ) (st : List Value) → AllHeld st → ProperEnd (exec (memoryAt tick m) c k st .end))
+      → ProperNext x → ProperEnd (onward (memoryAt tick m) n c x .end)
   goes-on n c (goes k st) h (on s) = h k st s
   goes-on n c (halts _) h (end e) = e
 
@@ -94,14 +97,14 @@ module _ (m : List ℕ) (bytes : Bytes m) where
   last (more p none) = value p
   last (more p (more q s)) = stuck
 
-  from : (code : List ℕ) → Bytes code → (p n k : ℕ) (st : List Value) → AllHeld st → ProperEnd (exec (memoryOf m) (decodeFrom code p n) k st .end)
+  from : (code : List ℕ) → Bytes code → (p n k : ℕ) (st : List Value) → AllHeld st → ProperEnd (exec (memoryAt tick m) (decodeFrom code p n) k st .end)
   unfolding exec decodeFrom
   from code b p zero zero st s = last s
   from code b p zero (suc k) st s = stuck
   from code b p (suc n) (suc k) st s = from code b (suc p) n k st s
   from code b p (suc n) zero st s =
-      goes-on (cost (memoryOf m) (decodeAt code p) st) (decodeFrom code (suc p) n) (act (memoryOf m) (decodeAt code p) st) (from code b (suc p) n)
+      goes-on (cost (memoryAt tick m) (decodeAt code p) st) (decodeFrom code (suc p) n) (act (memoryAt tick m) (decodeAt code p) st) (from code b (suc p) n)
       (decoded (decodeAt code p) (decode-encodable code p b) s)
 
-pub runs-proper : (code : List ℕ) (n : ℕ) (m : List ℕ) → Bytes code → Bytes m → ProperEnd (runs code n m .end)
-runs-proper code n m b h = from m h code b 0 n 0 [] none
+pub runs-proper : (code : List ℕ) (n tick : ℕ) (m : List ℕ) → Bytes code → tick < 2 ^ 32 → Bytes m → ProperEnd (runsAt tick code n m .end)
+runs-proper code n tick m b l h = from tick m h code b 0 n 0 [] none

@@ -1,6 +1,6 @@
 -- The machine of docs/INSTRUCTIONS.md: one rule an instruction on the values held (the last pushed first), and what is left of the code. The state is the
--- instructions left and how many of them to skip, so no place is named. Paper 01: "An instruction .. sees only itself, the values held and the memory";
--- "Instructions executed are those begun, the faulting one included". Total for any bytes: `Stuck` is what the verifier rules out.
+-- instructions left and how many of them to skip, so no place is named. Paper 01: "An instruction .. sees only itself, the values held and the memory", and
+-- paper 02 of the tick: "an instruction sees it too"; "Instructions executed are those begun, the faulting one included". Total for any bytes: `Stuck` is what the verifier rules out.
 use mathlib.Core.Bool.{cond, Bool·beq}
 use mathlib.Core.List.{List, [], _∷_}
 use Prim.Native.Nat.{ℕ, zero, suc, _+_}
@@ -10,10 +10,11 @@ use Rattle.values.specs.declared.Value.{Value}
 use Rattle.values.specs.declared.Value.the-variants.{Int, Real}
 use Rattle.values.specs.declared.Outcome.{Outcome}
 use Rattle.values.specs.declared.Outcome.the-variants as Outcome
-use Rattle.operators.specs.Operators.{unaryRule, binaryRule, truthRule}
+use Rattle.values.specs.Patterns.{signedOf}
+use Rattle.operators.specs.Operators.{unaryRule, sinceRule, binaryRule, truthRule}
 use Rattle.memory.specs.Environment.{Environment, indexedCell, memoryAt}
 use Rattle.code.specs.declared.Instr.{Instr}
-use Rattle.code.specs.declared.Instr.the-variants.{PushInt, PushReal, Load, LoadIndexed, Unary, Binary, Jump, JumpIf, Unknown}
+use Rattle.code.specs.declared.Instr.the-variants.{PushInt, PushReal, Load, LoadIndexed, Unary, Binary, Jump, JumpIf, Tick, Since, Unknown}
 use Rattle.code.specs.Instructions.{instructions}
 use Rattle.machine.specs.declared.Ended.{Ended}
 use Rattle.machine.specs.declared.Ended.the-variants.{Done, Stopped, Stuck}
@@ -50,6 +51,9 @@ act E (Binary o) (w ∷ (v ∷ st)) = pushOutcome (binaryRule o v w) st
 act E (Jump d) st = goes d st
 act E (JumpIf t d) [] = halts Stuck
 act E (JumpIf t d) (v ∷ st) = cond (Bool·beq (truthRule v) t) (goes d st) (goes 0 st)
+act E Tick st = pushValue (Int (signedOf 32 (E .tick))) st
+act E Since [] = halts Stuck
+act E Since (v ∷ st) = pushOutcome (sinceRule (E .tick) v) st
 act E Unknown st = halts Stuck
 
 -- what an instruction that is begun adds to the count

@@ -1,15 +1,15 @@
-// The machine: instructions run on values held and a memory that they only read.
+// The machine: instructions run on values held, a memory that they only read, and the tick.
 // An instruction is performed from the number of its eight bytes, without being made an `Instr` first: enums pass through memory.
 ghost use mathlib.Core.Path.{_≡_};
 ghost use Prim.Native.Nat.{_-_, _≤_};
 ghost use Rattle.memory.specs.Environment.{memoryOf};
 ghost use Rattle.code.specs.declared.Instr.the-variants.{JumpIf};
-ghost use Rattle.code.specs.declared.Class.the-variants.{PushInt, PushReal, Jump, Load, LoadIndexed, Unary, Binary};
+ghost use Rattle.code.specs.declared.Class.the-variants.{PushInt, PushReal, Jump, Tick, Since, Load, LoadIndexed, Unary, Binary};
 ghost use Rattle.code.specs.Instructions.{wordOf};
 ghost use Rattle.code.specs.private.Classes.{instrIn};
 ghost use Rattle.machine.specs.Machine.{runsAt};
 ghost use Rattle.machine.specs.private.Steps.{minimum, pushOrStuck, skipStep, stopStep, stuckStep, outcomeStep, bankStep};
-ghost use Rattle.machine.specs.private.Steps.{IsStep, IsStepOn, IsStepOnBoth, IsLoad, IsLoadOn, stuckAt, failedAt, finishedAt};
+ghost use Rattle.machine.specs.private.Steps.{IsStep, IsStepOn, IsStepOnBoth, IsLoad, IsLoadOn, IsTick, IsTickOn, stuckAt, failedAt, finishedAt};
 use code::Class;
 use memory::Bank;
 use memory::numbers;
@@ -231,6 +231,27 @@ fn jump_if(w: u64, h: usize, v: Value, t: bool) -> Step
     skip_step(h - 1, 0)
 }
 
+fn push_tick(w: u64, h: usize, tick: u32) -> Step
+    ensures { λ x. ⌜ IsTick tick (instrIn Tick w) h x ⌝ }
+{
+    if code::word_of(w) != 0 {
+        return stuck_step();
+    }
+    push_step(h, Value::Int(values::patterns::from_pattern(tick)))
+}
+
+fn since(w: u64, h: usize, tick: u32, v: Value) -> Step
+    ensures { λ x. ⌜ IsTickOn tick (instrIn Since w) h v x ⌝ }
+{
+    if h < 1 {
+        return stuck_step();
+    }
+    if code::word_of(w) != 0 {
+        return stuck_step();
+    }
+    outcome_step(h - 1, operators::since(tick, v))
+}
+
 fn stuck(count: usize) -> Ran
     ensures { λ r. ⌜ r ≡ stuckAt count ⌝ }
 {
@@ -305,6 +326,8 @@ pub fn run(code: &[u8], n: usize, image: &[u8], tick: u32) -> Ran
             Class::Jump => jump(w, h),
             Class::JumpIfFalse => jump_if(w, h, stack[from_top(h, 1)], false),
             Class::JumpIfTrue => jump_if(w, h, stack[from_top(h, 1)], true),
+            Class::Tick => push_tick(w, h, tick),
+            Class::Since => since(w, h, tick, stack[from_top(h, 1)]),
             Class::Load => load(w, image, h),
             Class::LoadIndexed => load_indexed(w, image, h, stack[from_top(h, 1)]),
             Class::Unary => unary(w, h, stack[from_top(h, 1)]),

@@ -6,17 +6,17 @@ use Prim.Native.Nat.{ℕ, _*_, _≤_}
 use native.Mathlib.Omega.{arith}
 use lib.ListN.{length, getD}
 use Rattle.values.specs.declared.Kind.{Kind}
-use Rattle.memory.specs.Environment.{memoryOf}
+use Rattle.memory.specs.Environment.{memoryAt}
 use Rattle.memory.proofs.Runs.{other-kept}
 use Rattle.grammar.specs.Tree.{Tree, treeKind}
 use Rattle.text.specs.Judge.{Judgement, accepted, refused}
 use Rattle.text.specs.Theorems.{AcceptedFormula}
 use Rattle.code.specs.Instructions.{instructions}
 use Rattle.code.proofs.Parts.{decode-length}
-use Rattle.machine.specs.Machine.{runs}
+use Rattle.machine.specs.Machine.{runsAt}
 use Rattle.machine.proofs.Laws.{bound-length}
 use Rattle.verifier.specs.Accepts as Verifier
-use Rattle.verifier.proofs.Safe.{safe, memory-kinded}
+use Rattle.verifier.proofs.Safe.{safe}
 use Rattle.tree_code.specs.Code.{codeOf}
 use Rattle.compiler.specs.Compile.{compiling, codedBytes, encodeAll}
 use Rattle.compiler.proofs.Bytes.{encoded-length}
@@ -25,7 +25,7 @@ use Rattle.operations.specs.Operations.{compileAnswer, checkAnswer}
 use Rattle.operations.specs.Terms.{compileAnswerOf, compiledCode, doneWith, Ends}
 use Rattle.operations.specs.Promises.{Faithful}
 use Rattle.operations.proofs.Verdicts.{accepted-by, passes}
-use Rattle.operations.proofs.Requests.{run-code, run-tree, written}
+use Rattle.operations.proofs.Requests.{kinded, run-code, run-tree, written}
 use Rattle.operations.proofs.Texts.{is-formula}
 
 -- ---- what compiling writes
@@ -42,17 +42,17 @@ only-code text code n k = beyond code n k (compiling (length code) text)
 -- ---- accepted code
 
 module _ (code : List ℕ) (n : ℕ) where
-  well : {k : Kind} → Verifier.Accepts (instructions code n) k → (most : ℕ) → ((m : List ℕ) → runs code n m .count ≤ most) → Ends code n most k
+  well : {k : Kind} → Verifier.Accepts (instructions code n) k → (most : ℕ) → ((tick : ℕ) (m : List ℕ) → runsAt tick code n m .count ≤ most) → Ends code n most k
   well {k} a most h = record {
-    well = λ m. safe .ends (memoryOf m) (instructions code n) k (memory-kinded m) a;
+    well = λ tick m. safe .ends (memoryAt tick m) (instructions code n) k (kinded tick m) a;
     quick = h;
-    stack = λ m. safe .stack (memoryOf m) (instructions code n) k (memory-kinded m) a;
+    stack = λ tick m. safe .stack (memoryAt tick m) (instructions code n) k (kinded tick m) a;
   }
 
   pub ends : checkAnswer code n ≡ doneWith 0 → (k : Kind) × Ends code n n k
   ends e =
       let a = accepted-by code n e in
-      (a .0, well (a .1) n (λ m. omega (arith, safe .counts (memoryOf m) (instructions code n), bound-length (instructions code n), decode-length code 0 n)))
+      (a .0, well (a .1) n (λ tick m. omega (arith, safe .counts (memoryAt tick m) (instructions code n), bound-length (instructions code n), decode-length code 0 n)))
 
 -- ---- compiled code
 
@@ -64,9 +64,9 @@ module _ {text : List ℕ} {t : Tree} (code : List ℕ) (a : AcceptedFormula tex
       let demand = compile-theorems .demand text t q in
       let good = subst (λ c. Verifier.Accepts c (treeKind t)) (sym there) (demand .accepted) in
       record {
-        same = λ m. run-tree text t q m code room;
+        same = λ tick m. run-tree text t q tick m code room;
         accepted = passes _ _ good;
-        ends = well _ _ good _ (λ m. rw (run-code text t q m code room) (demand .quick (memoryOf m)));
+        ends = well _ _ good _ (λ tick m. rw (run-code text t q tick m code room) (demand .quick (memoryAt tick m)));
         short = demand .short;
       }
 

@@ -17,17 +17,17 @@ use Rattle.memory.specs.declared.names.Named.the-variants.{Cell, Other}
 use Rattle.memory.specs.Layout.{imageSize, layoutOf, cellAt, flagAt}
 use Rattle.memory.specs.Names.{targetRule}
 use Rattle.memory.specs.Laws.{InCell}
-use Rattle.memory.specs.Environment.{memoryOf}
+use Rattle.memory.specs.Environment.{memoryAt}
 use Rattle.memory.proofs.Kept.{cell-kept}
 use Rattle.text.specs.Judge.{Judgement, accepted, refused, judge}
 use Rattle.text.proofs.Theorems.{text-theorems}
 use Rattle.code.specs.Instructions.{instructions}
 use Rattle.machine.specs.declared.Ended.{Ended}
-use Rattle.machine.specs.Machine.{runs}
+use Rattle.machine.specs.Machine.{runsAt}
 use Rattle.verifier.specs.declared.Verdict.{Verdict}
 use Rattle.verifier.specs.declared.Verdict.the-variants as Verdict
 use Rattle.verifier.specs.Verdicts.{verdict}
-use Rattle.verifier.proofs.Safe.{safe, memory-kinded}
+use Rattle.verifier.proofs.Safe.{safe}
 use Rattle.compiler.specs.Compile.{codedBytes, encodeAll}
 use Rattle.compiler.proofs.Theorems.{compile-theorems}
 use Rattle.tree_code.specs.Code.{codeOf}
@@ -39,7 +39,7 @@ use Rattle.operations.specs.Terms.{compileAnswerOf, compiledCode, Refusa
 use Rattle.operations.specs.Promises.{Operation, compile, check, run, compile-and-run, resultOf, FrameConditions}
 use Rattle.operations.proofs.Numbers.{either, Numbered, formula, three-to-nine, numbered, fault-range, no-fault, own-number}
 use Rattle.operations.proofs.Verdicts.{Aims, at-cell, at-none, aims}
-use Rattle.operations.proofs.Requests.{no-memory, no-room, named}
+use Rattle.operations.proofs.Requests.{kinded, no-memory, no-room, named}
 use Rattle.operations.proofs.Endings.{target-element, ends-well, gives}
 
 -- the byte k is none of the target's cell
@@ -114,39 +114,39 @@ module _ (target m code : List ℕ) where
       by (Verdict.Accepted k) = done (λ k h. refl) refl refl
       by Verdict.Refused = refusal 15 0 (omega arith, inr refl)
 
-  sorted-run : (n : ℕ) → Sorted target m code (runAnswer code n target m) (runMemory code n target m) code
-  sorted-run n = by (goal code n target m) (aims code n target m)
+  sorted-run : (n tick : ℕ) → Sorted target m code (runAnswer tick code n target m) (runMemory tick code n target m) code
+  sorted-run n tick = by (goal code n target m) (aims code n target m)
     where
-      by : (g : Goal) → Aims code n target m g → Sorted target m code (ranAnswer m (runs code n m) g) (ranMemory m (runs code n m) g) code
+      by : (g : Goal) → Aims code n target m g → Sorted target m code (ranAnswer m (runsAt tick code n m) g) (ranMemory m (runsAt tick code n m) g) code
       by (to b i) (at-cell {k = k} l t a) =
-          sorted-end t refl (gives m b i _ l (target-element target t) (safe .ends (memoryOf m) (instructions code n) k (memory-kinded m) a))
+          sorted-end t refl (gives m b i _ l (target-element target t) (safe .ends (memoryAt tick m) (instructions code n) k (kinded tick m) a))
       by (none _) (at-none a h) = refusal a 0 h
 
   -- ---- compile and run
 
-  abbrev Performs : Request → Type 0
-  Performs q = Sorted target m code (requestAnswer m q) (requestMemory m q) (requestCode code q)
+  abbrev Performs : ℕ → Request → Type 0
+  Performs tick q = Sorted target m code (requestAnswer tick m q) (requestMemory tick m q) (requestCode code q)
 
-  sorted-text : (text : List ℕ) {b : Bank} {i : ℕ} → length m ≡ imageSize → targetRule target ≡ Cell b i → (j : Judgement) → judge text ≡ j → Performs (ofText code b i j)
-  sorted-text text {b} {i} l e (accepted t) q =
-      let kind = compile-theorems .demand text t q .kind (memoryOf m) (memory-kinded m) in
+  sorted-text : (text : List ℕ) (tick : ℕ) {b : Bank} {i : ℕ} → length m ≡ imageSize → targetRule target ≡ Cell b i → (j : Judgement) → judge text ≡ j → Performs tick (ofText code b i j)
+  sorted-text text tick {b} {i} l e (accepted t) q =
+      let kind = compile-theorems .demand text t q .kind (memoryAt tick m) (kinded tick m) in
       sorted-end e (coded-length (accepted t)) (gives m b i _ l (target-element target e) (ends-well kind))
-  sorted-text text l e (refused a p) q = sorted-judged (subst Numbered q (numbered (text-theorems .outcome text)))
+  sorted-text text tick l e (refused a p) q = sorted-judged (subst Numbered q (numbered (text-theorems .outcome text)))
 
-  sorted-target : (text : List ℕ) → length m ≡ imageSize → (x : Named) → targetRule target ≡ x → Performs (ofTarget text code x)
-  sorted-target text l (Cell b i) e = sorted-text text l e (judge text) refl
-  sorted-target text l Other e = low 2 0 (omega arith) (omega arith)
+  sorted-target : (text : List ℕ) (tick : ℕ) → length m ≡ imageSize → (x : Named) → targetRule target ≡ x → Performs tick (ofTarget text code x)
+  sorted-target text tick l (Cell b i) e = sorted-text text tick l e (judge text) refl
+  sorted-target text tick l Other e = low 2 0 (omega arith) (omega arith)
 
-  sorted-request : (text : List ℕ) → Performs (request target text m code)
-  sorted-request text = by (ℕ-discrete (length m) imageSize) (decLt (length code) 16384)
+  sorted-request : (text : List ℕ) (tick : ℕ) → Performs tick (request target text m code)
+  sorted-request text tick = by (ℕ-discrete (length m) imageSize) (decLt (length code) 16384)
     where
-      by : Dec (length m ≡ imageSize) → Dec (length code < 16384) → Performs (request target text m code)
-      by (no h) d = subst⁻¹ Performs (no-memory target text m code h) (low 1 0 (omega arith) (omega arith))
-      by (yes h) (yes l) = subst⁻¹ Performs (no-room target text m code h l) (low 10 0 (omega arith) (omega arith))
-      by (yes h) (no l) = subst⁻¹ Performs (named target text m code h (omega arith) refl) (sorted-target text h (targetRule target) refl)
+      by : Dec (length m ≡ imageSize) → Dec (length code < 16384) → Performs tick (request target text m code)
+      by (no h) d = subst⁻¹ (Performs tick) (no-memory target text m code h) (low 1 0 (omega arith) (omega arith))
+      by (yes h) (yes l) = subst⁻¹ (Performs tick) (no-room target text m code h l) (low 10 0 (omega arith) (omega arith))
+      by (yes h) (no l) = subst⁻¹ (Performs tick) (named target text m code h (omega arith) refl) (sorted-target text tick h (targetRule target) refl)
 
 pub kept : (o : Operation) (target m code : List ℕ) → FrameConditions target m code (resultOf o target m code)
 kept (compile text) target m code = keeps (sorted-compile target m code text)
 kept (check n) target m code = keeps (sorted-check target m code n)
-kept (run n) target m code = keeps (sorted-run target m code n)
-kept (compile-and-run text) target m code = keeps (sorted-request target m code text)
+kept (run n tick) target m code = keeps (sorted-run target m code n tick)
+kept (compile-and-run text tick) target m code = keeps (sorted-request target m code text tick)

@@ -10,7 +10,7 @@ use Rattle.memory.specs.declared.names.Named.the-variants.{Other}
 use Rattle.memory.specs.Layout.{imageSize}
 use Rattle.memory.specs.Names.{targetRule}
 use Rattle.code.specs.Instructions.{instructions}
-use Rattle.machine.specs.Machine.{runs}
+use Rattle.machine.specs.Machine.{runsAt}
 use Rattle.verifier.specs.declared.Verdict.{Verdict}
 use Rattle.verifier.specs.declared.Verdict.the-variants as Verdict
 use Rattle.verifier.specs.Accepts.{Accepts}
@@ -22,19 +22,19 @@ use Rattle.operations.specs.Terms.{compileAnswerOf, Ready, Room}
 use Rattle.operations.proofs.Verdicts as run
 use Rattle.operations.proofs.Requests as request
 
-module _ (text code target m : List ℕ) (n : ℕ) where
-  pub wrong-memory : (length m ≡ imageSize → ⊥) → (runAnswer code n target m ≡ Refused 1 0) × (requestAnswer m (request target text m code) ≡ Refused 1 0)
-  wrong-memory h = (ap (ranAnswer m (runs code n m)) (run.no-memory code n target m h), ap (requestAnswer m) (request.no-memory target text m code h))
+module _ (text code target m : List ℕ) (n tick : ℕ) where
+  pub wrong-memory : (length m ≡ imageSize → ⊥) → (runAnswer tick code n target m ≡ Refused 1 0) × (requestAnswer tick m (request target text m code) ≡ Refused 1 0)
+  wrong-memory h = (ap (ranAnswer m (runsAt tick code n m)) (run.no-memory code n target m h), ap (requestAnswer tick m) (request.no-memory target text m code h))
 
   pub small-buffer : length code < 16384
-      → (compileAnswerOf text code ≡ Refused 10 0) × (length m ≡ imageSize → requestAnswer m (request target text m code) ≡ Refused 10 0)
-  small-buffer l = (rw (lt-ltb (length code) 16384 l), λ h. ap (requestAnswer m) (request.no-room target text m code h l))
+      → (compileAnswerOf text code ≡ Refused 10 0) × (length m ≡ imageSize → requestAnswer tick m (request target text m code) ≡ Refused 10 0)
+  small-buffer l = (rw (lt-ltb (length code) 16384 l), λ h. ap (requestAnswer tick m) (request.no-room target text m code h l))
 
   pub wrong-target : length m ≡ imageSize → targetRule target ≡ Other
-      → (runAnswer code n target m ≡ Refused 2 0) × (Room code → requestAnswer m (request target text m code) ≡ Refused 2 0)
+      → (runAnswer tick code n target m ≡ Refused 2 0) × (Room code → requestAnswer tick m (request target text m code) ≡ Refused 2 0)
   wrong-target h e = (
-    ap (ranAnswer m (runs code n m)) (run.named code n target m h e refl),
-    λ room. ap (requestAnswer m) (request.named target text m code h room e),
+    ap (ranAnswer m (runsAt tick code n m)) (run.named code n target m h e refl),
+    λ room. ap (requestAnswer tick m) (request.named target text m code h room e),
   )
 
 -- the check's verdict on code that is not accepted
@@ -45,9 +45,9 @@ refused code n h = by (verdict (instructions code n)) refl
     by (Verdict.Accepted k) e = absurd (h k (verdict-laws .exact (instructions code n) k .0 e))
     by Verdict.Refused e = refl
 
-pub wrong-code : (code : List ℕ) (n : ℕ) {target m : List ℕ} {b : Bank} {i : ℕ} → Ready target m b i
+pub wrong-code : (code : List ℕ) (n tick : ℕ) {target m : List ℕ} {b : Bank} {i : ℕ} → Ready target m b i
     → ((k : Kind) → Accepts (instructions code n) k → ⊥)
-    → (checkAnswer code n ≡ Refused 15 0) × (runAnswer code n target m ≡ Refused 15 0)
-wrong-code code n {target} {m} ready h =
+    → (checkAnswer code n ≡ Refused 15 0) × (runAnswer tick code n target m ≡ Refused 15 0)
+wrong-code code n tick {target} {m} ready h =
     let v = refused code n h in
-    (ap verdictAnswer v, ap (ranAnswer m (runs code n m)) (run.named code n target m (ready .memory) (ready .cell) v))
+    (ap verdictAnswer v, ap (ranAnswer m (runsAt tick code n m)) (run.named code n target m (ready .memory) (ready .cell) v))

@@ -13,12 +13,13 @@ use Rattle.memory.specs.declared.Bank.{Bank}
 use Rattle.memory.specs.declared.names.Named.{Named}
 use Rattle.memory.specs.Layout.{imageSize}
 use Rattle.memory.specs.Names.{targetRule}
-use Rattle.memory.specs.Environment.{memoryOf}
+use Rattle.memory.specs.Environment.{memoryAt}
 use Rattle.grammar.specs.Tree.{Tree}
 use Rattle.grammar.specs.Eval.{eval}
 use Rattle.text.specs.Judge.{Judgement, accepted, refused, judge}
 use Rattle.machine.specs.declared.Ran.{Ran}
-use Rattle.machine.specs.Machine.{exec, runs, endOf}
+use Rattle.machine.specs.Machine.{exec, runsAt, endOf}
+use Rattle.verifier.specs.Safety.{Kinded}
 use Rattle.verifier.proofs.Safe.{memory-kinded}
 use Rattle.compiler.specs.declared.Coded.{Coded}
 use Rattle.compiler.specs.declared.Coded.the-variants as Coded
@@ -59,40 +60,44 @@ module _ (target text m code : List ℕ) where
     named l e = rw (eq-eqb (length m) imageSize h, le-ltb (length code) 16384 l, e)
 
 -- the answer, the memory and the code are those of the request
-abbrev pub Performs : Request → List ℕ → List ℕ → Answer → List ℕ → List ℕ → Type 0
-Performs q m code r m′ code′ = (r ≡ requestAnswer m q) × ((m′ ≡ requestMemory m q) × (code′ ≡ requestCode code q))
+abbrev pub Performs : ℕ → Request → List ℕ → List ℕ → Answer → List ℕ → List ℕ → Type 0
+Performs tick q m code r m′ code′ = (r ≡ requestAnswer tick m q) × ((m′ ≡ requestMemory tick m q) × (code′ ≡ requestCode code q))
 
-pub refuses : {q : Request} {a p : ℕ} (m code : List ℕ) → q ≡ stops a p → Performs q m code (Refused a p) m code
-refuses m code e = rw e (refl, (refl, refl))
+pub refuses : {q : Request} {a p : ℕ} (tick : ℕ) (m code : List ℕ) → q ≡ stops a p → Performs tick q m code (Refused a p) m code
+refuses tick m code e = rw e (refl, (refl, refl))
 
 -- ---- the run of compiled code
 
-module _ (s : List ℕ) (t : Tree) (e : judge s ≡ accepted t) (m : List ℕ) where
-  -- whatever else the buffer holds
-  pub run-code : (code : List ℕ) → 16384 ≤ length code → runs (codedBytes code (accepted t)) (length (codeOf t)) m ≡ exec (memoryOf m) (codeOf t) 0 []
-  run-code code h = ap (λ c. exec (memoryOf m) c 0 []) (compile-theorems .there s code t e h)
+-- what a memory gives at any tick is of its bank's kind
+pub kinded : (tick : ℕ) (m : List ℕ) → Kinded (memoryAt tick m)
+kinded tick m = record { cell = memory-kinded m .cell }
 
-  pub run-tree : (code : List ℕ) → 16384 ≤ length code → runs (codedBytes code (accepted t)) (length (codeOf t)) m .end ≡ endOf (eval (memoryOf m) t)
-  run-tree code h = ap (λ x. x .end) (run-code code h) ∙ compile-theorems .demand s t e .same (memoryOf m) (memory-kinded m)
+module _ (s : List ℕ) (t : Tree) (e : judge s ≡ accepted t) (tick : ℕ) (m : List ℕ) where
+  -- whatever else the buffer holds
+  pub run-code : (code : List ℕ) → 16384 ≤ length code → runsAt tick (codedBytes code (accepted t)) (length (codeOf t)) m ≡ exec (memoryAt tick m) (codeOf t) 0 []
+  run-code code h = ap (λ c. exec (memoryAt tick m) c 0 []) (compile-theorems .there s code t e h)
+
+  pub run-tree : (code : List ℕ) → 16384 ≤ length code → runsAt tick (codedBytes code (accepted t)) (length (codeOf t)) m .end ≡ endOf (eval (memoryAt tick m) t)
+  run-tree code h = ap (λ x. x .end) (run-code code h) ∙ compile-theorems .demand s t e .same (memoryAt tick m) (kinded tick m)
 
 -- the judgement j of the text s was compiled, and what was written was run on m; then came the store or the flag
-pub performs : {q : Request} (s code m : List ℕ) (b : Bank) (i : ℕ) (j : Judgement) {n : ℕ} {code′ : List ℕ} {x : Ran} {r : Answer} {m′ : List ℕ}
-    → q ≡ ofText code b i j → judge s ≡ j → 16384 ≤ length code → Coded.Done n ≡ codedAnswer j → code′ ≡ codedBytes code j → x ≡ runs code′ n m
-    → Finishes m b i x r m′ → Performs q m code r m′ code′
-performs s code m b i (accepted t) {n} {code′} {x} {r} {m′} o e h a w f g =
+pub performs : {q : Request} (tick : ℕ) (s code m : List ℕ) (b : Bank) (i : ℕ) (j : Judgement) {n : ℕ} {code′ : List ℕ} {x : Ran} {r : Answer} {m′ : List ℕ}
+    → q ≡ ofText code b i j → judge s ≡ j → 16384 ≤ length code → Coded.Done n ≡ codedAnswer j → code′ ≡ codedBytes code j → x ≡ runsAt tick code′ n m
+    → Finishes m b i x r m′ → Performs tick q m code r m′ code′
+performs tick s code m b i (accepted t) {n} {code′} {x} {r} {m′} o e h a w f g =
     let l : n ≡ length (codeOf t) = cc in
-    let y : runs code′ n m ≡ runs (codedBytes code (accepted t)) (length (codeOf t)) m = cc in
+    let y : runsAt tick code′ n m ≡ runsAt tick (codedBytes code (accepted t)) (length (codeOf t)) m = cc in
     let z = subst (λ x. Finishes m b i x r m′) (f ∙ y) g in
-    let d = run-tree s t e m code h in
-    rw o (z .0 ∙ ap (λ d. finished m b i d (runs (codedBytes code (accepted t)) (length (codeOf t)) m .count)) d, (z .1 ∙ ap (memoryAfter m b i) d, w))
-performs s code m b i (refused a p) o e h d w f g = let z : _≡_ {A = ℕ} 0 1 = cc in absurd (omega arith)
+    let d = run-tree s t e tick m code h in
+    rw o (z .0 ∙ ap (λ d. finished m b i d (runsAt tick (codedBytes code (accepted t)) (length (codeOf t)) m .count)) d, (z .1 ∙ ap (memoryAfter m b i) d, w))
+performs tick s code m b i (refused a p) o e h d w f g = let z : _≡_ {A = ℕ} 0 1 = cc in absurd (omega arith)
 
 -- the same, where the text is refused
-pub refuses-text : {q : Request} (code m : List ℕ) (b : Bank) (i : ℕ) (j : Judgement) {a p : ℕ} {code′ : List ℕ}
+pub refuses-text : {q : Request} (tick : ℕ) (code m : List ℕ) (b : Bank) (i : ℕ) (j : Judgement) {a p : ℕ} {code′ : List ℕ}
     → q ≡ ofText code b i j → Coded.Refused a p ≡ codedAnswer j → code′ ≡ codedBytes code j
-    → Performs q m code (Refused a p) m code′
-refuses-text code m b i (accepted t) o e w = let z : _≡_ {A = ℕ} 0 1 = cc in absurd (omega arith)
-refuses-text code m b i (refused a p) o e w = rw o (cc, (refl, w))
+    → Performs tick q m code (Refused a p) m code′
+refuses-text tick code m b i (accepted t) o e w = let z : _≡_ {A = ℕ} 0 1 = cc in absurd (omega arith)
+refuses-text tick code m b i (refused a p) o e w = rw o (cc, (refl, w))
 
 -- a buffer with room leaves the judgement to the text
 pub with-room : (code s : List ℕ) → 16384 ≤ length code → compiling (length code) s ≡ judge s

@@ -5,14 +5,14 @@ use Prim.Native.Nat.{ℕ, _*_}
 use native.Mathlib.Omega.{arith}
 use lib.ListN.{length, take}
 use Rattle.memory.specs.declared.Bank.{Bank}
-use Rattle.memory.specs.Environment.{memoryOf}
+use Rattle.memory.specs.Environment.{memoryAt}
 use Rattle.memory.proofs.Runs.{run-written}
 use Rattle.grammar.specs.Tree.{Tree}
 use Rattle.text.specs.Judge.{accepted, judge}
 use Rattle.text.specs.Theorems.{AcceptedFormula}
 use Rattle.code.specs.Instructions.{instructions}
-use Rattle.machine.specs.Machine.{runs}
-use Rattle.verifier.proofs.Safe.{safe, memory-kinded}
+use Rattle.machine.specs.Machine.{runsAt}
+use Rattle.verifier.proofs.Safe.{safe}
 use Rattle.verifier.proofs.Verdicts.{verdict-laws}
 use Rattle.tree_code.specs.Code.{codeOf}
 use Rattle.compiler.specs.Compile.{codedBytes, encodeAll}
@@ -23,7 +23,7 @@ use Rattle.operations.specs.Operations.{runAnswer, runMemory, requestAns
 use Rattle.operations.specs.Terms.{compileAnswerOf, compiledCode, doneWith, Ready, Room, StoredOrFault}
 use Rattle.operations.specs.Promises.{run, compile-and-run, resultOf, Agree}
 use Rattle.operations.proofs.Verdicts.{accepted-by, named, Finishes}
-use Rattle.operations.proofs.Requests.{run-code, written}
+use Rattle.operations.proofs.Requests.{kinded, run-code, written}
 use Rattle.operations.proofs.Endings.{target-element, gives}
 use Rattle.operations.proofs.Texts.{is-formula, formula, the-tree}
 use Rattle.operations.proofs.Codes.{faithful}
@@ -32,9 +32,9 @@ use Rattle.operations.proofs.Codes.{faithful}
 front : (text code : List ℕ) (t : Tree) → judge text ≡ accepted t → Room code → take (8 * length (codeOf t)) (codedBytes code (accepted t)) ≡ encodeAll (codeOf t)
 front text code t q room =
     let size = encoded-length (codeOf t) in
-    rw (← size) (run-written code 0 (encodeAll (codeOf t)) (omega (arith, size, Compile.short text t q)))
+    rw (← size) (run-written code 0 (encodeAll (codeOf t)) (omega (arith, size, Compile.short 0 text t q)))
 
-module _ {target m : List ℕ} {b : Bank} {i : ℕ} (ready : Ready target m b i) where
+module _ {target m : List ℕ} {b : Bank} {i : ℕ} (tick : ℕ) (ready : Ready target m b i) where
   -- accepted code is run, and its value goes to the target
   the-goal : (code : List ℕ) (n : ℕ) → checkAnswer code n ≡ doneWith 0 → goal code n target m ≡ to b i
   the-goal code n e =
@@ -42,33 +42,33 @@ module _ {target m : List ℕ} {b : Bank} {i : ℕ} (ready : Ready target m b i)
       named code n target m (ready .memory) (ready .cell) (verdict-laws .exact (instructions code n) (a .0) .1 (a .1))
 
   module _ (code : List ℕ) (n : ℕ) (e : checkAnswer code n ≡ doneWith 0) where
-    finishes : Finishes m b i (runs code n m) (runAnswer code n target m) (runMemory code n target m)
-    finishes = let g = the-goal code n e in (ap (ranAnswer m (runs code n m)) g, ap (ranMemory m (runs code n m)) g)
+    finishes : Finishes m b i (runsAt tick code n m) (runAnswer tick code n target m) (runMemory tick code n target m)
+    finishes = let g = the-goal code n e in (ap (ranAnswer m (runsAt tick code n m)) g, ap (ranMemory m (runsAt tick code n m)) g)
 
-    pub runs-code : StoredOrFault m b i (runs code n m .count) (runs code n m .end) (runAnswer code n target m) (runMemory code n target m)
+    pub runs-code : StoredOrFault m b i (runsAt tick code n m .count) (runsAt tick code n m .end) (runAnswer tick code n target m) (runMemory tick code n target m)
     runs-code =
         let a = accepted-by code n e in
-        let w = safe .ends (memoryOf m) (instructions code n) (a .0) (memory-kinded m) (a .1) in
-        let x = runs code n m in
+        let w = safe .ends (memoryAt tick m) (instructions code n) (a .0) (kinded tick m) (a .1) in
+        let x = runsAt tick code n m in
         subst⁻¹ (λ g. StoredOrFault m b i (x .count) (x .end) (ranAnswer m x g) (ranMemory m x g)) (the-goal code n e)
         (gives m b i (x .count) (ready .memory) (target-element target (ready .cell)) w)
 
   agree : {text : List ℕ} {t : Tree} (desk box : List ℕ) {n : ℕ} → AcceptedFormula text t → Room box → compileAnswerOf text desk ≡ doneWith n
-      → Agree n (resultOf (run n) target m (compiledCode text desk)) (resultOf (compile-and-run text) target m box)
+      → Agree n (resultOf (run n tick) target m (compiledCode text desk)) (resultOf (compile-and-run text tick) target m box)
   agree {text} {t} desk box {n} a room e =
       let q = is-formula a in
       let w = written text desk q e in
       let kept = faithful desk a e in
       let f = finishes (compiledCode text desk) n (kept .accepted) in
-      let there = the-tree ready box room a in
-      let same : runs (compiledCode text desk) n m ≡ runs (codedBytes box (accepted t)) (length (codeOf t)) m =
-      rw (w .bytes, ← w .count) (run-code text t q m desk (w .room) ∙ sym (run-code text t q m box room)) in
+      let there = the-tree tick ready box room a in
+      let same : runsAt tick (compiledCode text desk) n m ≡ runsAt tick (codedBytes box (accepted t)) (length (codeOf t)) m =
+      rw (w .bytes, ← w .count) (run-code text t q tick m desk (w .room) ∙ sym (run-code text t q tick m box room)) in
       record {
-        answer = f .0 ∙ ap₂ (finished m b i) (kept .same m) (ap (λ x. x .count) same) ∙ ap (requestAnswer m) (sym there);
-        memory = f .1 ∙ ap (memoryAfter m b i) (kept .same m) ∙ ap (requestMemory m) (sym there);
+        answer = f .0 ∙ ap₂ (finished m b i) (kept .same tick m) (ap (λ x. x .count) same) ∙ ap (requestAnswer tick m) (sym there);
+        memory = f .1 ∙ ap (memoryAfter m b i) (kept .same tick m) ∙ ap (requestMemory tick m) (sym there);
         code = rw (there, w .bytes, ← w .count) (front text desk t q (w .room) ∙ sym (front text box t q room));
       }
 
   pub desk-and-box : (text desk box : List ℕ) {n : ℕ} → Room box → compileAnswerOf text desk ≡ doneWith n
-      → Agree n (resultOf (run n) target m (compiledCode text desk)) (resultOf (compile-and-run text) target m box)
+      → Agree n (resultOf (run n tick) target m (compiledCode text desk)) (resultOf (compile-and-run text tick) target m box)
   desk-and-box text desk box room e = agree desk box (formula text desk e .1) room e

@@ -6,15 +6,14 @@ use Prim.Native.Nat.{ℕ, _≤_}
 use native.Mathlib.Omega.{arith}
 use lib.ListN.{length}
 use Rattle.memory.specs.declared.Bank.{Bank}
-use Rattle.memory.specs.Environment.{memoryOf}
+use Rattle.memory.specs.Environment.{memoryAt}
 use Rattle.grammar.specs.Tree.{Tree}
 use Rattle.grammar.specs.Eval.{eval}
 use Rattle.text.specs.Judge.{Judgement, accepted, refused, judge}
 use Rattle.text.specs.Theorems.{AcceptedFormula}
 use Rattle.text.proofs.Theorems.{text-theorems}
 use Rattle.machine.specs.declared.Ended.{Ended}
-use Rattle.machine.specs.Machine.{runs, endOf}
-use Rattle.verifier.proofs.Safe.{memory-kinded}
+use Rattle.machine.specs.Machine.{runsAt, endOf}
 use Rattle.tree_code.specs.Code.{codeOf}
 use Rattle.compiler.specs.Compile.{codedBytes}
 use Rattle.compiler.proofs.Theorems.{compile-theorems}
@@ -24,7 +23,7 @@ use Rattle.operations.specs.Operations.{compileAnswer, ofText, request, 
 use Rattle.operations.specs.Terms.{compileAnswerOf, compiledCode, doneWith, answerNumber, Refusal, Ready, Room, StoredOrFault, stored, unstored, stopped}
 use Rattle.operations.proofs.Numbers.{Numbered, three-to-nine, numbered, no-fault}
 use Rattle.operations.proofs.Endings.{target-element, ends-well, gives}
-use Rattle.operations.proofs.Requests.{named, with-room, has-room, written}
+use Rattle.operations.proofs.Requests.{kinded, named, with-room, has-room, written}
 
 pub is-formula : {text : List ℕ} {t : Tree} → AcceptedFormula text t → judge text ≡ accepted t
 is-formula {text} {t} a = text-theorems .accepts text t .1 a
@@ -53,7 +52,7 @@ no-refusal (stopped {f}) x = no-fault f (x .1) refl
 pub formula : (text code : List ℕ) {n : ℕ} → compileAnswerOf text code ≡ doneWith n → (t : Tree) × AcceptedFormula text t
 formula text code e = compiles text code (has-room code text e) .0 (ap answerNumber e)
 
-module _ {target m : List ℕ} {b : Bank} {i : ℕ} (ready : Ready target m b i) where
+module _ {target m : List ℕ} {b : Bank} {i : ℕ} (tick : ℕ) (ready : Ready target m b i) where
   the-text : (text code : List ℕ) → Room code → request target text m code ≡ ofText code b i (judge text)
   the-text text code room = named target text m code (ready .memory) room (ready .cell)
 
@@ -61,20 +60,20 @@ module _ {target m : List ℕ} {b : Bank} {i : ℕ} (ready : Ready target m b i)
   the-tree {text} code room a = the-text text code room ∙ ap (ofText code b i) (is-formula a)
 
   pub answers : {text : List ℕ} {t : Tree} {n : ℕ} (code : List ℕ) → AcceptedFormula text t → compileAnswerOf text code ≡ doneWith n
-      → StoredOrFault m b i (runs (compiledCode text code) n m .count) (endOf (eval (memoryOf m) t))
-      (requestAnswer m (request target text m code)) (requestMemory m (request target text m code))
+      → StoredOrFault m b i (runsAt tick (compiledCode text code) n m .count) (endOf (eval (memoryAt tick m) t))
+      (requestAnswer tick m (request target text m code)) (requestMemory tick m (request target text m code))
   answers {text} {t} code a e =
       let w = written text code (is-formula a) e in
-      let kind = compile-theorems .demand text t (is-formula a) .kind (memoryOf m) (memory-kinded m) in
+      let kind = compile-theorems .demand text t (is-formula a) .kind (memoryAt tick m) (kinded tick m) in
       rw (the-tree code (w .room) a, w .bytes, ← w .count) (gives m b i _ (ready .memory) (target-element target (ready .cell)) (ends-well kind))
 
-  pub performs : (text code : List ℕ) → Room code → (Refusal (answerNumber (requestAnswer m (request target text m code))) → ⊥) ↔ ((t : Tree) × AcceptedFormula text t)
+  pub performs : (text code : List ℕ) → Room code → (Refusal (answerNumber (requestAnswer tick m (request target text m code))) → ⊥) ↔ ((t : Tree) × AcceptedFormula text t)
   performs text code room = (rw (the-text text code room) (only (judge text) refl), λ x. no-refusal (answers code (x .1) (taken (x .1))))
     where
       taken : {t : Tree} → AcceptedFormula text t → compileAnswerOf text code ≡ doneWith (length (codeOf t))
       taken a = ap compileAnswer (with-room code text room ∙ is-formula a)
 
-      only : (j : Judgement) → judge text ≡ j → (Refusal (answerNumber (requestAnswer m (ofText code b i j))) → ⊥) → (t : Tree) × AcceptedFormula text t
+      only : (j : Judgement) → judge text ≡ j → (Refusal (answerNumber (requestAnswer tick m (ofText code b i j))) → ⊥) → (t : Tree) × AcceptedFormula text t
       only (accepted t) q e = (t, text-theorems .accepts text t .0 q)
       only (refused a p) q e = absurd (let h = low text q in e (omega arith, inl (omega arith)))
 
@@ -86,9 +85,9 @@ module _ {target m : List ℕ} {b : Bank} {i : ℕ} (ready : Ready target m b i)
       by (refused a p) = refl
 
   pub same-refusal : (text desk box : List ℕ) {a p : ℕ} → Room desk → Room box → compileAnswerOf text desk ≡ Refused a p
-      → requestAnswer m (request target text m box) ≡ Refused a p
+      → requestAnswer tick m (request target text m box) ≡ Refused a p
   same-refusal text desk box {a} {p} here there e = rw (the-text text box there) (by (judge text) (ap compileAnswer (sym (with-room desk text here)) ∙ e))
     where
-      by : (j : Judgement) → compileAnswer j ≡ Refused a p → requestAnswer m (ofText box b i j) ≡ Refused a p
+      by : (j : Judgement) → compileAnswer j ≡ Refused a p → requestAnswer tick m (ofText box b i j) ≡ Refused a p
       by (accepted t) e = let z : _≡_ {A = ℕ} 0 1 = cc in absurd (omega arith)
       by (refused c d) e = e

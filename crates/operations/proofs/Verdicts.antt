@@ -15,7 +15,7 @@ use Rattle.memory.specs.Layout.{imageSize}
 use Rattle.memory.specs.Names.{targetRule}
 use Rattle.code.specs.Instructions.{instructions}
 use Rattle.machine.specs.declared.Ran.{Ran}
-use Rattle.machine.specs.Machine.{runs}
+use Rattle.machine.specs.Machine.{runsAt}
 use Rattle.verifier.specs.declared.Verdict.{Verdict}
 use Rattle.verifier.specs.declared.Verdict.the-variants as Verdict
 use Rattle.verifier.specs.Accepts.{Accepts, CorrectVerdict}
@@ -80,16 +80,16 @@ abbrev pub Finishes : List ℕ → Bank → ℕ → Ran → Answer → List ℕ 
 Finishes m b i x r m′ = (r ≡ finished m b i (x .end) (x .count)) × (m′ ≡ memoryAfter m b i (x .end))
 
 -- r and m′ are what run gives
-abbrev Runs : List ℕ → ℕ → List ℕ → List ℕ → List ℕ → Answer → Type 0
-Runs code n target m m′ r = (r ≡ runAnswer code n target m) × (m′ ≡ runMemory code n target m)
+abbrev Runs : ℕ → List ℕ → ℕ → List ℕ → List ℕ → List ℕ → Answer → Type 0
+Runs tick code n target m m′ r = (r ≡ runAnswer tick code n target m) × (m′ ≡ runMemory tick code n target m)
 
-module _ (code : List ℕ) (n : ℕ) (target m : List ℕ) where
-  pub refuses : {a : ℕ} → goal code n target m ≡ none a → Runs code n target m m (Refused a 0)
-  refuses e = (ap (ranAnswer m (runs code n m)) (sym e), ap (ranMemory m (runs code n m)) (sym e))
+module _ (tick : ℕ) (code : List ℕ) (n : ℕ) (target m : List ℕ) where
+  pub refuses : {a : ℕ} → goal code n target m ≡ none a → Runs tick code n target m m (Refused a 0)
+  refuses e = (ap (ranAnswer m (runsAt tick code n m)) (sym e), ap (ranMemory m (runsAt tick code n m)) (sym e))
 
-  pub after-run : {m′ : List ℕ} {b : Bank} {i : ℕ} {r : Answer} {x : Ran} → goal code n target m ≡ to b i → x ≡ runs code n m
-      → Finishes m b i x r m′ → Runs code n target m m′ r
+  pub after-run : {m′ : List ℕ} {b : Bank} {i : ℕ} {r : Answer} {x : Ran} → goal code n target m ≡ to b i → x ≡ runsAt tick code n m
+      → Finishes m b i x r m′ → Runs tick code n target m m′ r
   after-run {b = b} {i = i} g e h = (
-    h .0 ∙ ap (λ x. finished m b i (x .end) (x .count)) e ∙ ap (ranAnswer m (runs code n m)) (sym g),
-    h .1 ∙ ap (λ x. memoryAfter m b i (x .end)) e ∙ ap (ranMemory m (runs code n m)) (sym g),
+    h .0 ∙ ap (λ x. finished m b i (x .end) (x .count)) e ∙ ap (ranAnswer m (runsAt tick code n m)) (sym g),
+    h .1 ∙ ap (λ x. memoryAfter m b i (x .end)) e ∙ ap (ranMemory m (runsAt tick code n m)) (sym g),
   )

@@ -17,7 +17,7 @@ use Rattle.memory.specs.declared.store.Stored.the-variants as Stored
 use Rattle.memory.specs.Layout.{imageSize}
 use Rattle.memory.specs.Names.{targetRule}
 use Rattle.memory.specs.Store.{withFlag, storeAnswer, storeImage}
-use Rattle.memory.specs.Environment.{memoryOf}
+use Rattle.memory.specs.Environment.{memoryAt}
 use Rattle.grammar.specs.Tree.{Tree}
 use Rattle.grammar.specs.Eval.{eval}
 use Rattle.text.specs.Judge.{Judgement, accepted, refused, judge}
@@ -25,7 +25,7 @@ use Rattle.code.specs.Instructions.{instructions}
 use Rattle.machine.specs.declared.Ended.{Ended}
 use Rattle.machine.specs.declared.Ended.the-variants as Ended
 use Rattle.machine.specs.declared.Ran.{Ran}
-use Rattle.machine.specs.Machine.{runs, endOf}
+use Rattle.machine.specs.Machine.{runsAt, endOf}
 use Rattle.verifier.specs.declared.Verdict.{Verdict}
 use Rattle.verifier.specs.declared.Verdict.the-variants as Verdict
 use Rattle.verifier.specs.Verdicts.{verdict}
@@ -101,11 +101,12 @@ abbrev pub ranMemory : List ℕ → Ran → Goal → List ℕ
 ranMemory m x (to b i) = memoryAfter m b i (x .end)
 ranMemory m x (none a) = m
 
-abbrev pub runAnswer : List ℕ → ℕ → List ℕ → List ℕ → Answer
-runAnswer code n target m = ranAnswer m (runs code n m) (goal code n target m)
+-- paper 02: "The tick is an input wherever a value is worked out .., the same throughout"
+abbrev pub runAnswer : ℕ → List ℕ → ℕ → List ℕ → List ℕ → Answer
+runAnswer tick code n target m = ranAnswer m (runsAt tick code n m) (goal code n target m)
 
-abbrev pub runMemory : List ℕ → ℕ → List ℕ → List ℕ → List ℕ
-runMemory code n target m = ranMemory m (runs code n m) (goal code n target m)
+abbrev pub runMemory : ℕ → List ℕ → ℕ → List ℕ → List ℕ → List ℕ
+runMemory tick code n target m = ranMemory m (runsAt tick code n m) (goal code n target m)
 
 -- compile and run: the cell, the formula's tree and its code, the buffer as written and the number of instructions; or the first refusal in the order
 -- 1, 10, 2, 3 to 9
@@ -125,13 +126,13 @@ abbrev pub request : List ℕ → List ℕ → List ℕ → List ℕ → Request
 request target text m code = cond (eqb (length m) imageSize) (cond (ltb (length code) 16384) (stops 10 0) (ofTarget text code (targetRule target))) (stops 1 0)
 
 -- "Its answer, or its fault, is the one that the written rules give" for the tree; the count is that of a run of the code
-abbrev pub requestAnswer : List ℕ → Request → Answer
-requestAnswer m (stores b i t code n) = finished m b i (endOf (eval (memoryOf m) t)) (runs code n m .count)
-requestAnswer m (stops a p) = Refused a p
+abbrev pub requestAnswer : ℕ → List ℕ → Request → Answer
+requestAnswer tick m (stores b i t code n) = finished m b i (endOf (eval (memoryAt tick m) t)) (runsAt tick code n m .count)
+requestAnswer tick m (stops a p) = Refused a p
 
-abbrev pub requestMemory : List ℕ → Request → List ℕ
-requestMemory m (stores b i t code n) = memoryAfter m b i (endOf (eval (memoryOf m) t))
-requestMemory m (stops a p) = m
+abbrev pub requestMemory : ℕ → List ℕ → Request → List ℕ
+requestMemory tick m (stores b i t code n) = memoryAfter m b i (endOf (eval (memoryAt tick m) t))
+requestMemory tick m (stops a p) = m
 
 -- "Compile-and-run writes the code on 0 and on 11 to 14"
 abbrev pub requestCode : List ℕ → Request → List ℕ

@@ -1,4 +1,4 @@
--- The sheet of sums of paper 01, "Proved: these twelve, as one list under one claim": each compiled and run on a memory whose cells hold something else,
+-- The sheet of sums of paper 01, "Proved: these twelve, as one list under one claim": each compiled and run at tick 0 on a memory whose cells hold something else,
 -- with the value that is returned, before the store, and what the cell reads after it. proofs/Sheet.antt proves `Sums sheet`.
 use mathlib.Core.Path.{_≡_}
 use mathlib.Core.List.{List, [], _∷_}
@@ -15,7 +15,7 @@ use Rattle.values.specs.declared.Outcome.{Outcome}
 use Rattle.values.specs.declared.Outcome.the-variants.{Done}
 use Rattle.memory.specs.declared.Bank.{Bank}
 use Rattle.memory.specs.declared.Bank.the-variants.{«V», N, D, R}
-use Rattle.memory.specs.Environment.{memoryOf}
+use Rattle.memory.specs.Environment.{memoryAt}
 use Rattle.operations.specs.Operations.{reportOf, Request, request, requestAnswer, requestMemory}
 
 -- every byte is 1, so that no cell holds beforehand what is stored to it
@@ -38,12 +38,12 @@ pub record Effect : Type 0 where
 
 abbrev pub effect : Bank → Request → Effect
 effect b q =
-    let r = reportOf (requestAnswer ones q) in
-    record { answer = r .answer; value = r .value; cell = memoryOf (requestMemory ones q) .cell b 0 }
+    let r = reportOf (requestAnswer 0 ones q) in
+    record { answer = r .answer; value = r .value; cell = memoryAt 0 (requestMemory 0 ones q) .cell b 0 }
 
 abbrev pub SumHolds : Sum → Type 0
 SumHolds (is target text b v w) = effect b (asked target text) ≡ record { answer = 0; value = v; cell = Done w }
-SumHolds (gets target text a) = reportOf (requestAnswer ones (asked target text)) .answer ≡ a
+SumHolds (gets target text a) = reportOf (requestAnswer 0 ones (asked target text)) .answer ≡ a
 
 abbrev pub Sums : List Sum → Type 0
 Sums [] = Unit {0}

@@ -18,11 +18,11 @@ use Rattle.memory.specs.declared.store.Encoded.the-variants as Encoded
 use Rattle.memory.specs.Layout.{imageSize, layoutOf, cellAt, flagAt}
 use Rattle.memory.specs.Names.{targetRule}
 use Rattle.memory.specs.Store.{encodeCell}
-use Rattle.memory.specs.Environment.{memoryOf}
+use Rattle.memory.specs.Environment.{memoryAt}
 use Rattle.code.specs.Instructions.{instructions}
 use Rattle.machine.specs.declared.Ended.{Ended}
 use Rattle.machine.specs.declared.Ended.the-variants as Ended
-use Rattle.machine.specs.Machine.{runs}
+use Rattle.machine.specs.Machine.{runsAt}
 use Rattle.verifier.specs.Stack.{StackSafe}
 use Rattle.verifier.specs.Safety.{EndsWell}
 use Rattle.compiler.specs.Compile.{compiling, codedBytes}
@@ -69,9 +69,9 @@ pub data StoredOrFault (m : List ℕ) (b : Bank) (i n : ℕ) : Ended → Answer 
 abbrev pub Finite : Ended → Type 0
 Finite e = (v : Value) → e ≡ Ended.Done v → Proper v
 
--- n instructions of the code, whatever the memory holds: they end with a value of the kind k or a fault, so many are begun at most, and no moment is short of
+-- n instructions of the code, whatever the memory holds and whatever the tick: they end with a value of the kind k or a fault, so many are begun at most, and no moment is short of
 -- a value or holds more than 128
 pub record Ends (code : List ℕ) (n most : ℕ) (k : Kind) : Type 0 where
-  pub well : (m : List ℕ) → EndsWell k (runs code n m .end)
-  pub quick : (m : List ℕ) → runs code n m .count ≤ most
-  pub stack : (m : List ℕ) → StackSafe (memoryOf m) (instructions code n) k
+  pub well : (tick : ℕ) (m : List ℕ) → EndsWell k (runsAt tick code n m .end)
+  pub quick : (tick : ℕ) (m : List ℕ) → runsAt tick code n m .count ≤ most
+  pub stack : (tick : ℕ) (m : List ℕ) → StackSafe (memoryAt tick m) (instructions code n) k

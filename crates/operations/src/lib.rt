@@ -104,9 +104,10 @@ fn finish(memory: &mut [u8], bank: Bank, element: u32, ran: Ran) -> Answer
     }
 }
 
-pub fn run(code: &[u8], n: usize, memory: &mut [u8], target: &[u8]) -> Answer
-    ensures { λ r. ⌜ r ≡ runAnswer (now (code .entry)) n (now (target .entry)) (now (memory .entry)) ⌝ }
-    ensures { λ r. ⌜ now (memory .exit) ≡ runMemory (now (code .entry)) n (now (target .entry)) (now (memory .entry)) ⌝ }
+// The tick is the caller's, the same throughout.
+pub fn run(code: &[u8], n: usize, memory: &mut [u8], target: &[u8], tick: u32) -> Answer
+    ensures { λ r. ⌜ r ≡ runAnswer tick (now (code .entry)) n (now (target .entry)) (now (memory .entry)) ⌝ }
+    ensures { λ r. ⌜ now (memory .exit) ≡ runMemory tick (now (code .entry)) n (now (target .entry)) (now (memory .entry)) ⌝ }
 {
     if memory.len() != memory::IMAGE_SIZE {
         return Answer::Refused(1, 0);
@@ -117,14 +118,20 @@ pub fn run(code: &[u8], n: usize, memory: &mut [u8], target: &[u8]) -> Answer
     let Verdict::Accepted(_) = verifier::check(code, n) else {
         return Answer::Refused(15, 0);
     };
-    let ran = machine::run(code, n, memory, machine::FIRST_TICK);
+    let ran = machine::run(code, n, memory, tick);
     finish(memory, bank, element, ran)
 }
 
 // Compiled code is accepted by the check, as is proved, so it is run without one.
-pub fn compile_and_run(target: &[u8], text: &[u8], memory: &mut [u8], code: &mut [u8]) -> Answer
-    ensures { λ r. ⌜ r ≡ requestAnswer (now (memory .entry)) (request (now (target .entry)) (now (text .entry)) (now (memory .entry)) (now (code .entry))) ⌝ }
-    ensures { λ r. ⌜ now (memory .exit) ≡ requestMemory (now (memory .entry)) (request (now (target .entry)) (now (text .entry)) (now (memory .entry)) (now (code .entry))) ⌝ }
+pub fn compile_and_run(
+    target: &[u8],
+    text: &[u8],
+    memory: &mut [u8],
+    code: &mut [u8],
+    tick: u32,
+) -> Answer
+    ensures { λ r. ⌜ r ≡ requestAnswer tick (now (memory .entry)) (request (now (target .entry)) (now (text .entry)) (now (memory .entry)) (now (code .entry))) ⌝ }
+    ensures { λ r. ⌜ now (memory .exit) ≡ requestMemory tick (now (memory .entry)) (request (now (target .entry)) (now (text .entry)) (now (memory .entry)) (now (code .entry))) ⌝ }
     ensures { λ r. ⌜ now (code .exit) ≡ requestCode (now (code .entry)) (request (now (target .entry)) (now (text .entry)) (now (memory .entry)) (now (code .entry))) ⌝ }
 {
     if memory.len() != memory::IMAGE_SIZE {
@@ -138,7 +145,7 @@ pub fn compile_and_run(target: &[u8], text: &[u8], memory: &mut [u8], code: &mut
     };
     match compiler::compile(text, code) {
         Coded::Done(count) => {
-            let ran = machine::run(code, count, memory, machine::FIRST_TICK);
+            let ran = machine::run(code, count, memory, tick);
             finish(memory, bank, element, ran)
         }
         Coded::Refused(a, p) => Answer::Refused(a, p),

@@ -69,19 +69,19 @@ module _ (Q : Value → Type 0) (closed : Closed Q) where
   power (Real x) (Real y) t q = absurd t
 
   -- ---- patterns
-  signed : (n : ℕ) → Q (Int (signedOf 32 n))
-  signed n = closed .ranged (signedOf 32 n) (signed-range n)
+  pub of-pattern : (n : ℕ) → Q (Int (signedOf 32 n))
+  of-pattern n = closed .ranged (signedOf 32 n) (signed-range n)
 
   pub bits : (o : BitOp) (a b : ℤ) → Gives Q K.Int (Done (Int (bitwiseInt o a b)))
-  bits o a b = int (bitwiseInt o a b) (signed (fromDigits 32 (λ i. digitOf o (digit (lowBits 32 a) i) (digit (lowBits 32 b) i))))
+  bits o a b = int (bitwiseInt o a b) (of-pattern (fromDigits 32 (λ i. digitOf o (digit (lowBits 32 a) i) (digit (lowBits 32 b) i))))
 
   pub complement : (a : ℤ) → Gives Q K.Int (Done (Int (complementInt a)))
-  complement a = int (complementInt a) (signed (fromDigits 32 (λ i. 1 - digit (lowBits 32 a) i)))
+  complement a = int (complementInt a) (of-pattern (fromDigits 32 (λ i. 1 - digit (lowBits 32 a) i)))
 
   moved : (o : ShiftOp) (a : ℤ) (s : ℕ) → Q (Int a) → Q (Int (shifted o a s))
-  moved Left a s q = signed (lowBits 32 a * 2 ^ s % 2 ^ 32)
+  moved Left a s q = of-pattern (lowBits 32 a * 2 ^ s % 2 ^ 32)
   moved Right a s q = closed .shifted a s q
-  moved RightZero a s q = signed (lowBits 32 a / 2 ^ s)
+  moved RightZero a s q = of-pattern (lowBits 32 a / 2 ^ s)
 
   pub shift : (o : ShiftOp) (a s : ℤ) → Q (Int a) → Gives Q K.Int (shiftInt o a s)
   shift o a s q = picked (Gives Q K.Int) (between (pos 0) (pos 31) s) _ _ (λ e. int _ (moved o a (natAbs s) q)) (stopped K.Int OutOfRange)

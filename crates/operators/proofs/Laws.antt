@@ -10,11 +10,12 @@ use Rattle.values.specs.declared.Outcome.{Outcome}
 use Rattle.values.specs.declared.Outcome.the-variants.{WrongKind}
 use Rattle.values.specs.Values.{kindOf}
 use Rattle.operators.specs.Operators.{branchRule}
-use Rattle.operators.specs.Kinds.{join, unaryTakes, binaryTakes}
+use Rattle.operators.specs.Kinds.{isInt, join, unaryTakes, binaryTakes}
 use Rattle.operators.specs.Laws.{Proper, OfKind, AllProper, RuleLaws}
 use Rattle.operators.proofs.Gives.{Gives, int, real, stopped, Closed, real-of}
-use Rattle.operators.proofs.Operators.{unary-gives, binary-gives}
-use Rattle.operators.proofs.Wrong.{unary-wrong, binary-wrong}
+use Rattle.operators.proofs.Operators.{unary-gives, since-gives, binary-gives}
+use Rattle.operators.proofs.Wrong.{unary-wrong, since-wrong, binary-wrong}
+use Rattle.operators.proofs.Classes.{of-pattern}
 use Rattle.operators.proofs.Properness.{proper-closed}
 use Rattle.operators.proofs.Positions.{index-below-zero, index-zero, index-element}
 
@@ -64,9 +65,13 @@ rule-laws = record {
   unary-wrong = unary-wrong;
   binary-kind = λ o a b t. of-kind _ _ (binary-gives Any any-closed o a b t tt tt);
   binary-wrong = binary-wrong;
+  since-kind = λ t v h. of-kind _ _ (since-gives Any any-closed t v h);
+  since-wrong = since-wrong;
   branch-kind = branch-kind;
   unary-proper = λ o v p. taken-or-not _ _ (unaryTakes o (kindOf v)) (λ t. unary-gives Proper proper-closed o v t p) (unary-wrong o v);
   binary-proper = λ o a b p q. taken-or-not _ _ (binaryTakes o (kindOf a) (kindOf b)) (λ t. binary-gives Proper proper-closed o a b t p q) (binary-wrong o a b);
+  since-proper = λ t v. taken-or-not _ _ (isInt (kindOf v)) (since-gives Proper proper-closed t v) (since-wrong t v);
+  tick-proper = of-pattern Proper proper-closed;
   branch-proper = branch-proper;
   index-below-zero = index-below-zero;
   index-zero = index-zero;

@@ -2,7 +2,7 @@
 use mathlib.Core.Bool.{not}
 use Prim.Native.Nat.{ℕ, _+_, _*_, _/_, _^_}
 use lib.Dec.{T}
-use lib.IntN.{pos, negℤ, natAbs}
+use lib.IntN.{pos, negℤ, natAbs, _-ℤ_}
 use lib.Ieee.Scale.{finite}
 use Rattle.reals.specs.declared.ArithOp.the-variants.{Rem}
 use Rattle.reals.specs.Singles.{negative, unitCount, signed}
@@ -15,17 +15,17 @@ use Rattle.values.specs.declared.Cut.{Cut}
 use Rattle.values.specs.declared.Cut.the-variants.{Whole, Outside}
 use Rattle.values.specs.Values.{kindOf}
 use Rattle.values.specs.Integers.{inRange, intArith, choiceInt}
-use Rattle.values.specs.Patterns.{shiftInt, bitwiseInt}
+use Rattle.values.specs.Patterns.{lowBits, shiftInt, bitwiseInt, sinceInt}
 use Rattle.values.specs.Singles.{oneReal, realNeg, realAbs, realArith, choiceReal}
 use Rattle.values.specs.Convert.{cut, cutBy}
 use Rattle.operators.specs.declared.BinaryOp.{BinaryOp}
 use Rattle.operators.specs.declared.BinaryOp.the-variants.{Arith, Power, Shift, Compare, Bits, Choice}
 use Rattle.operators.specs.declared.UnaryOp.{UnaryOp}
 use Rattle.operators.specs.declared.UnaryOp.the-variants.{Neg, Complement, Not, Abs, ToReal, Trunc, Round, Frac}
-use Rattle.operators.specs.Operators.{asReal, compareRule, truthRule, cutOutcome, cutting, unaryRule, binaryRule}
-use Rattle.operators.specs.Kinds.{unaryKind, unaryTakes, binaryKind, binaryTakes}
+use Rattle.operators.specs.Operators.{asReal, compareRule, truthRule, cutOutcome, cutting, unaryRule, sinceRule, binaryRule}
+use Rattle.operators.specs.Kinds.{isInt, unaryKind, unaryTakes, binaryKind, binaryTakes}
 use Rattle.operators.proofs.Gives.{Gives, int, real, stopped, Closed, picked, exact-gives, real-of, promoting-gives, on-ints-gives}
-use Rattle.operators.proofs.Classes.{int-arith, real-arith, power, bits, complement, shift, truth, choice-ints, choice-reals}
+use Rattle.operators.proofs.Classes.{int-arith, real-arith, power, of-pattern, bits, complement, shift, truth, choice-ints, choice-reals}
 
 module _ (Q : Value → Type 0) (closed : Closed Q) where
   cutting-gives : (f : ℕ → ℕ) (v : Value) → Q v → Gives Q K.Int (cutting (cutBy f) v)
@@ -48,6 +48,10 @@ module _ (Q : Value → Type 0) (closed : Closed Q) where
   unary-gives Trunc v t q = cutting-gives (λ n. n / 2 ^ 149) v q
   unary-gives Round v t q = cutting-gives (λ n. (2 * n + 2 ^ 149) / (2 * 2 ^ 149)) v q
   unary-gives Frac v t q = real-arith Q closed Rem (asReal v) oneReal (real-of Q closed v q) (closed .unit)
+
+  pub since-gives : (t : ℕ) (v : Value) → T (isInt (kindOf v)) → Gives Q K.Int (sinceRule t v)
+  since-gives t (Int z) h = int (sinceInt t z) (of-pattern Q closed (lowBits 32 (pos t -ℤ z)))
+  since-gives t (Real x) h = absurd h
 
   pub binary-gives : (o : BinaryOp) (a b : Value) → T (binaryTakes o (kindOf a) (kindOf b)) → Q a → Q b → Gives Q (binaryKind o (kindOf a) (kindOf b)) (binaryRule o a b)
   binary-gives (Arith o) a b t p q =

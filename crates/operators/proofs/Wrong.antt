@@ -1,6 +1,7 @@
 -- A rule of whose operands' kinds one is not taken gives `WrongKind`.
 use mathlib.Core.Path.{_≡_, refl}
 use mathlib.Core.Bool.{false, _&&_, true≢false}
+use Prim.Native.Nat.{ℕ}
 use lib.IntN.{ℤ}
 use Rattle.values.specs.declared.Value.{Value}
 use Rattle.values.specs.declared.Value.the-variants.{Int, Real}
@@ -12,7 +13,7 @@ use Rattle.operators.specs.declared.BinaryOp.{BinaryOp}
 use Rattle.operators.specs.declared.BinaryOp.the-variants.{Arith, Power, Shift, Compare, Bits, Choice}
 use Rattle.operators.specs.declared.UnaryOp.{UnaryOp}
 use Rattle.operators.specs.declared.UnaryOp.the-variants.{Neg, Complement, Not, Abs, ToReal, Trunc, Round, Frac}
-use Rattle.operators.specs.Operators.{onInts, unaryRule, binaryRule}
+use Rattle.operators.specs.Operators.{onInts, unaryRule, sinceRule, binaryRule}
 use Rattle.operators.specs.Kinds.{isInt, unaryTakes, binaryTakes}
 
 on-ints-wrong : (f : ℤ → ℤ → Outcome) (a b : Value) → (isInt (kindOf a) && isInt (kindOf b)) ≡ false → onInts f a b ≡ WrongKind
@@ -30,6 +31,10 @@ unary-wrong ToReal v e = absurd (true≢false e)
 unary-wrong Trunc v e = absurd (true≢false e)
 unary-wrong Round v e = absurd (true≢false e)
 unary-wrong Frac v e = absurd (true≢false e)
+
+pub since-wrong : (t : ℕ) (v : Value) → isInt (kindOf v) ≡ false → sinceRule t v ≡ WrongKind
+since-wrong t (Int z) e = absurd (true≢false e)
+since-wrong t (Real x) e = refl
 
 pub binary-wrong : (o : BinaryOp) (a b : Value) → binaryTakes o (kindOf a) (kindOf b) ≡ false → binaryRule o a b ≡ WrongKind
 binary-wrong (Arith o) a b e = absurd (true≢false e)

@@ -8,6 +8,7 @@ use lib.Signed.{ltZ}
 use lib.Ieee.{Float}
 use Rattle.reals.specs.Singles.{Single, signedUnits}
 use Rattle.values.specs.declared.Kind.{Kind}
+use Rattle.values.specs.declared.Kind.the-variants as K
 use Rattle.values.specs.declared.Value.{Value}
 use Rattle.values.specs.declared.Value.the-variants.{Int, Real}
 use Rattle.values.specs.declared.Fault.{Fault}
@@ -16,11 +17,12 @@ use Rattle.values.specs.declared.Outcome.{Outcome}
 use Rattle.values.specs.declared.Outcome.the-variants.{Done, Stopped, WrongKind}
 use Rattle.values.specs.Values.{kindOf}
 use Rattle.values.specs.Integers.{inRange}
+use Rattle.values.specs.Patterns.{signedOf}
 use Rattle.operators.specs.declared.Position.the-variants as P
 use Rattle.operators.specs.declared.BinaryOp.{BinaryOp}
 use Rattle.operators.specs.declared.UnaryOp.{UnaryOp}
-use Rattle.operators.specs.Operators.{unaryRule, binaryRule, branchRule, indexRule}
-use Rattle.operators.specs.Kinds.{join, unaryKind, unaryTakes, binaryKind, binaryTakes}
+use Rattle.operators.specs.Operators.{unaryRule, sinceRule, binaryRule, branchRule, indexRule}
+use Rattle.operators.specs.Kinds.{isInt, join, unaryKind, unaryTakes, binaryKind, binaryTakes}
 
 -- a value that a memory or a formula can hold: an integer of 32 bits or a finite single
 pub data Proper : Value → Type 0 where
@@ -44,10 +46,14 @@ pub record RuleLaws : Type 0 where
   pub unary-wrong : (o : UnaryOp) (v : Value) → unaryTakes o (kindOf v) ≡ false → unaryRule o v ≡ WrongKind
   pub binary-kind : (o : BinaryOp) (a b : Value) → T (binaryTakes o (kindOf a) (kindOf b)) → OfKind (binaryKind o (kindOf a) (kindOf b)) (binaryRule o a b)
   pub binary-wrong : (o : BinaryOp) (a b : Value) → binaryTakes o (kindOf a) (kindOf b) ≡ false → binaryRule o a b ≡ WrongKind
+  pub since-kind : (t : ℕ) (v : Value) → T (isInt (kindOf v)) → OfKind K.Int (sinceRule t v)
+  pub since-wrong : (t : ℕ) (v : Value) → isInt (kindOf v) ≡ false → sinceRule t v ≡ WrongKind
   pub branch-kind : (v : Value) (k : Kind) → kindOf (branchRule v k) ≡ join (kindOf v) k
   -- of proper values: integers stay in 32 bits, and no rule gives an infinity or a NaN
   pub unary-proper : (o : UnaryOp) (v : Value) → Proper v → AllProper (unaryRule o v)
   pub binary-proper : (o : BinaryOp) (a b : Value) → Proper a → Proper b → AllProper (binaryRule o a b)
+  pub since-proper : (t : ℕ) (v : Value) → AllProper (sinceRule t v)
+  pub tick-proper : (t : ℕ) → Proper (Int (signedOf 32 t))
   pub branch-proper : (v : Value) (k : Kind) → Proper v → Proper (branchRule v k)
   -- of n elements, a single below zero names none, both zeros name the first, and an element that is named is one of them
   pub index-below-zero : (n : ℕ) (x : Float) → Single x → T (ltZ (signedUnits x) (pos 0)) → indexRule n (Real x) ≡ P.Stopped IndexError

@@ -22,7 +22,7 @@ use Rattle.values.specs.declared.CompareOp.{CompareOp}
 use Rattle.values.specs.declared.CompareOp.the-variants.{Lt, Ne}
 use Rattle.values.specs.declared.ChoiceOp.{ChoiceOp}
 use Rattle.values.specs.Integers.{exactInt, intArith, compareInt, choiceInt, intPower}
-use Rattle.values.specs.Patterns.{bitwiseInt, complementInt, shiftInt}
+use Rattle.values.specs.Patterns.{bitwiseInt, complementInt, shiftInt, sinceInt}
 use Rattle.values.specs.Singles.{zeroReal, oneReal, realArith, compareReal, choiceReal, realNeg, realAbs, realPower}
 use Rattle.values.specs.Convert.{promoted, truncated, rounded}
 use Rattle.operators.specs.declared.Pair.{Pair}
@@ -123,6 +123,10 @@ unaryRule ToReal v = Done (Real (asReal v))
 unaryRule Trunc v = cutting truncated v
 unaryRule Round v = cutting rounded v
 unaryRule Frac v = realArith Rem (asReal v) oneReal
+
+-- SINCE(x) at the tick t: "9 at SINCE for a real x" (paper 02, Ask 13)
+abbrev pub sinceRule : ℕ → Value → Outcome
+sinceRule t v = either (λ z. Done (Int (sinceInt t z))) (λ x. WrongKind) v
 
 -- "IF promotes the chosen branch if either branch is real": v is chosen, the other branch is of the kind given
 abbrev pub branchRule : Value → Kind → Value

@@ -26,6 +26,13 @@ pub fn joined(left: u8, right: u8) -> u8
     if left == INT { kind(right) } else { REAL }
 }
 
+// Of an integer only, as `~` and SINCE.
+pub fn of_integer(k: u8) -> u8
+    ensures { λ r. ⌜ r ≡ typed (isInt (numberKind k)) Int ⌝ }
+{
+    if k == INT { INT } else { NOT_TAKEN }
+}
+
 // Of integers only.
 fn whole(left: u8, right: u8) -> u8
     ensures { λ r. ⌜ r ≡ typed (isInt (numberKind left) && isInt (numberKind right)) Int ⌝ }
@@ -53,7 +60,7 @@ pub fn unary_kind(op: u32, k: u8) -> u8
 {
     match op {
         0 => kind(k),
-        1 => { if k == INT { INT } else { NOT_TAKEN } }
+        1 => of_integer(k),
         2 => INT,
         3 => kind(k),
         4 => REAL,

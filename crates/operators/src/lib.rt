@@ -1,7 +1,7 @@
 // Every operator of paper 01 on values: mixed kinds, truth, the branches of IF, and the element that an index names.
 ghost use mathlib.Core.Path.{_≡_};
 ghost use Rattle.operators.specs.Operators.{asReal, pairOf, arithRule, compareRule, choiceRule, powerRule, bitsRule, shiftRule};
-ghost use Rattle.operators.specs.Operators.{fromBool, cutOutcome, truthRule, unaryRule, binaryRule, branchRule, elementBelow, cutBelow, indexRule};
+ghost use Rattle.operators.specs.Operators.{fromBool, cutOutcome, truthRule, unaryRule, sinceRule, binaryRule, branchRule, elementBelow, cutBelow, indexRule};
 use reals::ArithOp;
 use values::BitOp;
 use values::ChoiceOp;
@@ -13,7 +13,6 @@ use values::Outcome;
 use values::ShiftOp;
 use values::Value;
 
-pub mod functions;
 pub mod kinds;
 pub mod tables;
 
@@ -233,6 +232,16 @@ pub fn unary(op: UnaryOp, v: Value) -> Outcome
         UnaryOp::Trunc => truncate(v),
         UnaryOp::Round => round(v),
         UnaryOp::Frac => values::singles::arith(ArithOp::Rem, as_real(v), 1.0),
+    }
+}
+
+// The tick less v, around the end of the counter.
+pub fn since(tick: u32, v: Value) -> Outcome
+    ensures { λ r. ⌜ r ≡ sinceRule tick v ⌝ }
+{
+    match v {
+        Value::Int(z) => Outcome::Done(Value::Int(values::patterns::since(tick, z))),
+        Value::Real(_) => Outcome::WrongKind,
     }
 }
 

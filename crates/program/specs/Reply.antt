@@ -51,9 +51,13 @@ storedText m t (Refused a p) = []
 abbrev pub answerText : List ℕ → List ℕ → Answer → List ℕ
 answerText target m a = reportText (reportOf a) ++ storedText m (targetRule target) a
 
+-- paper 02: the tick is "0 in document 01's program"
+abbrev pub programTick : ℕ
+programTick = 0
+
 -- what compile-and-run answers, and the memory that it leaves
 abbrev pub outcomeText : Case → Request → List ℕ
-outcomeText s q = answerText (s .target) (requestMemory (s .memory) q) (requestAnswer (s .memory) q)
+outcomeText s q = answerText (s .target) (requestMemory programTick (s .memory) q) (requestAnswer programTick (s .memory) q)
 
 -- the code buffer has 16,384 zero bytes
 abbrev pub replyTo : Case → List ℕ

@@ -11,6 +11,9 @@ use crate::reply;
 // How much of a line is kept.
 pub const KEPT_BYTES: usize = 1030;
 
+// The program's runs have no clock.
+const PROGRAM_TICK: u32 = 0;
+
 // The whole input, with what its buffers keep of it; or a read failed.
 pub enum Receipt {
     All(Lengths),
@@ -129,7 +132,13 @@ pub fn finish(
     let a = last.target;
     let b = last.text;
     let mut code = blank_code();
-    let answer = operations::compile_and_run(&target[..a], &text[..b], memory, &mut code);
+    let answer = operations::compile_and_run(
+        &target[..a],
+        &text[..b],
+        memory,
+        &mut code,
+        PROGRAM_TICK,
+    );
     let mut bytes = [0u8; 64];
     let m = reply::put_reply(&mut bytes, answer, &target[..a], memory);
     reply::write_text(&bytes[..m], output)

@@ -8,13 +8,13 @@ use lib.Dec.{ltb}
 use lib.ListN.{length}
 use Rattle.operators.specs.declared.UnaryOp.{UnaryOp}
 use Rattle.operators.specs.declared.BinaryOp.{BinaryOp}
-use Rattle.operators.specs.Kinds.{unaryTakes, binaryTakes}
+use Rattle.operators.specs.Kinds.{isInt, unaryTakes, binaryTakes}
 use Rattle.tokens.specs.Scan.{Tok}
 use Rattle.tokens.proofs.Tests.{choose}
 use Rattle.tokens.proofs.Places.{Below, nothing, more, tokens-inside, wrong-inside}
-use Rattle.grammar.specs.Tree.{Tree, unary, binary, logic, choice, Diagnostic, clear, at, precedes, earlier, unless, wrongKindAt, treeKind, diagnosticOf}
-use Rattle.grammar.specs.Symbols.{infixTree, Callee, of-one, of-two, of-choice, Arguments, one, more as further, argument, callTree}
-use Rattle.grammar.specs.Grammar.{Derives, number, name, index, parenthesis, call, prefixed, up, infixed, last, next}
+use Rattle.grammar.specs.Tree.{Tree, unary, binary, logic, choice, since, Diagnostic, clear, at, precedes, earlier, unless, wrongKindAt, treeKind, diagnosticOf}
+use Rattle.grammar.specs.Symbols.{infixTree, Callee, of-one, of-two, of-choice, of-since, Arguments, one, more as further, argument, callTree}
+use Rattle.grammar.specs.Grammar.{Derives, number, name, index, parenthesis, call, clocked, prefixed, up, infixed, last, next}
 use Rattle.text.specs.Judge.{refused}
 use Rattle.text.specs.Theorems.{Sized, HasJudgementFrom, wrong-size, wrong-token, wrong-end, wrong-next, too-deep, diagnosed}
 
@@ -74,6 +74,10 @@ module _ {n : ℕ} where
   unfolding diagnosticOf
   low-choice p c t u g h k = low-earlier g (low-earlier h k)
 
+  low-since : {p : ℕ} (t : Tree) → p < n → Low n (diagnosticOf t) → Low n (diagnosticOf (since p t))
+  unfolding diagnosticOf
+  low-since {p} t l h = low-earlier (low-unless (isInt (treeKind t)) (wrongKindAt p) (some l)) h
+
   low-infix : (o p : ℕ) (t u : Tree) → p < n → Low n (diagnosticOf t) → Low n (diagnosticOf u) → Low n (diagnosticOf (infixTree o p t u))
   low-infix o p t u l h k =
       choose (λ (v : Tree). Low n (diagnosticOf v)) (ltb o 18) _ _ (λ e. low-binary _ t u l h k) (λ e. low-logic p _ t u h k)
@@ -82,6 +86,7 @@ module _ {n : ℕ} where
   low-call (of-one o) p ts l h = low-unary o _ l (low-argument 0 h)
   low-call (of-two o) p ts l h = low-binary o _ _ l (low-argument 0 h) (low-argument 1 h)
   low-call of-choice p ts l h = low-choice p _ _ _ (low-argument 0 h) (low-argument 1 h) (low-argument 2 h)
+  low-call of-since p ts l h = low-since _ l (low-argument 0 h)
 
   low : {l : ℕ} {w : List Tok} {t : Tree} → Derives l w t → Below n w → Low n (diagnosticOf t)
   unfolding diagnosticOf
@@ -91,6 +96,7 @@ module _ {n : ℕ} where
     | index r (d → f) ↦ λ h. f (left _ _ (tail (tail h)))
     | parenthesis q (d → f) ↦ λ h. f (left _ _ (tail h))
     | call {c = c} {p} {ts = ts} e (a → g) ↦ λ h. low-call c p ts (head h) (g (tail (tail h)))
+    | clocked r e ↦ λ h. none
     | prefixed {o = o} {t = t} e (d → f) ↦ λ h. low-unary o t (head h) (f (tail h))
     | up (d → f) ↦ f
     | infixed o p {w} {v} {t} {u} e (d → f) (d′ → g) ↦ λ h. let r = right w _ h in low-infix o p t u (head r) (f (left w _ h)) (g (tail r))

@@ -15,7 +15,7 @@ use Rattle.memory.specs.Cells.{finiteOrFault}
 use Rattle.memory.specs.Numbers.{bankNumbered, bankNumber}
 use Rattle.values.proofs.patterns.Exponents.{finite-number}
 use Rattle.tokens.specs.declared.Function.{Function}
-use Rattle.tokens.specs.declared.Function.the-variants.{Abs, ToReal, ToInt, Trunc, Round, Frac, Max, Min, If}
+use Rattle.tokens.specs.declared.Function.the-variants.{Abs, ToReal, ToInt, Trunc, Round, Frac, Max, Min, If, TickMs, Since}
 use Rattle.tokens.specs.declared.Token.{Token}
 use Rattle.tokens.specs.declared.Token.the-variants.{Number}
 use Rattle.tokens.proofs.Known.{Known}
@@ -63,6 +63,8 @@ function Frac = (lit< tt, refl)
 function Max = (lit< tt, refl)
 function Min = (lit< tt, refl)
 function If = (lit< tt, refl)
+function TickMs = (lit< tt, refl)
+function Since = (lit< tt, refl)
 
 pub finite-real : (x : Float) (p : ℕ) → T (finite x) → realEntry (finiteOrFault x) p ≡ Entry.Is (Number (Real x)) p
 finite-real nan p h = absurd h

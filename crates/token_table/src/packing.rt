@@ -24,6 +24,8 @@ fn function_number(f: Function) -> u8
         Function::Max => 6,
         Function::Min => 7,
         Function::If => 8,
+        Function::TickMs => 9,
+        Function::Since => 10,
     }
 }
 

@@ -8,7 +8,7 @@ use Rattle.values.specs.declared.Value.the-variants.{Int, Real}
 use Rattle.literals.specs.Literals.{nearestDecimal}
 use Rattle.memory.specs.declared.Bank.the-variants.{D}
 use Rattle.memory.specs.Names.{letterBank, namedRule}
-use Rattle.tokens.specs.declared.Function.the-variants.{Max}
+use Rattle.tokens.specs.declared.Function.the-variants.{Max, TickMs, Since}
 use Rattle.tokens.specs.declared.Token.the-variants.{Number, Cell, Letter, Name, Symbol}
 use Rattle.tokens.specs.declared.Scanned.the-variants.{Good, Bad}
 use Rattle.words.specs.Ascii.{ascii}
@@ -117,6 +117,19 @@ function = refl
 lower-case : wordToken (109 ∷ 97 ∷ 120 ∷ []) ≡ Bad 6
 unfolding wordToken otherWord namedRule letterBank
 lower-case = refl
+
+-- case counts in the two small letters too
+tick : wordToken (ascii "TICKms") ≡ Good (Name TickMs)
+unfolding wordToken
+tick = refl
+
+upper-tick : wordToken (ascii "TICKMS") ≡ Bad 6
+unfolding wordToken otherWord namedRule letterBank
+upper-tick = refl
+
+since : wordToken (ascii "SINCE") ≡ Good (Name Since)
+unfolding wordToken
+since = refl
 
 longer : wordToken (65 ∷ 66 ∷ 83 ∷ 50 ∷ []) ≡ Bad 6
 unfolding wordToken otherWord namedRule letterBank

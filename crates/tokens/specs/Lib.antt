@@ -4,3 +4,4 @@ pub mod Numerals
 pub mod Words
 pub mod Scan
 pub mod Theorems
+pub mod private

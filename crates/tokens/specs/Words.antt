@@ -2,13 +2,14 @@
 use mathlib.Core.Bool.{cond}
 use mathlib.Core.List.{List, [], _∷_}
 use Prim.Native.Nat.{ℕ}
+use lib.ListN.{length, getD}
 use Rattle.memory.specs.declared.names.Letter.{Letter}
 use Rattle.memory.specs.declared.names.Letter.the-variants as L
 use Rattle.memory.specs.declared.names.Named.{Named}
 use Rattle.memory.specs.declared.names.Named.the-variants as A
 use Rattle.memory.specs.Names.{letterBank, namedRule}
 use Rattle.tokens.specs.declared.Function.{Function}
-use Rattle.tokens.specs.declared.Function.the-variants.{Abs, ToReal, ToInt, Trunc, Round, Frac, Max, Min, If}
+use Rattle.tokens.specs.declared.Function.the-variants.{Abs, ToReal, ToInt, Trunc, Round, Frac, Max, Min, If, TickMs, Since}
 use Rattle.tokens.specs.declared.Token.the-variants.{Cell, Letter as LetterToken, Name}
 use Rattle.tokens.specs.declared.Scanned.{Scanned}
 use Rattle.tokens.specs.declared.Scanned.the-variants.{Good, Bad}
@@ -26,6 +27,8 @@ nameOf Frac = ascii "FRAC"
 nameOf Max = ascii "MAX"
 nameOf Min = ascii "MIN"
 nameOf If = ascii "IF"
+nameOf TickMs = ascii "TICKms"
+nameOf Since = ascii "SINCE"
 
 abbrev pub cellWord : Named → Scanned
 cellWord (A.Cell b i) = Good (Cell b i)
@@ -48,7 +51,14 @@ functionNamed [] cs other = other
 functionNamed (f ∷ fs) cs other = cond (equalBytes (nameOf f) cs) (Good (Name f)) (functionNamed fs cs other)
 
 abbrev pub functions : List Function
-functions = Abs ∷ ToReal ∷ ToInt ∷ Trunc ∷ Round ∷ Frac ∷ Max ∷ Min ∷ If ∷ []
+functions = Abs ∷ ToReal ∷ ToInt ∷ Trunc ∷ Round ∷ Frac ∷ Max ∷ Min ∷ If ∷ TickMs ∷ Since ∷ []
+
+abbrev pub functionCount : ℕ
+functionCount = length functions
+
+-- the function of a number, which is its place in the list
+abbrev pub functionAt : ℕ → Function
+functionAt n = getD functions n Abs
 
 unfoldable pub wordToken : List ℕ → Scanned
 unfolding otherWord

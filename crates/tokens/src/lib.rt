@@ -17,6 +17,8 @@ pub enum Function {
     Max,
     Min,
     If,
+    TickMs,
+    Since,
 }
 
 // Symbol: an operator, a bracket or the comma, by its number in the table of symbols.

@@ -12,18 +12,18 @@ use Rattle.values.specs.declared.Value.the-variants.{Int, Real}
 use Rattle.values.specs.declared.Outcome.{Outcome}
 use Rattle.values.specs.declared.Outcome.the-variants.{Done, Stopped, WrongKind}
 use Rattle.values.specs.Values.{kindOf}
-use Rattle.operators.specs.Operators.{asReal, unaryRule, binaryRule, truthRule, fromBool, branchRule}
+use Rattle.operators.specs.Operators.{asReal, unaryRule, sinceRule, binaryRule, truthRule, fromBool, branchRule}
 use Rattle.operators.specs.Laws.{OfKind}
 use Rattle.operators.specs.declared.UnaryOp.the-variants.{ToReal}
 use Rattle.memory.specs.Environment.{Environment, indexedCell}
 use Rattle.code.specs.declared.Instr.{Instr}
-use Rattle.code.specs.declared.Instr.the-variants.{LoadIndexed, Unary, Binary, Jump, JumpIf}
+use Rattle.code.specs.declared.Instr.the-variants.{LoadIndexed, Unary, Binary, Jump, JumpIf, Since}
 use Rattle.machine.specs.Machine.{maxHeight, act, exec, endOf}
 use Rattle.grammar.specs.Tree.{Tree, treeKind}
 use Rattle.grammar.specs.Eval.{then, shortCircuit, eval}
 use Rattle.verifier.specs.Safety.{Kinded}
 use Rattle.tree_code.specs.Code.{push, pushBool, truthTail, branchTail, branchTailSkip, codeOf}
-use Rattle.tree_code.proofs.Well.{Well, on-literal, on-cell, on-indexed, on-unary, on-binary, on-logic, on-choice, worth-kind, done-kind}
+use Rattle.tree_code.proofs.Well.{Well, on-literal, on-cell, on-indexed, on-unary, on-binary, on-logic, on-choice, on-tick, on-since, worth-kind, done-kind}
 use Rattle.tree_code.proofs.Need.{need, need-some}
 use Rattle.tree_code.proofs.Gives.{ends, into, Gives, acts, seq, past, held, jumps, forks}
 
@@ -104,6 +104,8 @@ module _ (E : Environment) (kinded : Kinded E) where
   correct (on-choice {c = c} {t = t} {u = u} w x y) st h =
       seq _ _ (correct w st (omega arith))
       (λ v e. chosen E st (omega (arith, need-some c)) (treeKind t) (treeKind u) v (correct x st (omega arith)) (correct y st (omega arith)) (worth-kind E kinded x) (worth-kind E kinded y))
+  correct on-tick st h = acts refl (omega arith)
+  correct (on-since {t = t} q w) st h = seq (Since ∷ []) (λ v. sinceRule (E .tick) v) (correct w st h) (λ v e. acts refl (omega (arith, need-some t)))
 
   pub whole : {t : Tree} → Well t → need t ≤ maxHeight → exec E (codeOf t) 0 [] .end ≡ endOf (eval E t)
   unfolding exec

@@ -9,8 +9,8 @@ use borrow.Author.Tests.{ne-eqb}
 use Rattle.tokens.specs.declared.Token.the-variants.{Symbol}
 use Rattle.tokens.specs.Scan.{Tok}
 use Rattle.grammar.specs.Tree.{Tree}
-use Rattle.grammar.specs.Symbols.{openParen, closeParen, openIndex, closeIndex, loosest, Callee, of-one, of-two, of-choice, moreArguments, callTree, Arguments, argument}
-use Rattle.grammar.specs.Grammar.{tok, Derives, number, name, index, parenthesis, call, prefixed, up, infixed, last, next, Formula}
+use Rattle.grammar.specs.Symbols.{openParen, closeParen, openIndex, closeIndex, loosest, Callee, of-one, of-two, of-choice, of-since, moreArguments, callTree, Arguments, argument}
+use Rattle.grammar.specs.Grammar.{tok, Derives, number, name, index, parenthesis, call, clocked, prefixed, up, infixed, last, next, Formula}
 use Rattle.grammar.specs.Parse.{mostOpen}
 use Rattle.grammar.specs.Theorems.{isOpener, isCloser, Shallow, opens, goes-on}
 use Rattle.tree_code.proofs.Need.{need}
@@ -54,6 +54,7 @@ unfolding need
 call-need n (of-one o) p ts h = omega (arith, h 0 (omega arith))
 call-need n (of-two o) p ts h = omega (arith, h 0 (omega arith), h 1 (omega arith))
 call-need n of-choice p ts h = omega (arith, h 0 (omega arith), h 1 (omega arith), h 2 (omega arith))
+call-need n of-since p ts h = omega (arith, h 0 (omega arith))
 
 infix-need : {p b : ℕ} {t u r : Tree} (n : ℕ) → Infix p t u b r → need t ≤ suc n → need u ≤ n → need r ≤ suc n
 unfolding need
@@ -77,6 +78,9 @@ low d = elim d as (λ l w t d. Low l w t) (λ m w ts a. Lows m w ts) [
       let a = opened refl (passed refl s) in
       let b = h o v (a .0) (a .1) in
       (omega (arith, call-need _ c p ts (b .0)), b .1)
+  | clocked r e ↦ λ o v s.
+      let a = opened refl (passed refl s) in
+      (omega arith, closed o refl refl (a .1))
   | prefixed {n} {p} {o = u} {w} e (d → h) ↦ λ o v s. h o v (over-plain n p o (w ++ v) (prefix-plain n u e .low) s)
   | up (d → h) ↦ λ o v s. let a = h o v s in (omega (arith, a .0), a .1)
   | infixed {l} n p {v = x} {t = t} {u = u} e (d → h) (d′ → h′) ↦ λ o v s.

@@ -12,7 +12,7 @@ use Rattle.operators.specs.declared.BinaryOp.{BinaryOp}
 use Rattle.operators.specs.Laws.{OfKind}
 use Rattle.memory.specs.declared.Bank.{Bank}
 use Rattle.memory.specs.Environment.{Environment}
-use Rattle.grammar.specs.Tree.{Tree, literal, cell, indexed, unary, binary, logic, choice, treeKind, clear, diagnosticOf}
+use Rattle.grammar.specs.Tree.{Tree, literal, cell, indexed, unary, binary, logic, choice, tick, since, treeKind, clear, diagnosticOf}
 use Rattle.grammar.specs.Eval.{eval}
 use Rattle.verifier.specs.Safety.{Kinded}
 use Rattle.tree_code.specs.Code.{branchTail, codeOf}
@@ -46,6 +46,14 @@ pub length-choice : (p : ℕ) (c t u : Tree) → length (codeOf (choice p c t u)
 unfolding codeOf
 length-choice p c t u = simp length-append (omega arith)
 
+pub length-tick : length (codeOf tick) ≡ 1
+unfolding codeOf
+length-tick = refl
+
+pub length-since : (p : ℕ) (t : Tree) → length (codeOf (since p t)) ≡ length (codeOf t) + 1
+unfolding codeOf
+length-since p t = simp length-append
+
 pub tail-short : (j k : Kind) → length (branchTail j k) ≤ 2
 tail-short K.Int K.Int = omega arith
 tail-short K.Int K.Real = omega arith
@@ -60,6 +68,8 @@ code-some (unary p o t) = omega (arith, length-unary p o t)
 code-some (binary p o t u) = omega (arith, length-binary p o t u)
 code-some (logic p d t u) = omega (arith, length-logic p d t u)
 code-some (choice p c t u) = omega (arith, length-choice p c t u)
+code-some tick = omega (arith, length-tick)
+code-some (since p t) = omega (arith, length-since p t)
 
 pub worth-of-kind : (E : Environment) → Kinded E → (t : Tree) → diagnosticOf t ≡ clear → OfKind (treeKind t) (eval E t)
 worth-of-kind E kinded t e = worth-kind E kinded (well t e)

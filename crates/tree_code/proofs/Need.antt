@@ -1,7 +1,7 @@
 -- How many values the code of a tree holds at once, above those held before it.
 use Prim.Native.Nat.{ℕ, suc, max, _≤_}
 use native.Mathlib.Omega.{arith}
-use Rattle.grammar.specs.Tree.{Tree, literal, cell, indexed, unary, binary, logic, choice}
+use Rattle.grammar.specs.Tree.{Tree, literal, cell, indexed, unary, binary, logic, choice, tick, since}
 
 unfoldable pub need : Tree → ℕ
 need (literal p v) = 1
@@ -11,6 +11,8 @@ need (unary p o t) = need t
 need (binary p o t u) = max (need t) (suc (need u))
 need (logic p d t u) = max (need t) (need u)
 need (choice p c t u) = max (need c) (max (need t) (need u))
+need tick = 1
+need (since p t) = need t
 
 pub need-some : (t : Tree) → 1 ≤ need t
 unfolding need
@@ -21,3 +23,5 @@ need-some (unary p o t) = need-some t
 need-some (binary p o t u) = omega arith
 need-some (logic p d t u) = omega (arith, need-some t)
 need-some (choice p c t u) = omega (arith, need-some c)
+need-some tick = omega arith
+need-some (since p t) = need-some t

@@ -15,7 +15,7 @@ use Rattle.operators.specs.declared.BinaryOp.the-variants.{Arith, Power, Shift,
 use Rattle.memory.specs.Environment.{Environment}
 use Rattle.machine.specs.declared.Ended.the-variants as Ended
 use Rattle.machine.specs.Machine.{exec}
-use Rattle.grammar.specs.Tree.{Tree, literal, unary, binary, logic, choice, treeKind}
+use Rattle.grammar.specs.Tree.{Tree, literal, unary, binary, logic, choice, tick, since, treeKind}
 use Rattle.grammar.specs.Eval.{eval}
 use Rattle.tree_code.specs.Code.{codeOf}
 
@@ -56,3 +56,16 @@ k = record { value = λ E. refl; run = λ E. refl }
 unused-branch : Sum (choice 0 (int 3 (pos 1)) (int 6 (pos 5)) (binary 10 (Arith Div) (int 9 (pos 1)) (int 11 (pos 0)))) (pos 5) 4
 unfolding eval exec codeOf treeKind
 unused-branch = record { value = λ E. refl; run = λ E. refl }
+
+-- `SINCE(5)` at the tick 0, `TICKms()` at the last tick, and `SINCE(x)` across the turn: 5 after x
+since-5 : (E : Environment) → E .tick ≡ 0 → eval E (since 0 (int 6 (pos 5))) ≡ Outcome.Done (Int (negsuc 4))
+unfolding eval
+since-5 E e = rw e
+
+last-tick : (E : Environment) → E .tick ≡ 4294967295 → eval E tick ≡ Outcome.Done (Int (negsuc 0))
+unfolding eval
+last-tick E e = rw e
+
+timed : (E : Environment) → E .tick ≡ 2 → exec E (codeOf (since 0 (int 6 (negsuc 2)))) 0 [] ≡ record { end = Ended.Done (Int (pos 5)); count = 2 }
+unfolding exec codeOf
+timed E e = rw e

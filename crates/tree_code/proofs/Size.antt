@@ -6,11 +6,11 @@ use native.Mathlib.Omega.{arith}
 use lib.ListN.{length}
 use Rattle.tokens.specs.Scan.{Tok}
 use Rattle.grammar.specs.Tree.{Tree, treeKind}
-use Rattle.grammar.specs.Symbols.{Callee, of-one, of-two, of-choice, moreArguments, callTree, Arguments, more, argument}
-use Rattle.grammar.specs.Grammar.{Derives, number, name, index, parenthesis, call, prefixed, up, infixed, last, next}
+use Rattle.grammar.specs.Symbols.{Callee, of-one, of-two, of-choice, of-since, moreArguments, callTree, Arguments, more, argument}
+use Rattle.grammar.specs.Grammar.{Derives, number, name, index, parenthesis, call, clocked, prefixed, up, infixed, last, next}
 use Rattle.tree_code.specs.Code.{codeOf}
 use Rattle.tree_code.specs.Demand.{leastBytes}
-use Rattle.tree_code.proofs.Laws.{length-literal, length-cell, length-indexed, length-unary, length-binary, length-logic, length-choice, tail-short}
+use Rattle.tree_code.proofs.Laws.{length-literal, length-cell, length-indexed, length-unary, length-binary, length-logic, length-choice, length-tick, length-since, tail-short}
 use Rattle.tree_code.proofs.Nodes.{Infix, of-values, of-truths, infix-node, infix-plain, prefix-plain}
 
 least-append : (w v : List Tok) → leastBytes (w ++ v) ≡ leastBytes w + leastBytes v
@@ -35,6 +35,7 @@ call-size (of-one o) p ts = omega (arith, length-unary p o (argument 0 ts))
 call-size (of-two o) p ts = omega (arith, length-binary p o (argument 0 ts) (argument 1 ts))
 call-size of-choice p ts =
     omega (arith, length-choice p (argument 0 ts) (argument 1 ts) (argument 2 ts), tail-short (treeKind (argument 1 ts)) (treeKind (argument 2 ts)))
+call-size of-since p ts = omega (arith, length-since p (argument 0 ts))
 
 infix-size : {p b : ℕ} {t u r : Tree} → Infix p t u b r → size r ≤ size t + size u + 2 * b + 1
 infix-size {p} {t = t} {u = u} (of-values o) = omega (arith, length-binary p o t u)
@@ -49,6 +50,7 @@ small d = elim d as (λ l w t d. size t + 1 ≤ 2 * leastBytes w) (λ m w ts a. 
   | index {b} r {t = t} (d → h) ↦ simp least-append (omega (arith, length-indexed b t))
   | parenthesis q (d → h) ↦ simp least-append (omega arith)
   | call {c = c} {p} {ts = ts} e (a → h) ↦ omega (arith, call-size c p ts)
+  | clocked r e ↦ omega (arith, length-tick)
   | prefixed {n} {p} {o} {t = t} e (d → h) ↦ omega (arith, length-unary p o t, prefix-plain n o e .long)
   | up (d → h) ↦ h
   | infixed {l} n p {t = t} {u = u} e (d → h) (d′ → h′) ↦ simp least-append (omega (arith, infix-size (infix-node n p t u), infix-plain n l e .long))

@@ -12,12 +12,12 @@ use Rattle.values.specs.Values.{kindOf}
 use Rattle.operators.specs.declared.UnaryOp.{UnaryOp}
 use Rattle.operators.specs.declared.BinaryOp.{BinaryOp}
 use Rattle.operators.specs.Operators.{truthRule, fromBool, branchRule}
-use Rattle.operators.specs.Kinds.{join, unaryTakes, binaryTakes}
+use Rattle.operators.specs.Kinds.{isInt, join, unaryTakes, binaryTakes}
 use Rattle.operators.specs.Laws.{OfKind, done, stopped}
 use Rattle.operators.proofs.Laws.{rule-laws}
 use Rattle.memory.specs.declared.Bank.{Bank}
 use Rattle.memory.specs.Environment.{Environment}
-use Rattle.grammar.specs.Tree.{Tree, literal, cell, indexed, unary, binary, logic, choice, treeKind, Diagnostic, clear, at, precedes, earlier, unless, wrongKindAt, diagnosticOf}
+use Rattle.grammar.specs.Tree.{Tree, literal, cell, indexed, unary, binary, logic, choice, tick, since, treeKind, Diagnostic, clear, at, precedes, earlier, unless, wrongKindAt, diagnosticOf}
 use Rattle.grammar.specs.Eval.{then, shortCircuit, eval}
 use Rattle.verifier.specs.Safety.{Kinded}
 use Rattle.verifier.proofs.Safe.{indexed-kind}
@@ -31,6 +31,8 @@ pub data Well : Tree → Type 0 where
   on-binary : {p : ℕ} {o : BinaryOp} {t u : Tree} → binaryTakes o (treeKind t) (treeKind u) ≡ true → Well t → Well u → Well (binary p o t u)
   on-logic : {p : ℕ} {d : Bool} {t u : Tree} → Well t → Well u → Well (logic p d t u)
   on-choice : {p : ℕ} {c t u : Tree} → Well c → Well t → Well u → Well (choice p c t u)
+  on-tick : Well tick
+  on-since : {p : ℕ} {t : Tree} → isInt (treeKind t) ≡ true → Well t → Well (since p t)
 
 -- ---- a tree without a diagnostic
 neither : (x y : Diagnostic) → earlier x y ≡ clear → (x ≡ clear) × (y ≡ clear)
@@ -61,6 +63,8 @@ well (choice p c t u) e =
     let h = neither _ _ e in
     let k = neither _ _ (h .1) in
     on-choice (well c (h .0)) (well t (k .0)) (well u (k .1))
+well tick e = on-tick
+well (since p t) e = let h = neither _ _ e in on-since (taken _ p (h .0)) (well t (h .1))
 
 -- ---- kinds of outcomes
 then-kind : {j k : Kind} {r : Outcome} (f : Value → Outcome) → OfKind j r → ((v : Value) → kindOf v ≡ j → OfKind k (f v)) → OfKind k (then r f)
@@ -99,6 +103,8 @@ module _ (E : Environment) (kinded : Kinded E) where
   worth-kind (on-choice {t = t} {u = u} w x y) =
       then-kind _ (worth-kind w)
       (λ v e. cond-kind (truthRule v) (branch-of (treeKind u) (worth-kind x)) (rw (join-comm (treeKind t) (treeKind u)) (branch-of (treeKind t) (worth-kind y))))
+  worth-kind on-tick = done _ refl
+  worth-kind (on-since q w) = then-kind _ (worth-kind w) (λ v e. rule-laws .since-kind (E .tick) v (rw (e, q) tt))
 
 pub done-kind : {k : Kind} {r : Outcome} (v : Value) → OfKind k r → r ≡ Done v → kindOf v ≡ k
 done-kind v (done w e) q = let h : w ≡ v = cc in ap kindOf (sym h) ∙ e

@@ -10,8 +10,8 @@ use Rattle.values.specs.declared.Value.{Value}
 use Rattle.values.specs.declared.Value.the-variants as V'
 use Rattle.operators.specs.declared.UnaryOp.the-variants.{ToReal}
 use Rattle.code.specs.declared.Instr.{Instr}
-use Rattle.code.specs.declared.Instr.the-variants.{PushInt, PushReal, Load, LoadIndexed, Unary, Binary, Jump, JumpIf}
-use Rattle.grammar.specs.Tree.{Tree, literal, cell, indexed, unary, binary, logic, choice, treeKind}
+use Rattle.code.specs.declared.Instr.the-variants.{PushInt, PushReal, Load, LoadIndexed, Unary, Binary, Jump, JumpIf, Tick, Since}
+use Rattle.grammar.specs.Tree.{Tree, literal, cell, indexed, unary, binary, logic, choice, tick, since, treeKind}
 
 abbrev pub push : Value → Instr
 push (V'.Int z) = PushInt z
@@ -48,3 +48,5 @@ codeOf (binary p o t u) = codeOf t ++ (codeOf u ++ Binary o ∷ [])
 codeOf (logic p d t u) = codeOf t ++ JumpIf d (length (codeOf u) + 3) ∷ (codeOf u ++ truthTail d)
 codeOf (choice p c t u) =
     codeOf c ++ JumpIf false (length (codeOf t) + 1) ∷ (codeOf t ++ Jump (length (codeOf u) + branchTailSkip (treeKind t) (treeKind u)) ∷ (codeOf u ++ branchTail (treeKind t) (treeKind u)))
+codeOf tick = Tick ∷ []
+codeOf (since p t) = codeOf t ++ Since ∷ []

@@ -105,6 +105,7 @@ enum Function {
     Truth,
     Index(u32),
     Branch(Kind),
+    Since(u32),
     Binary(BinaryOp, Value),
 }
 
@@ -141,6 +142,7 @@ fn apply(f: Function, v: Value) -> Outcome {
         Function::Truth => Outcome::Done(truth(v)),
         Function::Index(elements) => index(v, elements),
         Function::Branch(other) => Outcome::Done(operators::branch(v, other)),
+        Function::Since(tick) => operators::since(tick, v),
         Function::Binary(op, a) => operators::binary(op, a, v),
     }
 }
@@ -201,6 +203,23 @@ fn ones() {
     one(b"TRUNC", Function::Unary(UnaryOp::Trunc));
     one(b"ROUND", Function::Unary(UnaryOp::Round));
     one(b"FRAC", Function::Unary(UnaryOp::Frac));
+}
+
+fn since_at(tick: u32) {
+    let mut line = [0u8; 512];
+    let mut end = case_lines::put_all(&mut line, 0, b"SINCE at ");
+    end = case_lines::put_hex(&mut line, end, tick);
+    end = case_lines::put(&mut line, end, b':');
+    results(&mut line, end, Function::Since(tick));
+}
+
+// At ticks around the turns of the counter and of its sign.
+fn sinces() {
+    since_at(0);
+    since_at(1);
+    since_at(0x7fff_ffff);
+    since_at(0x8000_0000);
+    since_at(0xffff_ffff);
 }
 
 fn twos() {
@@ -266,6 +285,7 @@ fn powers() {
 fn main() {
     faults();
     ones();
+    sinces();
     twos();
     powers();
 }

@@ -14,6 +14,7 @@ use Rattle.values.specs.Integers.{between}
 use Rattle.values.specs.Patterns.{lowBits, signedOf}
 use Rattle.values.specs.Laws.{PatternLaws}
 use Rattle.values.proofs.patterns.Readings.{low-lt, signed-mag, signed-low, low-signed}
+use Rattle.values.proofs.patterns.Elapsed.{elapsed}
 
 -- ---- the range, as a bound: `mag z < n` says that z lies from -n to n - 1
 module _ (n : ℕ) where
@@ -63,4 +64,5 @@ pattern-laws = record {
   signed-range = λ k n p h. bound-range (2 ^ (k - 1)) (signedOf k n) (pow-pos (k - 1)) (signed-mag k n p h);
   signed-low = λ k z p h. signed-low k z p (range-bound (2 ^ (k - 1)) z (pow-pos (k - 1)) h);
   low-signed = low-signed;
+  elapsed = elapsed;
 }

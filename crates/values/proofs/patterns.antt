@@ -4,3 +4,4 @@ pub mod Operators
 pub mod Flips
 pub mod Shifts
 pub mod Exponents
+pub mod Elapsed

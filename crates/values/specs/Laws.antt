@@ -2,12 +2,12 @@
 -- says that 32768 in N reads -1; it is -32768."
 use mathlib.Core.Path.{_≡_}
 use mathlib.Core.Bool.{Bool}
-use Prim.Native.Nat.{ℕ, _-_, _^_, _≤_, _<_}
+use Prim.Native.Nat.{ℕ, _+_, _-_, _%_, _^_, _≤_, _<_}
 use lib.Dec.{T}
 use lib.IntN.{ℤ, pos, negℤ, _+ℤ_, _-ℤ_, _*ℤ_}
 use lib.Signed.{shrZ}
 use Rattle.values.specs.Integers.{between}
-use Rattle.values.specs.Patterns.{lowBits, signedOf}
+use Rattle.values.specs.Patterns.{lowBits, signedOf, sinceInt}
 
 -- k bits hold z with its sign: `inRange` is this at 32
 abbrev pub inBits : ℕ → ℤ → Bool
@@ -24,3 +24,5 @@ pub record PatternLaws : Type 0 where
   -- an integer of k bits and its pattern are found from each other
   pub signed-low : (k : ℕ) (z : ℤ) → 0 < k → T (inBits k z) → signedOf k (lowBits k z) ≡ z
   pub low-signed : (k n : ℕ) → n < 2 ^ k → lowBits k (signedOf k n) ≡ n
+  -- "a dose across the turn, under 2147483648 milliseconds, is timed rightly" (paper 02, Ask 13): d after the tick s, of which the formula holds the pattern
+  pub elapsed : (s d : ℕ) → s < 2 ^ 32 → d < 2 ^ 31 → sinceInt ((s + d) % 2 ^ 32) (signedOf 32 s) ≡ pos d

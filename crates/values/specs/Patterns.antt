@@ -3,7 +3,7 @@
 use mathlib.Core.Bool.{Bool, true, false, cond}
 use Prim.Native.Nat.{ℕ, zero, suc, _+_, _-_, _*_, _/_, _%_, _^_, min, max}
 use lib.Dec.{ltb}
-use lib.IntN.{ℤ, pos, negsuc, natAbs}
+use lib.IntN.{ℤ, pos, negsuc, natAbs, _-ℤ_}
 use lib.Signed.{shrZ}
 use Rattle.values.specs.declared.Value.the-variants.{Int}
 use Rattle.values.specs.declared.Fault.the-variants.{OutOfRange}
@@ -53,3 +53,7 @@ shifted RightZero a s = signedOf 32 (lowBits 32 a / 2 ^ s)
 
 abbrev pub shiftInt : ShiftOp → ℤ → ℤ → Outcome
 shiftInt o a s = cond (between (pos 0) (pos 31) s) (Done (Int (shifted o a (natAbs s)))) (Stopped OutOfRange)
+
+-- "SINCE(x), the tick less x around the end of the 32-bit counter" (paper 02, Ask 13): the difference modulo 2 ^ 32, read with its sign
+abbrev pub sinceInt : ℕ → ℤ → ℤ
+sinceInt t x = signedOf 32 (lowBits 32 (pos t -ℤ x))

@@ -1,8 +1,8 @@
-// Integers as 32-bit patterns: bitwise operators and shifts. And the patterns of singles.
+// Integers as 32-bit patterns: bitwise operators, shifts and the time since a tick. And the patterns of singles.
 ghost use mathlib.Core.Path.{_≡_};
 ghost use lib.Ieee.{binary32, ofBits};
 ghost use lib.Ieee.Scale.{finite};
-ghost use Rattle.values.specs.Patterns.{lowBits, signedOf, bitwiseInt, complementInt, shiftInt};
+ghost use Rattle.values.specs.Patterns.{lowBits, signedOf, bitwiseInt, complementInt, shiftInt, sinceInt};
 use crate::BitOp;
 use crate::Fault;
 use crate::Outcome;
@@ -74,4 +74,11 @@ pub fn shift(op: ShiftOp, a: i32, s: i32) -> Outcome
         ShiftOp::Right => Outcome::Done(Value::Int(a >> count)),
         ShiftOp::RightZero => Outcome::Done(Value::Int(from_pattern(pattern(a) >> count))),
     }
+}
+
+// The tick less x, around the end of the counter.
+pub fn since(tick: u32, x: i32) -> i32
+    ensures { λ r. ⌜ r ≡ sinceInt tick x ⌝ }
+{
+    from_pattern(std::num::wrapping_sub_u32(tick, pattern(x)))
 }

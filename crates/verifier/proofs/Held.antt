@@ -20,9 +20,9 @@ use Rattle.memory.specs.declared.numbers.BankOf.{BankOf}
 use Rattle.memory.specs.declared.numbers.BankOf.the-variants as BankOf
 use Rattle.memory.specs.Numbers.{bankNumbered}
 use Rattle.code.specs.declared.Instr.{Instr}
-use Rattle.code.specs.declared.Instr.the-variants.{LoadIndexed, Unary, Binary, Unknown}
+use Rattle.code.specs.declared.Instr.the-variants.{LoadIndexed, Unary, Binary, Since, Unknown}
 use Rattle.code.specs.declared.Class.the-variants as Class
-use Rattle.code.specs.Instructions.{loadIndexed, wordOf}
+use Rattle.code.specs.Instructions.{loadIndexed, applySince, wordOf}
 use Rattle.code.specs.private.Classes.{numberOf, ofBank, ofUnary, ofBinary, instrIn}
 use Rattle.verifier.specs.declared.packing.Held.{Held}
 use Rattle.verifier.specs.declared.typing.Flow.{Flow}
@@ -162,6 +162,10 @@ module _ (w : ℕ) where
   unary-empty (UnaryOf.Is o) = none-word (eqb w 0) (Unary o) [] refl
   unary-empty UnaryOf.Nothing = refl
 
+  since-empty : moveOf (applySince w) [] ≡ illTyped
+  unfolding moveOf
+  since-empty = none-word (eqb w 0) Since [] refl
+
   binary-few : (o : BinaryOf) (h v : ℕ) → h < 2 → moveOf (ofBinary o w) (bitKinds h v) ≡ illTyped
   unfolding moveOf
   binary-few (BinaryOf.Is o) zero v l = none-word (eqb w 0) (Binary o) [] refl
@@ -178,6 +182,9 @@ module _ (w : Held) (n : ℕ) where
 
   pub unary-short : w .height < 1 → moveOf (instrIn Class.Unary n) (kindsOf w) ≡ illTyped
   unary-short l = empty _ l (unary-empty (wordOf n) (unaryOf (numberOf n)))
+
+  pub since-short : w .height < 1 → moveOf (instrIn Class.Since n) (kindsOf w) ≡ illTyped
+  since-short l = empty _ l (since-empty (wordOf n))
 
   pub binary-short : w .height < 2 → moveOf (instrIn Class.Binary n) (kindsOf w) ≡ illTyped
   binary-short l = binary-few (wordOf n) (binaryOf (numberOf n)) (w .height) (word w) l

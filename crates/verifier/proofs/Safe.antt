@@ -15,7 +15,7 @@ use Rattle.values.specs.declared.Fault.{Fault}
 use Rattle.values.specs.declared.Outcome.{Outcome}
 use Rattle.values.specs.Values.{kindOf}
 use Rattle.operators.specs.Operators.{truthRule}
-use Rattle.operators.specs.Kinds.{unaryTakes, binaryTakes}
+use Rattle.operators.specs.Kinds.{isInt, unaryTakes, binaryTakes}
 use Rattle.operators.specs.Laws.{OfKind, done, stopped}
 use Rattle.operators.proofs.Laws.{rule-laws}
 use Rattle.memory.specs.declared.Bank.{Bank}
@@ -24,14 +24,14 @@ use Rattle.memory.specs.Environment.{Environment, indexedCell, memoryOf}
 use Rattle.memory.proofs.Laws.{memory-laws}
 use Rattle.memory.proofs.Positions.{position-has}
 use Rattle.code.specs.declared.Instr.{Instr}
-use Rattle.code.specs.declared.Instr.the-variants.{PushInt, PushReal, Load, LoadIndexed, Unary, Binary, Jump, JumpIf, Unknown}
+use Rattle.code.specs.declared.Instr.the-variants.{PushInt, PushReal, Load, LoadIndexed, Unary, Binary, Jump, JumpIf, Tick, Since, Unknown}
 use Rattle.machine.specs.declared.Ended.the-variants.{Stopped}
 use Rattle.machine.specs.Machine.{maxHeight, Next, goes, halts, pushValue, pushOutcome, act, cost, finish, exec}
 use Rattle.machine.specs.Configurations.{Configuration, first, skip, step, Finishes}
 use Rattle.machine.proofs.Laws.{onward as after, count-most}
 use Rattle.verifier.specs.Typing.{Shape, Move, illTyped, next, fork, pushKind, moveOf}
 use Rattle.verifier.specs.Accepts.{MovesTo, next-place, jump-target, not-taken, taken, instrAt, Reached, start, onward, Accepts}
-use Rattle.verifier.specs.Stack.{HasOperands, push-int, push-real, load, load-indexed, unary, binary, jump-always, jump-if, StackSafe}
+use Rattle.verifier.specs.Stack.{HasOperands, push-int, push-real, load, load-indexed, unary, binary, jump-always, jump-if, push-tick, since, StackSafe}
 use Rattle.verifier.specs.Safety.{Kinded, EndsWell, value, fault, Safe}
 use Rattle.verifier.proofs.Moves.{allowed, has-room, Split, split, within}
 
@@ -94,6 +94,9 @@ module _ (E : Environment) (K : Kinded E) where
   follows p (Jump d) st h n = leads jump-target h
   follows p (JumpIf t d) [] h n = absurd (n refl)
   follows p (JumpIf t d) (v ∷ st) h n = jumps p st d (Bool·beq (truthRule v) t) (omega arith)
+  follows p Tick st h n = fits p st (done _ refl) n
+  follows p Since [] h n = absurd (n refl)
+  follows p Since (v ∷ st) h n = takes p st (isInt (kindOf v)) (rule-laws .since-kind (E .tick) v) h n
   follows p Unknown st h n = absurd (n refl)
 
 -- ---- what an instruction takes
@@ -113,6 +116,9 @@ operands (Binary o) (k ∷ (j ∷ s)) n = binary (allowed (binaryTakes o j k) _ 
 operands (Jump d) s n = jump-always
 operands (JumpIf t d) [] n = absurd (n refl)
 operands (JumpIf t d) (k ∷ s) n = jump-if
+operands Tick s n = push-tick
+operands Since [] n = absurd (n refl)
+operands Since (k ∷ s) n = since (allowed (isInt k) _ n)
 operands Unknown s n = absurd (n refl)
 
 -- ---- a run

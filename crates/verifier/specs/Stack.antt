@@ -12,11 +12,11 @@ use Rattle.values.specs.declared.Value.{Value}
 use Rattle.values.specs.Values.{kindOf}
 use Rattle.operators.specs.declared.UnaryOp.{UnaryOp}
 use Rattle.operators.specs.declared.BinaryOp.{BinaryOp}
-use Rattle.operators.specs.Kinds.{unaryTakes, binaryTakes}
+use Rattle.operators.specs.Kinds.{isInt, unaryTakes, binaryTakes}
 use Rattle.memory.specs.declared.Bank.{Bank}
 use Rattle.memory.specs.Environment.{Environment}
 use Rattle.code.specs.declared.Instr.{Instr}
-use Rattle.code.specs.declared.Instr.the-variants.{PushInt, PushReal, Load, LoadIndexed, Unary, Binary, Jump, JumpIf}
+use Rattle.code.specs.declared.Instr.the-variants.{PushInt, PushReal, Load, LoadIndexed, Unary, Binary, Jump, JumpIf, Tick, Since}
 use Rattle.machine.specs.Machine.{maxHeight}
 use Rattle.machine.specs.Configurations.{Configuration, Begins, Finishes}
 use Rattle.verifier.specs.Typing.{Shape}
@@ -32,6 +32,8 @@ pub data HasOperands : Instr → Shape → Type 0 where
   binary : {o : BinaryOp} {j k : Kind} {s : Shape} → T (binaryTakes o j k) → HasOperands (Binary o) (k ∷ (j ∷ s))
   jump-always : {d : ℕ} {s : Shape} → HasOperands (Jump d) s
   jump-if : {t : Bool} {d : ℕ} {k : Kind} {s : Shape} → HasOperands (JumpIf t d) (k ∷ s)
+  push-tick : {s : Shape} → HasOperands Tick s
+  since : {k : Kind} {s : Shape} → T (isInt k) → HasOperands Since (k ∷ s)
 
 -- what the run of c in E holds, where the end has a value of the kind k
 pub record StackSafe (E : Environment) (c : List Instr) (k : Kind) : Type 0 where

@@ -6,10 +6,10 @@ use lib.Dec.{ltb, leb}
 use lib.ListN.{length}
 use Rattle.values.specs.declared.Kind.{Kind}
 use Rattle.values.specs.declared.Kind.the-variants.{Int, Real}
-use Rattle.operators.specs.Kinds.{unaryKind, unaryTakes, binaryKind, binaryTakes}
+use Rattle.operators.specs.Kinds.{isInt, unaryKind, unaryTakes, binaryKind, binaryTakes}
 use Rattle.memory.specs.Cells.{bankKind}
 use Rattle.code.specs.declared.Instr.{Instr}
-use Rattle.code.specs.declared.Instr.the-variants.{PushInt, PushReal, Load, LoadIndexed, Unary, Binary, Jump, JumpIf, Unknown}
+use Rattle.code.specs.declared.Instr.the-variants.{PushInt, PushReal, Load, LoadIndexed, Unary, Binary, Jump, JumpIf, Tick, Since, Unknown}
 use Rattle.machine.specs.Machine.{maxHeight}
 
 -- the kinds of the values held, the last pushed first
@@ -44,6 +44,9 @@ moveOf (Binary o) (k ∷ (j ∷ s)) = cond (binaryTakes o j k) (next (binaryKind
 moveOf (Jump d) s = jump d s
 moveOf (JumpIf t d) [] = illTyped
 moveOf (JumpIf t d) (k ∷ s) = fork d s
+moveOf Tick s = pushKind Int s
+moveOf Since [] = illTyped
+moveOf Since (k ∷ s) = cond (isInt k) (next (Int ∷ s)) illTyped
 moveOf Unknown s = illTyped
 
 -- "every one is known ..., jumps go forward and stay within the code or at its end": m instructions follow
@@ -56,4 +59,6 @@ wellFormed m (Unary o) = true
 wellFormed m (Binary o) = true
 wellFormed m (Jump d) = leb d m
 wellFormed m (JumpIf t d) = leb d m
+wellFormed m Tick = true
+wellFormed m Since = true
 wellFormed m Unknown = false

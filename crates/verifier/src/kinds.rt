@@ -4,7 +4,7 @@ ghost use mathlib.Core.Path.{_≡_};
 ghost use Prim.Native.Nat.{ℕ};
 ghost use lib.Dec.{leb};
 ghost use Rattle.memory.specs.Numbers.{bankNumbered};
-ghost use Rattle.code.specs.declared.Class.the-variants.{PushReal, Load, LoadIndexed, Unary, Binary};
+ghost use Rattle.code.specs.declared.Class.the-variants.{PushReal, Tick, Since, Load, LoadIndexed, Unary, Binary};
 ghost use Rattle.code.specs.Instructions.{wordOf, instructionOf};
 ghost use Rattle.code.specs.private.Classes.{instrIn};
 ghost use Rattle.verifier.specs.Typing.{wellFormed};
@@ -20,6 +20,27 @@ pub fn real_kind(w: u64) -> u8
 {
     if patterns::is_finite_single(code::word_of(w)) {
         kinds::REAL
+    } else {
+        kinds::NOT_TAKEN
+    }
+}
+
+// The tick is an integer.
+pub fn tick_kind(w: u64) -> u8
+    ensures { λ r. ⌜ LeavesKind (instrIn Tick w) r ⌝ }
+{
+    if code::word_of(w) == 0 {
+        kinds::INT
+    } else {
+        kinds::NOT_TAKEN
+    }
+}
+
+pub fn since_kind(w: u64, k: u8) -> u8
+    ensures { λ r. ⌜ ReplacesKind (instrIn Since w) k r ⌝ }
+{
+    if code::word_of(w) == 0 {
+        kinds::of_integer(k)
     } else {
         kinds::NOT_TAKEN
     }
@@ -90,6 +111,8 @@ pub fn known(w: u64, left: usize) -> bool
         Class::Jump => stays(w, left),
         Class::JumpIfFalse => stays(w, left),
         Class::JumpIfTrue => stays(w, left),
+        Class::Tick => tick_kind(w) < kinds::NOT_TAKEN,
+        Class::Since => since_kind(w, kinds::INT) < kinds::NOT_TAKEN,
         Class::Load => load_kind(w) < kinds::NOT_TAKEN,
         Class::LoadIndexed => indexed_kind(w) < kinds::NOT_TAKEN,
         Class::Unary => unary_kind(w, kinds::INT) < kinds::NOT_TAKEN,

@@ -161,6 +161,8 @@ fn step(
         Class::Jump => jump(w, n, held, next, tops, lows, highs),
         Class::JumpIfFalse => fork(w, n, held, next, tops, lows, highs),
         Class::JumpIfTrue => fork(w, n, held, next, tops, lows, highs),
+        Class::Tick => typing::push(kinds, held, kinds::tick_kind(w)),
+        Class::Since => typing::since(kinds, held, w),
         Class::Load => typing::push(kinds, held, kinds::load_kind(w)),
         Class::LoadIndexed => typing::indexed(kinds, held, w),
         Class::Unary => typing::unary(kinds, held, w),

@@ -3,12 +3,15 @@
 use super::shown_end;
 use crate::reference::check::check;
 use crate::reference::code::Instruction::{self, *};
-use crate::reference::code::{bytes, encode, BINARY, INSTRUCTION_BYTES, LOAD, LOAD_INDEXED, PUSH_REAL, UNARY};
+use crate::reference::code::{bytes, encode, BINARY, INSTRUCTION_BYTES, LOAD, LOAD_INDEXED, PUSH_REAL, SINCE, TICK, UNARY};
 use crate::reference::machine::run;
 use crate::reference::memory::{offset, Bank, MEMORY_BYTES};
 use crate::reference::operators::Binary::*;
 use crate::reference::operators::Unary as Prefix;
 use crate::reference::value::{Kind, Value};
+
+// The program runs every code at this tick: below zero as an integer, and far from the least one.
+const TICK_OF_RUNS: u32 = 0x8000_0005;
 
 #[derive(Clone)]
 struct Case {
@@ -29,7 +32,7 @@ pub fn files() -> (String, String) {
             Some(Kind::Real) => "r",
             None => "15",
         };
-        let (end, count) = run(&code, instructions, &memory);
+        let (end, count) = run(&code, instructions, &memory, TICK_OF_RUNS);
         printed += &format!("{name} {verdict} {} {count}\n", shown_end(end));
     }
     (input, printed)
@@ -91,6 +94,11 @@ fn accepted() -> Vec<Case> {
         case("both_ways_the_same", &[real(0.5), JumpIf(true, 2), int(1), Jump(1), int(2)]),
         case("held_128", &pile(128)),
         case("long_2048", &negations(2047)),
+        case("tick", &[Tick]),
+        case("since", &[int(5), Since]),
+        case("since_the_tick", &[Tick, Since]),
+        case("since_the_greatest", &[int(i32::MAX), Since]),
+        case("since_the_least", &[int(i32::MIN), Since]),
     ]
 }
 
@@ -103,14 +111,14 @@ fn faults() -> Vec<Case> {
         case("index_beyond", &[int(64), LoadIndexed(Bank::X)]),
         case("nan_read", &[Load(Bank::R, 1)]),
         case("index_beyond_32_bits", &[real(3e9), LoadIndexed(Bank::D)]),
+        case("tick_less_the_greatest", &[Tick, int(i32::MAX), Binary(Minus)]),
     ]
 }
 
 // Not so many instructions, or one that is unknown.
 fn unknown() -> Vec<Case> {
     let one = encode(int(1));
-    let with_one_at = |byte: usize| {
-        let mut eight = one;
+    let with_one_at = |mut eight: Eight, byte: usize| {
         eight[byte] = 1;
         eight
     };
@@ -119,7 +127,7 @@ fn unknown() -> Vec<Case> {
         Case { instructions: 2, ..case("beyond_the_buffer", &[int(1)]) },
         case("long_2049", &negations(2048)),
         raw("opcode_0", &[bytes(0, 0, 0)]),
-        raw("opcode_6", &[bytes(6, 0, 0)]),
+        raw("opcode_8", &[bytes(8, 0, 0)]),
         raw("opcode_160", &[one, one, bytes(160, 0, 0)]),
         raw("unary_operator_8", &[one, bytes(UNARY, 8, 0)]),
         raw("binary_operator_20", &[one, one, bytes(BINARY, 20, 0)]),
@@ -129,9 +137,13 @@ fn unknown() -> Vec<Case> {
         raw("element_256_of_d", &[bytes(LOAD, Bank::D as u8, 256)]),
         raw("infinity_pushed", &[bytes(PUSH_REAL, 0, 0x7F80_0000)]),
         raw("nan_pushed", &[bytes(PUSH_REAL, 0, 0x7FC0_0001)]),
-        raw("byte_1_not_zero", &[with_one_at(1)]),
-        raw("byte_2_not_zero", &[with_one_at(2)]),
-        raw("byte_3_not_zero", &[with_one_at(3)]),
+        raw("byte_1_not_zero", &[with_one_at(one, 1)]),
+        raw("byte_2_not_zero", &[with_one_at(one, 2)]),
+        raw("byte_3_not_zero", &[with_one_at(one, 3)]),
+        raw("byte_1_of_tick", &[with_one_at(encode(Tick), 1)]),
+        raw("byte_3_of_since", &[one, with_one_at(encode(Since), 3)]),
+        raw("word_of_tick", &[bytes(TICK, 0, 1)]),
+        raw("word_of_since", &[one, bytes(SINCE, 0, 0x8000_0000)]),
         raw("word_of_an_operator", &[one, bytes(UNARY, Prefix::Negate as u8, 1)]),
         raw("unknown_but_unreached", &[encode(int(3)), encode(Jump(1)), bytes(0, 0, 0)]),
     ]
@@ -151,6 +163,8 @@ fn refused() -> Vec<Case> {
         case("short_of_one", &[Unary(Prefix::Negate)]),
         case("short_of_two", &[int(1), Binary(Plus)]),
         case("jump_on_nothing", &[JumpIf(true, 0)]),
+        case("since_nothing", &[Since]),
+        case("since_a_real", &[real(1.0), Since]),
         case("real_complemented", &[real(1.0), Unary(Prefix::Invert)]),
         case("real_masked", &[real(1.0), int(1), Binary(And)]),
         case("real_exponent", &[int(2), real(2.0), Binary(Power)]),

@@ -3,6 +3,9 @@
 use crate::reference::operations::compile_and_run;
 use crate::reference::program::{output, read_input};
 
+// The program has no clock.
+const TICK: u32 = 0;
+
 pub fn of_one(name: &str) -> Result<String, String> {
     Ok(reply(&stored(name)?))
 }
@@ -17,7 +20,7 @@ fn stored(name: &str) -> Result<Vec<u8>, String> {
 }
 
 fn reply(case: &[u8]) -> String {
-    output(read_input(case), compile_and_run)
+    output(read_input(case), compile_and_run, TICK)
 }
 
 // The parts of a file that each end with an empty line, without it.

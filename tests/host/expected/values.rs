@@ -3,7 +3,7 @@
 use super::{shown, shown_end};
 use crate::reference::machine::Stop::{self, Stuck};
 use crate::reference::memory::element;
-use crate::reference::operators::{binary, binary_kind, unary, unary_kind, Binary, Unary};
+use crate::reference::operators::{binary, binary_kind, since, since_kind, unary, unary_kind, Binary, Unary};
 use crate::reference::value::{Kind, Value};
 
 // The tables of crates/value_cases/src/main.rt, which says what each number is there for.
@@ -19,6 +19,8 @@ const SINGLES: [u32; 22] = [
 ];
 const BASES: [i32; 13] = [i32::MIN, -46341, -46340, -3, -2, -1, 0, 1, 2, 3, 46340, 46341, i32::MAX];
 const EXPONENTS: [i32; 19] = [0, 1, 2, 3, 4, 5, 6, 7, 15, 16, 30, 31, 32, 33, 62, 63, 64, 65, -1];
+
+const TICKS: [u32; 5] = [0, 1, 0x7FFF_FFFF, 0x8000_0000, 0xFFFF_FFFF];
 
 const UNARY_NAMES: [(&str, Unary); 8] = [
     ("-", Unary::Negate),
@@ -66,6 +68,9 @@ pub fn lines() -> String {
     for (name, op) in UNARY_NAMES {
         all += &results(name, |v| of_one(op, v));
     }
+    for tick in TICKS {
+        all += &results(&format!("SINCE at {tick:08X}:"), |v| of_since(tick, v));
+    }
     for (name, op) in BINARY_NAMES {
         for left in operands() {
             all += &results(&format!("{name} {}:", shown(left)), |right| of_two(op, left, right));
@@ -87,6 +92,13 @@ fn results(name: &str, f: impl Fn(Value) -> End) -> String {
 fn of_one(op: Unary, v: Value) -> End {
     match unary_kind(op, v.kind()) {
         (_, true) => Ok(unary(op, v)?),
+        _ => Err(Stuck),
+    }
+}
+
+fn of_since(tick: u32, v: Value) -> End {
+    match since_kind(v.kind()) {
+        (_, true) => Ok(since(tick, v)),
         _ => Err(Stuck),
     }
 }

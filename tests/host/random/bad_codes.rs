@@ -20,8 +20,9 @@ fn one_unary(random: &mut Random) -> Vec<Instruction> {
         0 if takes_real => Instruction::Push(Value::Real(random.neighbour())),
         _ => operand(random, takes_real),
     };
-    let operator = match random.below(9) {
-        0 => Instruction::LoadIndexed(*random.pick(&BANKS)),
+    let operator = match random.below(18) {
+        0 | 1 => Instruction::LoadIndexed(*random.pick(&BANKS)),
+        2 => return vec![self::operand(random, false), Instruction::Since],
         _ => Instruction::Unary(op),
     };
     vec![operand, operator]
@@ -105,8 +106,8 @@ fn damage(random: &mut Random, code: &mut Vec<u8>) {
 pub fn one_instruction(random: &mut Random) -> Vec<u8> {
     let opcode = *random.pick(&OPCODES);
     let pushes = match opcode {
-        PUSH_INT | PUSH_REAL | LOAD => 0,
-        LOAD_INDEXED | UNARY | JUMP => 1,
+        PUSH_INT | PUSH_REAL | LOAD | TICK => 0,
+        LOAD_INDEXED | UNARY | JUMP | SINCE => 1,
         _ => 2,
     };
     let mut code = bytes_of(&vec![Instruction::Push(Value::Int(1)); pushes]);

@@ -28,6 +28,7 @@ pub struct Request {
     pub memory: Vec<u8>,
     pub code: Vec<u8>,
     pub instructions: usize,
+    pub tick: u32,
     pub alignment: usize,
 }
 
@@ -97,6 +98,7 @@ fn request(random: &mut Random, operation: Operation) -> Request {
         memory: Vec::new(),
         code: Vec::new(),
         instructions: 0,
+        tick: random.tick(),
         alignment: random.below(8),
     }
 }

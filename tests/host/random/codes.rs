@@ -3,7 +3,7 @@
 use super::Random;
 use crate::reference::code::{encode, Instruction, HEIGHT_LIMIT, INSTRUCTION_LIMIT};
 use crate::reference::memory::BANKS;
-use crate::reference::operators::{binary_kind, unary_kind, BINARIES, UNARIES};
+use crate::reference::operators::{binary_kind, since_kind, unary_kind, BINARIES, UNARIES};
 use crate::reference::value::{Kind, Value};
 
 pub fn bytes_of(code: &[Instruction]) -> Vec<u8> {
@@ -156,10 +156,11 @@ impl Builder<'_> {
     }
 
     fn push(&mut self) {
-        let instruction = match self.random.below(4) {
-            0 => Instruction::Push(Value::Int(self.random.below(9) as i32)),
-            1 => Instruction::Push(Value::Int(self.random.integer())),
-            2 => Instruction::Push(Value::Real(self.random.real())),
+        let instruction = match self.random.below(9) {
+            0 | 1 => Instruction::Push(Value::Int(self.random.below(9) as i32)),
+            2 | 3 => Instruction::Push(Value::Int(self.random.integer())),
+            4 | 5 => Instruction::Push(Value::Real(self.random.real())),
+            6 => Instruction::Tick,
             _ => {
                 let bank = *self.random.pick(&BANKS);
                 Instruction::Load(bank, self.random.below(bank.cells()))
@@ -168,6 +169,7 @@ impl Builder<'_> {
         self.held.push(match instruction {
             Instruction::Push(v) => v.kind(),
             Instruction::Load(bank, _) => bank.kind(),
+            Instruction::Tick => Kind::Int,
             _ => unreachable!(),
         });
         self.code.push(instruction);
@@ -197,12 +199,17 @@ impl Builder<'_> {
         *self.held.last_mut().unwrap() = bank.kind();
     }
 
+    // SINCE stands among the operators of one value.
     fn unary(&mut self) {
-        let op = *self.random.pick(&UNARIES);
+        let op = self.random.below(UNARIES.len() + 1);
         let operand = self.held.last_mut().unwrap();
-        if let (kind, true) = unary_kind(op, *operand) {
+        let (instruction, kinds) = match UNARIES.get(op) {
+            Some(op) => (Instruction::Unary(*op), unary_kind(*op, *operand)),
+            None => (Instruction::Since, since_kind(*operand)),
+        };
+        if let (kind, true) = kinds {
             *operand = kind;
-            self.code.push(Instruction::Unary(op));
+            self.code.push(instruction);
         }
     }
 
@@ -221,9 +228,10 @@ impl Builder<'_> {
         let skipped = self.random.below(4);
         self.code.push(Instruction::Jump(skipped as u32));
         for left in (0..skipped).rev() {
-            let instruction = match self.random.below(3) {
-                0 => Instruction::JumpIf(self.random.one_in(2), self.random.below(left + 1) as u32),
-                1 => Instruction::Binary(*self.random.pick(&BINARIES)),
+            let instruction = match self.random.below(4) {
+                0 => *self.random.pick(&[Instruction::Tick, Instruction::Since]),
+                1 => Instruction::JumpIf(self.random.one_in(2), self.random.below(left + 1) as u32),
+                2 => Instruction::Binary(*self.random.pick(&BINARIES)),
                 _ => Instruction::Unary(*self.random.pick(&UNARIES)),
             };
             self.code.push(instruction);

@@ -200,7 +200,7 @@ impl Writer<'_> {
 
     fn call(&mut self, kind: Kind, operands: usize) {
         let any = self.either();
-        match self.random.below(4) {
+        match self.random.below(5) {
             0 => self.arguments("ABS", &[kind], operands),
             1 if kind == Kind::Real => {
                 let name = *self.random.pick(&["TOREAL", "FRAC"]);
@@ -215,6 +215,10 @@ impl Writer<'_> {
                 let (first, second) = self.at_least_one(kind);
                 self.arguments(name, &[first, second], operands);
             }
+            3 if kind == Kind::Int => match self.random.one_in(3) {
+                true => self.arguments("TICKms", &[], operands),
+                false => self.arguments("SINCE", &[Kind::Int], operands),
+            },
             _ => {
                 let (first, second) = self.at_least_one(kind);
                 self.arguments("IF", &[any, first, second], operands);

@@ -69,6 +69,15 @@ impl Random {
         }
     }
 
+    /// Any tick, those around the turns of the counter and of its sign more often.
+    pub fn tick(&mut self) -> u32 {
+        match self.below(3) {
+            0 => self.word(),
+            1 => self.integer() as u32,
+            _ => *self.pick(&[0, 1, 0x7FFF_FFFF, 0x8000_0000, 0xFFFF_FFFF]),
+        }
+    }
+
     /// Any single that is no infinity and no NaN, with those near the rounding and range borders more often.
     pub fn real(&mut self) -> f32 {
         let r = match self.below(9) {

@@ -2,7 +2,7 @@
 
 use super::code::Instruction::{self, *};
 use super::code::{at, HEIGHT_LIMIT, INSTRUCTION_LIMIT};
-use super::operators::{binary_kind, unary_kind};
+use super::operators::{binary_kind, since_kind, unary_kind};
 use super::value::Kind;
 
 /// The kind of the one value at the end, if the check accepts so many instructions.
@@ -71,6 +71,8 @@ fn step(instruction: Instruction, held: &mut Vec<Kind>) -> Option<()> {
         }
         Jump(_) => return Some(()),
         JumpIf(..) => return held.pop().map(|_| ()),
+        Tick => Kind::Int,
+        Since => taken(since_kind(held.pop()?))?,
     };
     held.push(left);
     (held.len() <= HEIGHT_LIMIT).then_some(())

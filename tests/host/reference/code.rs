@@ -19,6 +19,8 @@ pub enum Instruction {
     Jump(u32),
     /// Jumps if the value taken has this truth.
     JumpIf(bool, u32),
+    Tick,
+    Since,
 }
 
 use Instruction::*;
@@ -29,14 +31,16 @@ pub const PUSH_REAL: u8 = 2;
 pub const JUMP: u8 = 3;
 pub const JUMP_IF_FALSE: u8 = 4;
 pub const JUMP_IF_TRUE: u8 = 5;
+pub const TICK: u8 = 6;
+pub const SINCE: u8 = 7;
 pub const LOAD: u8 = 32;
 pub const LOAD_INDEXED: u8 = 64;
 pub const UNARY: u8 = 96;
 pub const BINARY: u8 = 128;
 
 #[rustfmt::skip]
-pub const OPCODES: [u8; 9] =
-    [PUSH_INT, PUSH_REAL, JUMP, JUMP_IF_FALSE, JUMP_IF_TRUE, LOAD, LOAD_INDEXED, UNARY, BINARY];
+pub const OPCODES: [u8; 11] =
+    [PUSH_INT, PUSH_REAL, JUMP, JUMP_IF_FALSE, JUMP_IF_TRUE, TICK, SINCE, LOAD, LOAD_INDEXED, UNARY, BINARY];
 
 // So many opcodes has a class.
 const CLASS: u8 = 32;
@@ -69,6 +73,8 @@ pub fn encode(instruction: Instruction) -> [u8; INSTRUCTION_BYTES] {
         Jump(distance) => bytes(JUMP, 0, distance),
         JumpIf(false, distance) => bytes(JUMP_IF_FALSE, 0, distance),
         JumpIf(true, distance) => bytes(JUMP_IF_TRUE, 0, distance),
+        Tick => bytes(TICK, 0, 0),
+        Since => bytes(SINCE, 0, 0),
     }
 }
 
@@ -91,6 +97,8 @@ pub fn decode(bytes: &[u8]) -> Option<Instruction> {
         (JUMP, 0, _) => Some(Jump(word)),
         (JUMP_IF_FALSE, 0, _) => Some(JumpIf(false, word)),
         (JUMP_IF_TRUE, 0, _) => Some(JumpIf(true, word)),
+        (TICK, 0, 0) => Some(Tick),
+        (SINCE, 0, 0) => Some(Since),
         _ => None,
     }
 }

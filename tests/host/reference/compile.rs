@@ -1,7 +1,7 @@
 //! The code of a tree.
 
 use super::code::Instruction::{self, *};
-use super::operators::{binary_kind, unary_kind, Unary};
+use super::operators::{binary_kind, since_kind, unary_kind, Unary};
 use super::tree::Tree;
 use super::value::{Kind, Value};
 
@@ -34,6 +34,15 @@ pub fn compile(tree: &Tree, code: &mut Vec<Instruction>) -> Kind {
         }
         Tree::Decide(decides, t, u) => compile_decide(*decides, t, u, code),
         Tree::If(c, t, u) => compile_if(c, t, u, code),
+        Tree::Tick => {
+            code.push(Tick);
+            Kind::Int
+        }
+        Tree::Since(_, t) => {
+            let operand = compile(t, code);
+            code.push(Since);
+            since_kind(operand).0
+        }
     }
 }
 

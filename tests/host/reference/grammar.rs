@@ -63,6 +63,8 @@ enum Expect {
     /// After a bank letter or a function name.
     Opener(Opener),
     Operator,
+    /// After `(` of a function that takes nothing.
+    Closer,
 }
 
 struct Parser {
@@ -89,7 +91,8 @@ pub fn parse(text: &[u8]) -> Result<Tree, Refusal> {
 
 fn arguments(function: Function) -> usize {
     match function {
-        Function::One(_) => 1,
+        Function::Tick => 0,
+        Function::One(_) | Function::Since => 1,
         Function::Two(_) => 2,
         Function::If => 3,
     }
@@ -120,6 +123,11 @@ impl Parser {
                 _ => Err(7),
             },
             (Expect::Operator, Token::Symbol(symbol)) => self.operator(symbol, place),
+            (Expect::Closer, Token::Symbol(")")) => {
+                self.close();
+                self.operand_done(Tree::Tick);
+                Ok(())
+            }
             _ => Err(7),
         }
     }
@@ -147,7 +155,10 @@ impl Parser {
         }
         self.open += 1;
         self.waiting.push(Waiting::Open(opener));
-        self.expect = Expect::Operand;
+        self.expect = match opener {
+            Opener::Call(f, ..) if arguments(f) == 0 => Expect::Closer,
+            _ => Expect::Operand,
+        };
         Ok(())
     }
 
@@ -198,6 +209,8 @@ impl Parser {
                 let middle = self.pop();
                 Tree::If(self.pop(), middle, last)
             }
+            Function::Since => Tree::Since(place, last),
+            Function::Tick => unreachable!("it has no argument"),
         };
         self.operand_done(tree);
     }

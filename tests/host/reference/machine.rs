@@ -3,7 +3,7 @@
 use super::code::Instruction::{self, *};
 use super::code::{at, HEIGHT_LIMIT};
 use super::memory::{read, read_indexed};
-use super::operators::{binary, binary_kind, unary, unary_kind};
+use super::operators::{binary, binary_kind, since, since_kind, unary, unary_kind};
 use super::value::{Fault, Value};
 
 /// Why a run has no value: a fault, or code that no check accepts.
@@ -21,20 +21,20 @@ impl From<Fault> for Stop {
     }
 }
 
-/// What so many instructions give on a memory, and how many were begun.
-pub fn run(code: &[u8], number: usize, memory: &[u8]) -> (Result<Value, Stop>, u32) {
+/// What so many instructions give on a memory at a tick, and how many were begun.
+pub fn run(code: &[u8], number: usize, memory: &[u8], tick: u32) -> (Result<Value, Stop>, u32) {
     let mut count = 0;
-    let result = run_counted(code, number, memory, &mut count);
+    let result = run_counted(code, number, memory, tick, &mut count);
     (result, count)
 }
 
-fn run_counted(code: &[u8], number: usize, memory: &[u8], count: &mut u32) -> Result<Value, Stop> {
+fn run_counted(code: &[u8], number: usize, memory: &[u8], tick: u32, count: &mut u32) -> Result<Value, Stop> {
     let mut held = Vec::new();
     let mut place = 0;
     while place < number {
         *count += 1;
         let instruction = at(code, place).ok_or(Stuck)?;
-        place += 1 + execute(instruction, &mut held, memory)? as usize;
+        place += 1 + execute(instruction, &mut held, memory, tick)? as usize;
     }
     match held[..] {
         [value] if place == number => Ok(value),
@@ -43,7 +43,7 @@ fn run_counted(code: &[u8], number: usize, memory: &[u8], count: &mut u32) -> Re
 }
 
 // Does one instruction and says how many to skip.
-fn execute(instruction: Instruction, held: &mut Vec<Value>, memory: &[u8]) -> Result<u32, Stop> {
+fn execute(instruction: Instruction, held: &mut Vec<Value>, memory: &[u8], tick: u32) -> Result<u32, Stop> {
     let value = match instruction {
         Push(v) => v,
         Load(bank, element) => read(memory, bank, element)?,
@@ -60,6 +60,12 @@ fn execute(instruction: Instruction, held: &mut Vec<Value>, memory: &[u8]) -> Re
         }
         Jump(distance) => return Ok(distance),
         JumpIf(truth, distance) => return Ok(if pop(held)?.truth() == truth { distance } else { 0 }),
+        Tick => Value::Int(tick as i32),
+        Since => {
+            let operand = pop(held)?;
+            taken(since_kind(operand.kind()).1)?;
+            since(tick, operand)
+        }
     };
     if held.len() == HEIGHT_LIMIT {
         return Err(Stuck);

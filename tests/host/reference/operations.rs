@@ -62,8 +62,8 @@ fn write_code(expr: &[u8], code: &mut [u8]) -> Result<usize, Refusal> {
 }
 
 // A run of code that the check accepts, or that was just compiled.
-fn run_accepted(code: &[u8], instructions: usize, memory: &[u8]) -> (Result<Value, Fault>, u32) {
-    let (result, count) = run_code(code, instructions, memory);
+fn run_accepted(code: &[u8], instructions: usize, memory: &[u8], tick: u32) -> (Result<Value, Fault>, u32) {
+    let (result, count) = run_code(code, instructions, memory, tick);
     let result = result.map_err(|stop| match stop {
         Stop::Fault(fault) => fault,
         Stop::Stuck => panic!("accepted code is stuck"),
@@ -97,7 +97,7 @@ pub fn check(code: &[u8], instructions: usize) -> Report {
     Report::answer(if check_code(code, instructions).is_some() { 0 } else { 15 })
 }
 
-pub fn run(code: &[u8], instructions: usize, memory: &mut [u8], target: &[u8]) -> Report {
+pub fn run(code: &[u8], instructions: usize, memory: &mut [u8], target: &[u8], tick: u32) -> Report {
     if memory.len() != MEMORY_BYTES {
         return Report::answer(1);
     }
@@ -105,11 +105,11 @@ pub fn run(code: &[u8], instructions: usize, memory: &mut [u8], target: &[u8]) -
     if check_code(code, instructions).is_none() {
         return Report::answer(15);
     }
-    let outcome = run_accepted(code, instructions, memory);
+    let outcome = run_accepted(code, instructions, memory, tick);
     settle(memory, cell, outcome)
 }
 
-pub fn compile_and_run(target: &[u8], expr: &[u8], memory: &mut [u8], code: &mut [u8]) -> Report {
+pub fn compile_and_run(target: &[u8], expr: &[u8], memory: &mut [u8], code: &mut [u8], tick: u32) -> Report {
     if memory.len() != MEMORY_BYTES {
         return Report::answer(1);
     }
@@ -120,19 +120,19 @@ pub fn compile_and_run(target: &[u8], expr: &[u8], memory: &mut [u8], code: &mut
     match write_code(expr, code) {
         Err(refusal) => Report::refused(refusal),
         Ok(instructions) => {
-            let outcome = run_accepted(code, instructions, memory);
+            let outcome = run_accepted(code, instructions, memory, tick);
             settle(memory, cell, outcome)
         }
     }
 }
 
 /// As compile_and_run with good sizes, but worked out on the tree: it has no code and counts no instructions.
-pub fn walk(target: &[u8], expr: &[u8], memory: &mut [u8]) -> Report {
+pub fn walk(target: &[u8], expr: &[u8], memory: &mut [u8], tick: u32) -> Report {
     let Some(cell) = target_cell(target) else { return Report::answer(2) };
     match read_text(expr) {
         Err(refusal) => Report::refused(refusal),
         Ok(tree) => {
-            let result = worth(&tree, memory);
+            let result = worth(&tree, memory, tick);
             settle(memory, cell, (result, 0))
         }
     }

@@ -104,6 +104,16 @@ pub fn unary(op: Unary, v: Value) -> Result<Value, Fault> {
     }
 }
 
+/// The kind of SINCE, and whether its operand's kind is taken.
+pub fn since_kind(operand: Kind) -> (Kind, bool) {
+    (Kind::Int, operand == Kind::Int)
+}
+
+/// The tick less an integer on 32 bits, around the end of the counter.
+pub fn since(tick: u32, v: Value) -> Value {
+    Int(tick.wrapping_sub(integer(v) as u32) as i32)
+}
+
 // Only for operands that the kinds have shown to be integers.
 fn integer(v: Value) -> i32 {
     match v {

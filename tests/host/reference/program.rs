@@ -4,8 +4,8 @@ use super::memory::{cell_name, offset, read, store, target_cell, Bank, MEMORY_BY
 use super::operations::{Report, CODE_BYTES};
 use super::value::Value;
 
-/// An implementation of compile-and-run: target, expression, memory, code buffer.
-pub type Operation = fn(&[u8], &[u8], &mut [u8], &mut [u8]) -> Report;
+/// An implementation of compile-and-run: target, expression, memory, code buffer, tick.
+pub type Operation = fn(&[u8], &[u8], &mut [u8], &mut [u8], u32) -> Report;
 
 pub struct Input {
     pub memory: Vec<u8>,
@@ -63,10 +63,10 @@ fn pattern(text: &str) -> Option<Value> {
     u32::from_str_radix(digits, 16).ok().map(|bits| Value::Real(f32::from_bits(bits)))
 }
 
-/// What the program prints for one case.
-pub fn output(mut input: Input, operation: Operation) -> String {
+/// What the program prints for one case, at any tick.
+pub fn output(mut input: Input, operation: Operation, tick: u32) -> String {
     let mut code = vec![0; CODE_BYTES];
-    let report = operation(&input.target, &input.expr, &mut input.memory, &mut code);
+    let report = operation(&input.target, &input.expr, &mut input.memory, &mut code, tick);
     let mut printed = format!("answer={}\nplace={}\n", report.answer, report.place);
     if report.answer == 0 {
         printed += &cell_line(&input.memory, &input.target);

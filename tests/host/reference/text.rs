@@ -10,6 +10,9 @@ pub enum Function {
     One(Unary),
     Two(Binary),
     If,
+    /// TICKms, which takes nothing.
+    Tick,
+    Since,
 }
 
 #[derive(Clone, Copy, Debug)]
@@ -43,7 +46,7 @@ const SYMBOLS: [&str; 27] = [
     "~", "(", ")", "[", "]", ",",
 ];
 
-const FUNCTIONS: [(&str, Function); 9] = [
+const FUNCTIONS: [(&str, Function); 11] = [
     ("ABS", Function::One(Unary::Abs)),
     ("TOREAL", Function::One(Unary::ToReal)),
     ("TOINT", Function::One(Unary::Trunc)),
@@ -53,6 +56,8 @@ const FUNCTIONS: [(&str, Function); 9] = [
     ("MAX", Function::Two(Binary::Max)),
     ("MIN", Function::Two(Binary::Min)),
     ("IF", Function::If),
+    ("TICKms", Function::Tick),
+    ("SINCE", Function::Since),
 ];
 
 /// All tokens of the text, or its first refusal among 4, 5 and 6.

@@ -15,9 +15,9 @@ use Rattle.memory.specs.Numbers.{bankNumbered}
 use Rattle.code.specs.declared.Instr.{Instr}
 use Rattle.code.specs.declared.Instr.the-variants as Instr
 use Rattle.code.specs.declared.Class.{Class}
-use Rattle.code.specs.declared.Class.the-variants.{PushInt, PushReal, Jump, JumpIfFalse, JumpIfTrue, Load, LoadIndexed, Unary, Binary, Unknown}
-use Rattle.code.specs.Instructions.{PUSH-INT, PUSH-REAL, JUMP, JUMP-IF-FALSE, JUMP-IF-TRUE, LOAD, LOAD-INDEXED, UNARY, BINARY}
-use Rattle.code.specs.Instructions.{pushInt, pushReal, loadElement, loadIndexed, applyUnary, applyBinary, opcodeOf, wordOf}
+use Rattle.code.specs.declared.Class.the-variants.{PushInt, PushReal, Jump, JumpIfFalse, JumpIfTrue, Tick, Since, Load, LoadIndexed, Unary, Binary, Unknown}
+use Rattle.code.specs.Instructions.{PUSH-INT, PUSH-REAL, JUMP, JUMP-IF-FALSE, JUMP-IF-TRUE, TICK, SINCE, LOAD, LOAD-INDEXED, UNARY, BINARY}
+use Rattle.code.specs.Instructions.{pushInt, pushReal, loadElement, loadIndexed, applyUnary, applyBinary, pushTick, applySince, opcodeOf, wordOf}
 
 -- from the first opcode of a class to that of the next
 abbrev pub classSize : ℕ
@@ -26,7 +26,7 @@ classSize = 32
 abbrev pub singleClass : ℕ → Class
 singleClass o =
     cond (eqb o PUSH-INT) PushInt (cond (eqb o PUSH-REAL) PushReal (cond (eqb o JUMP) Jump
-    (cond (eqb o JUMP-IF-FALSE) JumpIfFalse (cond (eqb o JUMP-IF-TRUE) JumpIfTrue Unknown))))
+    (cond (eqb o JUMP-IF-FALSE) JumpIfFalse (cond (eqb o JUMP-IF-TRUE) JumpIfTrue (cond (eqb o TICK) Tick (cond (eqb o SINCE) Since Unknown))))))
 
 abbrev pub classOf : ℕ → Class
 classOf o =
@@ -57,6 +57,8 @@ classed PushReal k w = pushReal w
 classed Jump k w = Instr.Jump w
 classed JumpIfFalse k w = Instr.JumpIf false w
 classed JumpIfTrue k w = Instr.JumpIf true w
+classed Tick k w = pushTick w
+classed Since k w = applySince w
 classed Load k w = ofBank loadElement (bankNumbered k) w
 classed LoadIndexed k w = ofBank loadIndexed (bankNumbered k) w
 classed Unary k w = ofUnary (unaryOf k) w

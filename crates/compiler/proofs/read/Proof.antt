@@ -29,13 +29,13 @@ same-length-2 : tie.Need-same-length-2
 same-length-2 c = search needs
 
 returns : tie.Need-returns
-returns c = all-read (c .before .before .before .before .before .before .before .before .before .before .before .before .before .before .pre .0 .0) (subst (Fills _ _) (c .before .before .before .before .before .enum-told .given .1) (c .before .before .before .before .before .before .before .before .before .fill .ensures .1 .0)) (c .before .before .formula .ensures)
+returns c = all-read (c .before .before .before .before .before .before .before .before .before .before .before .before .before .before .args .opened) (c .before .before .before .before .before .before .before .before .before .before .before .before .before .before .pre .0 .0) (subst (Fills _ _) (c .before .before .before .before .before .enum-told .given .1) (c .before .before .before .before .before .before .before .before .before .fill .ensures .1 .0)) (c .before .before .formula .ensures)
 
 same-length-3 : tie.Need-same-length-3
 same-length-3 c = search needs
 
 returns-2 : tie.Need-returns-2
-returns-2 c = wrong-token (c .before .before .before .before .before .before .before .before .before .before .pre .0 .0) (subst (Fills _ _) (c .before .a .given .1) (c .before .before .before .before .before .fill .ensures .1 .0))
+returns-2 c = wrong-token (c .before .before .before .before .before .before .before .before .before .before .args .opened) (c .before .before .before .before .before .before .before .before .before .before .pre .0 .0) (subst (Fills _ _) (c .before .a .given .1) (c .before .before .before .before .before .fill .ensures .1 .0))
 
 pub read-spec : {M : Type 1} → statement M
 read-spec =

@@ -1,29 +1,37 @@
--- A law for each way through `arguments` and `branches`.
+-- A law for each way through `call`, `arguments`, `clock` and `branches`.
 use mathlib.Core.Path.{_≡_, refl, sym, ap, subst, fun-ext, _∙_}
 use mathlib.Core.Bool.{true, false}
 use mathlib.Core.List.{List}
-use Prim.Native.Nat.{ℕ, zero, suc, _+_, _-_, _*_, _≤_, _<_}
+use Prim.Native.Nat.{ℕ, zero, suc, _+_, _-_, _*_, _≤_}
 use native.Mathlib.Omega.{arith}
 use lib.ListN.{length}
 use Rattle.values.specs.declared.Kind.{Kind}
 use Rattle.values.specs.declared.Kind.the-variants as K
-use Rattle.operators.specs.Functions.{functionArity}
-use Rattle.operators.proofs.Ranges.{in-range}
-use Rattle.operators.specs.Kinds.{join, unaryKind, unaryTakes, binaryKind, binaryTakes}
+use Rattle.values.specs.declared.ChoiceOp.the-variants as Choose
+use Rattle.operators.specs.declared.UnaryOp.{UnaryOp}
+use Rattle.operators.specs.declared.UnaryOp.the-variants as U
+use Rattle.operators.specs.declared.BinaryOp.{BinaryOp}
+use Rattle.operators.specs.declared.BinaryOp.the-variants as B
+use Rattle.operators.specs.Kinds.{isInt, join, unaryKind, unaryTakes, binaryKind, binaryTakes}
+use Rattle.operators.specs.Tables.{unaryNumber, binaryNumber}
+use Rattle.tokens.specs.declared.Function.{Function}
+use Rattle.tokens.specs.declared.Function.the-variants as F
 use Rattle.tokens.specs.Scan.{Tok}
-use Rattle.token_table.specs.private.Table.{wordAt, tokensFrom, TokenWords}
-use Rattle.grammar.specs.Tree.{Tree, unary, binary, choice, Diagnostic, earlier}
-use Rattle.grammar.specs.Symbols.{loosest, openParen, closeParen, comma, Callee, of-one, of-two, of-choice, plain, formOf, moreArguments, Arguments, one, more, argument, callTree}
-use Rattle.grammar.specs.Parse.{Result, ok, andThen, callBody, expression, arguments}
-use Rattle.code.specs.declared.Instr.the-variants.{Unary, Binary, JumpIf}
+use Rattle.tokens.specs.Words.{functionAt}
+use Rattle.token_table.specs.private.Table.{wordOperand, wordPlace, wordAt, tokensFrom, TokenWords}
+use Rattle.grammar.specs.Tree.{Tree, choice, tick, Diagnostic, clear, earlier, unless, wrongKindAt}
+use Rattle.grammar.specs.Symbols.{loosest, openParen, closeParen, comma, Callee, of-one, of-two, of-choice, of-since, Form, plain, clock, formOf, Arguments, one, more, argument, callTree}
+use Rattle.grammar.specs.Functions.{formNumber, operatorNumber, functionForm}
+use Rattle.grammar.specs.Parse.{Result, ok, andThen, expect, callBody, expression, arguments}
+use Rattle.code.specs.declared.Instr.the-variants.{Unary, Binary, JumpIf, Tick, Since}
 use Rattle.tree_code.specs.Code.{branchTail}
-use Rattle.draft.specs.private.Results.{Read, Done, readNext, readEnd, readKind, readWrong}
-use Rattle.draft.specs.private.Words.{functionAt, functionOp, functionPair, isMark}
+use Rattle.draft.specs.private.Results.{Read, Done, Bad, readNext, readEnd, readKind, readWrong}
+use Rattle.draft.specs.private.Words.{unaryAt, binaryAt, functionOp, functionPair, isMark}
 use Rattle.draft.specs.private.Draft.{putInstr, chosenCode}
-use Rattle.compiler.specs.private.Reading.{DraftHolds, SameResult, same-done, Span, span-done, ReaderAgrees, thenSymbol, callOf, Branches}
-use Rattle.compiler.proofs.reader.Looking.{There, there}
-use Rattle.compiler.proofs.reader.Binding.{Stopped, span-stopped, bind-done, bind-stopped, and-then, then-then, enter-inside}
-use Rattle.compiler.proofs.reader.Meaning.{means-unary, means-binary, means-choice}
+use Rattle.compiler.specs.private.Reading.{DraftHolds, SameResult, same-done, same-bad, Span, span-done, span-bad, ReaderAgrees, thenSymbol, argumentsOf, callOf, Arguing, Branches}
+use Rattle.compiler.proofs.reader.Looking.{headIs, look, mark, There, there}
+use Rattle.compiler.proofs.reader.Binding.{Stopped, span-earlier, span-stopped, bind-done, bind-stopped, expect-past, expect-other, and-then, then-then, enter-inside}
+use Rattle.compiler.proofs.reader.Meaning.{means-tick, means-since, means-unary, means-binary, means-choice}
 use Rattle.compiler.proofs.reader.Steps.{Enclosed, Bounds, bounds}
 
 -- ---- the parser's lists of arguments, put one behind another
@@ -66,152 +74,189 @@ module _ (d : ℕ) {s : List ℕ} {at pc pc′ : ℕ} {o o₁ o₂ o₃ : List �
       rw (more-step f d m (tokensFrom s at) K)
       (bind-done (λ t q. andThen (arguments f d m q) (λ us z. K (more t us) z)) (x .same f (omega arith)) (λ t i. g t i f (omega arith)))
 
--- ---- the call of the function f at p, from its parenthesis on
-abbrev pub Called : ℕ → ℕ → List ℕ → ℕ → ℕ → List ℕ → List ℕ → Read → Type 0
-Called f d s at pc o o′ r = (p : ℕ) → ReaderAgrees (λ n ts. callOf (functionAt f) p d n ts) 0 s at pc o o′ r
-
--- the arguments behind the parenthesis
-abbrev Arguing : Callee → ℕ → ℕ → List ℕ → ℕ → ℕ → List ℕ → List ℕ → Read → Type 0
-Arguing c p d s at pc o o′ r =
-    (n : ℕ) → (length s - at) * 8 + 4 ≤ n → SameResult pc o o′ s r (andThen (arguments n d (moreArguments c) (tokensFrom s at)) (λ us q. ok (callTree c p us) q))
-
-inside : (f d : ℕ) (c : Callee) {s : List ℕ} {at pc : ℕ} {o o′ : List ℕ} {r : Read} → formOf (functionAt f) ≡ plain c → TokenWords s → isMark openParen (wordAt s at) ≡ true → (d ≡ 0 → ⊥) → Span s at pc r
-    → ((p : ℕ) → Arguing c p (d - 1) s (at + 1) pc o o′ r) → Called f d s at pc o o′ r
-inside f d c {s} {at} {pc} {o} {o′} {r} e t i z b x p = record { span = b; same = go }
+-- ---- from the parenthesis of a call to what stands behind it
+pub call-inside : (w d : ℕ) {s : List ℕ} {at pc : ℕ} {o o′ : List ℕ} {r : Read} → TokenWords s → isMark openParen (wordAt s at) ≡ true → (d ≡ 0 → ⊥)
+    → Arguing w (d - 1) s at pc o o′ r → ReaderAgrees (λ n ts. callOf (functionAt (wordOperand w)) (wordPlace w) d n ts) 0 s at pc o o′ r
+call-inside w d {s} {at} {pc} {o} {o′} {r} t i z x = record { span = x .span; same = go }
   where
     h : There openParen s at
     h = there openParen s at t i
 
-    go : (n : ℕ) → (length s - at) * 8 + 0 ≤ n → SameResult pc o o′ s r (callOf (functionAt f) p d n (tokensFrom s at))
-    go n le =
-        rw (enter-inside d (λ e q. callBody (formOf (functionAt f)) p (λ m z. arguments n e m z) q) (h .splits) z, e)
-        (x p n (omega (arith, h .splits .within)))
+    go : (n : ℕ) → (length s - at) * 8 + 0 ≤ n → SameResult pc o o′ s r (callOf (functionAt (wordOperand w)) (wordPlace w) d n (tokensFrom s at))
+    go n le = rw (enter-inside d (λ e q. argumentsOf (functionAt (wordOperand w)) (wordPlace w) e n q) (h .splits) z) (x .same n (omega (arith, h .splits .within)))
 
--- ---- functions by the number of their arguments
-module _ (f : ℕ) (h : f < 9) where
-  pub one-argument : functionArity f ≡ 1 → f < 6
-  one-argument =
-      in-range (λ i. functionArity i ≡ 1 → i < 6) 0 9
-      (λ e. omega arith, (λ e. omega arith, (λ e. omega arith, (λ e. omega arith, (λ e. omega arith, (λ e. omega arith, (λ e. omega arith, (λ e. omega arith, (λ e. omega arith, tt)))))))))
-      f (omega arith) h
+-- ---- functions by the form of their calls: operators that functions apply take either kind
+data Calls : Form → Type 0 where
+  one-call : (o : UnaryOp) → unaryAt (unaryNumber o) ≡ o → ((k : Kind) → unaryTakes o k ≡ true) → Calls (plain (of-one o))
+  two-call : (o : BinaryOp) → binaryAt (binaryNumber o) ≡ o → ((a b : Kind) → binaryTakes o a b ≡ true) → Calls (plain (of-two o))
+  choice-call : Calls (plain of-choice)
+  since-call : Calls (plain of-since)
+  clock-call : Calls clock
 
-  pub two-arguments : functionArity f ≡ 2 → (6 ≤ f) × (f < 8)
-  two-arguments =
-      in-range (λ i. functionArity i ≡ 2 → (6 ≤ i) × (i < 8)) 0 9
-      (λ e. absurd (omega arith), (λ e. absurd (omega arith), (λ e. absurd (omega arith), (λ e. absurd (omega arith), (λ e. absurd (omega arith), (λ e. absurd (omega arith), (λ e. (omega arith, omega arith), (λ e. (omega arith, omega arith), (λ e. absurd (omega arith), tt)))))))))
-      f (omega arith) h
+calls : (g : Function) → Calls (formOf g)
+calls F.Abs = one-call U.Abs refl (λ k. refl)
+calls F.ToReal = one-call U.ToReal refl (λ k. refl)
+calls F.ToInt = one-call U.Trunc refl (λ k. refl)
+calls F.Trunc = one-call U.Trunc refl (λ k. refl)
+calls F.Round = one-call U.Round refl (λ k. refl)
+calls F.Frac = one-call U.Frac refl (λ k. refl)
+calls F.Max = two-call (B.Choice Choose.Max) refl (λ a b. refl)
+calls F.Min = two-call (B.Choice Choose.Min) refl (λ a b. refl)
+calls F.If = choice-call
+calls F.TickMs = clock-call
+calls F.Since = since-call
 
-  pub more-arguments : (functionArity f ≡ 1 → ⊥) → 6 ≤ f
-  more-arguments =
-      in-range (λ i. (functionArity i ≡ 1 → ⊥) → 6 ≤ i) 0 9
-      (λ n. absurd (n refl), (λ n. absurd (n refl), (λ n. absurd (n refl), (λ n. absurd (n refl), (λ n. absurd (n refl), (λ n. absurd (n refl), (λ n. omega arith, (λ n. omega arith, (λ n. omega arith, tt)))))))))
-      f (omega arith) h
+-- a call of one argument, and of two, as the number of the operator says
+abbrev One : Form → Type 0
+One x = (x ≡ plain (of-one (unaryAt (operatorNumber x)))) × ((k : Kind) → unaryTakes (unaryAt (operatorNumber x)) k ≡ true)
 
-  pub three-arguments : (functionArity f ≡ 1 → ⊥) → (functionArity f ≡ 2 → ⊥) → f ≡ 8
-  three-arguments =
-      in-range (λ i. (functionArity i ≡ 1 → ⊥) → (functionArity i ≡ 2 → ⊥) → i ≡ 8) 0 9
-      (λ n m. absurd (n refl), (λ n m. absurd (n refl), (λ n m. absurd (n refl), (λ n m. absurd (n refl), (λ n m. absurd (n refl), (λ n m. absurd (n refl), (λ n m. absurd (m refl), (λ n m. absurd (m refl), (λ n m. refl, tt)))))))))
-      f (omega arith) h
+abbrev Two : Form → Type 0
+Two x = (x ≡ plain (of-two (binaryAt (operatorNumber x)))) × ((a b : Kind) → binaryTakes (binaryAt (operatorNumber x)) a b ≡ true)
 
--- a function of one argument
-record One (f : ℕ) : Type 0 where
-  form : formOf (functionAt f) ≡ plain (of-one (functionOp f))
-  any : (k : Kind) → unaryTakes (functionOp f) k ≡ true
+one-form : {x : Form} → Calls x → formNumber x ≡ 1 → One x
+one-form (one-call o back any) e = rw back (refl, any)
+one-form (two-call o back any) e = absurd (omega arith)
+one-form choice-call e = absurd (omega arith)
+one-form since-call e = absurd (omega arith)
+one-form clock-call e = absurd (omega arith)
 
-ones : (f : ℕ) → f < 6 → One f
-ones zero h = record { form = refl; any = λ k. refl }
-ones (suc zero) h = record { form = refl; any = λ k. refl }
-ones (suc (suc zero)) h = record { form = refl; any = λ k. refl }
-ones (suc (suc (suc zero))) h = record { form = refl; any = λ k. refl }
-ones (suc (suc (suc (suc zero)))) h = record { form = refl; any = λ k. refl }
-ones (suc (suc (suc (suc (suc zero))))) h = record { form = refl; any = λ k. refl }
-ones (suc (suc (suc (suc (suc (suc f)))))) h = absurd (omega arith)
+two-form : {x : Form} → Calls x → formNumber x ≡ 2 → Two x
+two-form (one-call o back any) e = absurd (omega arith)
+two-form (two-call o back any) e = rw back (refl, any)
+two-form choice-call e = absurd (omega arith)
+two-form since-call e = absurd (omega arith)
+two-form clock-call e = absurd (omega arith)
 
--- a function of two
-record Two (f : ℕ) : Type 0 where
-  form : formOf (functionAt f) ≡ plain (of-two (functionPair f))
-  any : (a b : Kind) → binaryTakes (functionPair f) a b ≡ true
+since-form : {x : Form} → Calls x → formNumber x ≡ 4 → x ≡ plain of-since
+since-form (one-call o back any) e = absurd (omega arith)
+since-form (two-call o back any) e = absurd (omega arith)
+since-form choice-call e = absurd (omega arith)
+since-form since-call e = refl
+since-form clock-call e = absurd (omega arith)
 
-twos : (f : ℕ) → 6 ≤ f → f < 8 → Two f
-twos f l h = by (f - 6) (omega arith)
-  where
-    at-last : (g : ℕ) → f ≡ g → Two g → Two f
-    at-last g e x = subst Two (sym e) x
+clock-form : {x : Form} → Calls x → formNumber x ≡ 5 → x ≡ clock
+clock-form (one-call o back any) e = absurd (omega arith)
+clock-form (two-call o back any) e = absurd (omega arith)
+clock-form choice-call e = absurd (omega arith)
+clock-form since-call e = absurd (omega arith)
+clock-form clock-call e = refl
 
-    by : (i : ℕ) → f ≡ 6 + i → Two f
-    by zero e = at-last 6 e (record { form = refl; any = λ a b. refl })
-    by (suc zero) e = at-last 7 e (record { form = refl; any = λ a b. refl })
-    by (suc (suc i)) e = absurd (omega arith)
+choice-form : {x : Form} → Calls x → (formNumber x ≡ 1 → ⊥) → (formNumber x ≡ 2 → ⊥) → (formNumber x ≡ 4 → ⊥) → (formNumber x ≡ 5 → ⊥) → x ≡ plain of-choice
+choice-form (one-call o back any) a b c d = absurd (a refl)
+choice-form (two-call o back any) a b c d = absurd (b refl)
+choice-form choice-call a b c d = refl
+choice-form since-call a b c d = absurd (c refl)
+choice-form clock-call a b c d = absurd (d refl)
 
--- a function of two or three
-record Many (f : ℕ) : Type 0 where
-  callee : Callee
-  others : ℕ
-  form : formOf (functionAt f) ≡ plain callee
-  some : moreArguments callee ≡ suc others
+-- as the code asks for the form
+pub choice-of : (f : ℕ) {r : ℕ} → r ≡ functionForm f → (r ≡ 1 → ⊥) → (r ≡ 2 → ⊥) → (r ≡ 4 → ⊥) → (r ≡ 5 → ⊥) → formOf (functionAt f) ≡ plain of-choice
+choice-of f e a b c d = choice-form (calls (functionAt f)) (λ q. a (e ∙ q)) (λ q. b (e ∙ q)) (λ q. c (e ∙ q)) (λ q. d (e ∙ q))
 
-many : (f : ℕ) → 6 ≤ f → f < 9 → Many f
-many f l h = by (f - 6) (omega arith)
-  where
-    at-last : (g : ℕ) → f ≡ g → Many g → Many f
-    at-last g e x = subst Many (sym e) x
+-- ---- nothing but the parenthesis
+abbrev pub Clock : List ℕ → ℕ → ℕ → List ℕ → List ℕ → Read → Type 0
+Clock s at pc o o′ r = ReaderAgrees (λ n ts. expect closeParen ts (λ q. ok tick q)) 4 s at pc o o′ r
 
-    by : (i : ℕ) → f ≡ 6 + i → Many f
-    by zero e = at-last 6 e (record { callee = _; others = 0; form = refl; some = refl })
-    by (suc zero) e = at-last 7 e (record { callee = _; others = 0; form = refl; some = refl })
-    by (suc (suc zero)) e = at-last 8 e (record { callee = _; others = 1; form = refl; some = refl })
-    by (suc (suc (suc i))) e = absurd (omega arith)
+module _ {s : List ℕ} {at pc : ℕ} {o : List ℕ} (t : TokenWords s) where
+  pub clock-done : {o′ : List ℕ} → isMark closeParen (wordAt s at) ≡ true → o′ ≡ putInstr o pc Tick → Clock s at pc o o′ (Done (at + 1) (pc + 1) K.Int clear)
+  clock-done m q =
+      let h = there closeParen s at t m in
+      record {
+        span = span-done {j = at + 1} {e = pc + 1} (omega arith) (omega (arith, h .splits .within)) (omega arith) (omega arith);
+        same = λ n le. rw (expect-past (λ z. ok tick z) (h .splits)) (same-done (means-tick q) refl);
+      }
 
-module _ (f d : ℕ) {s : List ℕ} {at pc : ℕ} {o o₁ : List ℕ} (t : TokenWords s) (i : isMark openParen (wordAt s at) ≡ true) (z : d ≡ 0 → ⊥) where
-  pub only-stopped : {r : Read} → f < 6 → Enclosed closeParen (d - 1) s (at + 1) pc o o₁ r → Stopped r → Called f d s at pc o o₁ r
-  only-stopped h x stop = inside f d (of-one (functionOp f)) (ones f h .form) t i z (span-stopped stop (x .span)) (λ p. last-stops (d - 1) (λ us q. ok (callTree (of-one (functionOp f)) p us) q) x stop)
+  pub clock-other : at ≤ length s → isMark closeParen (wordAt s at) ≡ false → Clock s at pc o o (Bad at)
+  clock-other l m =
+      let h : headIs closeParen (tokensFrom s at) ≡ false = sym (mark (look {s = s} {at = at} t refl) closeParen) ∙ m in
+      record { span = span-bad l; same = λ n le. rw (expect-other closeParen (tokensFrom s at) (λ z. ok tick z) h) (same-bad refl) }
 
-  pub only-done : {o₂ : List ℕ} {j e : ℕ} {k : Kind} {w : Diagnostic} → f < 6 → Enclosed closeParen (d - 1) s (at + 1) pc o o₁ (Done j e k w) → o₂ ≡ putInstr o₁ e (Unary (functionOp f))
-      → Called f d s at pc o o₂ (Done j (e + 1) (unaryKind (functionOp f) k) w)
-  only-done {o₂} {j} {e} {k} {w} h x q = inside f d (of-one (functionOp f)) (ones f h .form) t i z (reach (bounds (x .span))) (λ p. last-goes (d - 1) (λ us q. ok (callTree (of-one (functionOp f)) p us) q) x (done p))
+-- ---- what stands behind the parenthesis of a call, whose name has the word w and the number f
+pub arguing-as : {w d : ℕ} {s : List ℕ} {at pc : ℕ} {o o′ : List ℕ} {x y : Read} → x ≡ y → Arguing w d s at pc o o′ y → Arguing w d s at pc o o′ x
+arguing-as {w} {d} {s} {at} {pc} {o} {o′} e h = subst (Arguing w d s at pc o o′) (sym e) h
+
+abbrev made-of : ℕ → Callee → Arguments → List Tok → Result Tree
+made-of p c us q = ok (callTree c p us) q
+
+module _ (f w d : ℕ) (number : f ≡ wordOperand w) {s : List ℕ} {at pc : ℕ} {o : List ℕ} where
+  -- the call is of the form x
+  of-form : (x : Form) {o₁ : List ℕ} {r : Read} → formOf (functionAt f) ≡ x → Span s at pc r
+      → ((n : ℕ) → (length s - (at + 1)) * 8 + 4 ≤ n → SameResult pc o o₁ s r (callBody x (wordPlace w) (λ m q. arguments n d m q) (tokensFrom s (at + 1)))) → Arguing w d s at pc o o₁ r
+  of-form x e b g = record { span = b; same = λ n le. rw (ap (λ (i : ℕ). formOf (functionAt i)) (sym number) ∙ e) (g n le) }
+
+  -- one argument: of an operator, or of SINCE
+  pub only-stopped : {o₁ : List ℕ} {r : Read} → functionForm f ≡ 1 → Enclosed closeParen d s (at + 1) pc o o₁ r → Stopped r → Arguing w d s at pc o o₁ r
+  only-stopped h x stop =
+      let c = of-one (functionOp f) in
+      of-form (plain c) (one-form (calls (functionAt f)) h .0) (span-stopped stop (x .span)) (last-stops d (made-of (wordPlace w) c) x stop)
+
+  pub only-done : {o₁ o₂ : List ℕ} {j e : ℕ} {k : Kind} {v : Diagnostic} → functionForm f ≡ 1 → Enclosed closeParen d s (at + 1) pc o o₁ (Done j e k v) → o₂ ≡ putInstr o₁ e (Unary (functionOp f))
+      → Arguing w d s at pc o o₂ (Done j (e + 1) (unaryKind (functionOp f) k) v)
+  only-done {o₁} {o₂} {j} {e} {k} {v} h x q =
+      of-form (plain (of-one (functionOp f))) (one-form (calls (functionAt f)) h .0) (reach (bounds (x .span))) (last-goes d (made-of (wordPlace w) (of-one (functionOp f))) x done)
     where
-      reach : Bounds s (at + 1) pc j e → Span s at pc (Done j (e + 1) (unaryKind (functionOp f) k) w)
+      reach : Bounds s (at + 1) pc j e → Span s at pc (Done j (e + 1) (unaryKind (functionOp f) k) v)
       reach b = span-done {j = j} {e = e + 1} (omega arith) (b .within) (omega arith) (omega arith)
 
-      done : (p : ℕ) (u : Tree) → DraftHolds pc o o₁ e k w u → SameResult pc o o₂ s (Done j (e + 1) (unaryKind (functionOp f) k) w) (ok (callTree (of-one (functionOp f)) p (one u)) (tokensFrom s j))
-      done p u m =
-          let y = rw (ones f h .any k) at (means-unary m p (functionOp f) q) in
+      done : (u : Tree) → DraftHolds pc o o₁ e k v u → SameResult pc o o₂ s (Done j (e + 1) (unaryKind (functionOp f) k) v) (ok (callTree (of-one (functionOp f)) (wordPlace w) (one u)) (tokensFrom s j))
+      done u m =
+          let y = rw (one-form (calls (functionAt f)) h .1 k) at (means-unary m (wordPlace w) (functionOp f) q) in
           same-done y refl
 
-  pub first-stopped : {r : Read} → 6 ≤ f → f < 9 → Enclosed comma (d - 1) s (at + 1) pc o o₁ r → Stopped r → Called f d s at pc o o₁ r
-  first-stopped l h x stop =
-      let m = many f l h in
-      inside f d (m .callee) (m .form) t i z (span-stopped stop (x .span))
-      (λ p. rw (m .some) (more-stops (d - 1) (λ us q. ok (callTree (m .callee) p us) q) (m .others) x stop))
+  pub since-stopped : {o₁ : List ℕ} {r : Read} → functionForm f ≡ 4 → Enclosed closeParen d s (at + 1) pc o o₁ r → Stopped r → Arguing w d s at pc o o₁ r
+  since-stopped h x stop = of-form (plain of-since) (since-form (calls (functionAt f)) h) (span-stopped stop (x .span)) (last-stops d (made-of (wordPlace w) of-since) x stop)
 
-  module _ {j e : ℕ} {k : Kind} {w : Diagnostic} (x : Enclosed comma (d - 1) s (at + 1) pc o o₁ (Done j e k w)) where
-    pub second-stopped : {o₂ : List ℕ} {r : Read} → 6 ≤ f → f < 8 → Enclosed closeParen (d - 1) s j e o₁ o₂ r → Stopped r → Called f d s at pc o o₂ r
-    second-stopped l h y stop =
-        inside f d (of-two (functionPair f)) (twos f l h .form) t i z (span-stopped stop (y .span))
-        (λ p. more-goes (d - 1) (λ us q. ok (callTree (of-two (functionPair f)) p us) q) 0 x (λ u m. last-stops (d - 1) (λ us q. ok (callTree (of-two (functionPair f)) p (more u us)) q) y stop))
+  pub since-done : {o₁ o₂ : List ℕ} {j e : ℕ} {k : Kind} {v : Diagnostic} → functionForm f ≡ 4 → Enclosed closeParen d s (at + 1) pc o o₁ (Done j e k v) → o₂ ≡ putInstr o₁ e Since
+      → Arguing w d s at pc o o₂ (Done j (e + 1) K.Int (earlier (unless (isInt k) (wrongKindAt (wordPlace w))) v))
+  since-done {o₁} {o₂} {j} {e} {k} {v} h x q =
+      of-form (plain of-since) (since-form (calls (functionAt f)) h) (reach (bounds (x .span)))
+      (last-goes d (made-of (wordPlace w) of-since) x (λ u m. same-done (means-since m (wordPlace w) q) refl))
+    where
+      reach : Bounds s (at + 1) pc j e → Span s at pc (Done j (e + 1) K.Int (earlier (unless (isInt k) (wrongKindAt (wordPlace w))) v))
+      reach b = span-done {j = j} {e = e + 1} (omega arith) (b .within) (omega arith) (omega arith)
 
-    pub second-done : {o₂ o₃ : List ℕ} {j′ e′ : ℕ} {k′ : Kind} {w′ : Diagnostic} → 6 ≤ f → f < 8 → Enclosed closeParen (d - 1) s j e o₁ o₂ (Done j′ e′ k′ w′) → o₃ ≡ putInstr o₂ e′ (Binary (functionPair f))
-        → Called f d s at pc o o₃ (Done j′ (e′ + 1) (binaryKind (functionPair f) k k′) (earlier w w′))
-    second-done {o₂} {o₃} {j′} {e′} {k′} {w′} l h y q =
-        inside f d (of-two (functionPair f)) (twos f l h .form) t i z (reach (bounds (x .span)) (bounds (y .span)))
-        (λ p. more-goes (d - 1) (λ us q. ok (callTree (of-two (functionPair f)) p us) q) 0 x (λ u m. last-goes (d - 1) (λ us q. ok (callTree (of-two (functionPair f)) p (more u us)) q) y (done p u m)))
+  -- no argument
+  pub clock-reads : {o₁ : List ℕ} {r : Read} → functionForm f ≡ 5 → Clock s (at + 1) pc o o₁ r → Arguing w d s at pc o o₁ r
+  clock-reads h x = of-form clock (clock-form (calls (functionAt f)) h) (span-earlier (omega arith) (x .span)) (x .same)
+
+  -- two arguments
+  pub first-stopped : {o₁ : List ℕ} {r : Read} → functionForm f ≡ 2 → Enclosed comma d s (at + 1) pc o o₁ r → Stopped r → Arguing w d s at pc o o₁ r
+  first-stopped h x stop =
+      let c = of-two (functionPair f) in
+      of-form (plain c) (two-form (calls (functionAt f)) h .0) (span-stopped stop (x .span)) (more-stops d (made-of (wordPlace w) c) 0 x stop)
+
+  module _ {o₁ : List ℕ} {j e : ℕ} {k : Kind} {v : Diagnostic} (h : functionForm f ≡ 2) (x : Enclosed comma d s (at + 1) pc o o₁ (Done j e k v)) where
+    pub second-stopped : {o₂ : List ℕ} {r : Read} → Enclosed closeParen d s j e o₁ o₂ r → Stopped r → Arguing w d s at pc o o₂ r
+    second-stopped y stop =
+        let c = of-two (functionPair f) in
+        of-form (plain c) (two-form (calls (functionAt f)) h .0) (span-stopped stop (y .span))
+        (more-goes d (made-of (wordPlace w) c) 0 x (λ u m. last-stops d (λ us q. made-of (wordPlace w) c (more u us) q) y stop))
+
+    pub second-done : {o₂ o₃ : List ℕ} {j′ e′ : ℕ} {k′ : Kind} {v′ : Diagnostic} → Enclosed closeParen d s j e o₁ o₂ (Done j′ e′ k′ v′) → o₃ ≡ putInstr o₂ e′ (Binary (functionPair f))
+        → Arguing w d s at pc o o₃ (Done j′ (e′ + 1) (binaryKind (functionPair f) k k′) (earlier v v′))
+    second-done {o₂} {o₃} {j′} {e′} {k′} {v′} y q =
+        of-form (plain (of-two (functionPair f))) (two-form (calls (functionAt f)) h .0) (reach (bounds (x .span)) (bounds (y .span)))
+        (more-goes d (made-of (wordPlace w) (of-two (functionPair f))) 0 x (λ u m. last-goes d (λ us q. made-of (wordPlace w) (of-two (functionPair f)) (more u us) q) y (done u m)))
       where
-        reach : Bounds s (at + 1) pc j e → Bounds s j e j′ e′ → Span s at pc (Done j′ (e′ + 1) (binaryKind (functionPair f) k k′) (earlier w w′))
+        reach : Bounds s (at + 1) pc j e → Bounds s j e j′ e′ → Span s at pc (Done j′ (e′ + 1) (binaryKind (functionPair f) k k′) (earlier v v′))
         reach a b = span-done {j = j′} {e = e′ + 1} (omega arith) (b .within) (omega arith) (omega arith)
 
-        done : (p : ℕ) (u : Tree) → DraftHolds pc o o₁ e k w u → (v : Tree) → DraftHolds e o₁ o₂ e′ k′ w′ v
-            → SameResult pc o o₃ s (Done j′ (e′ + 1) (binaryKind (functionPair f) k k′) (earlier w w′)) (ok (callTree (of-two (functionPair f)) p (more u (one v))) (tokensFrom s j′))
-        done p u m v n =
-            let y = rw (twos f l h .any k k′) at (means-binary m p (functionPair f) n q) in
+        done : (u : Tree) → DraftHolds pc o o₁ e k v u → (z : Tree) → DraftHolds e o₁ o₂ e′ k′ v′ z
+            → SameResult pc o o₃ s (Done j′ (e′ + 1) (binaryKind (functionPair f) k k′) (earlier v v′)) (ok (callTree (of-two (functionPair f)) (wordPlace w) (more u (one z))) (tokensFrom s j′))
+        done u m z n =
+            let y = rw (two-form (calls (functionAt f)) h .1 k k′) at (means-binary m (wordPlace w) (functionPair f) n q) in
             same-done y refl
 
-  pub choice-reads : {o₂ : List ℕ} {r : Read} (c : ℕ) → f ≡ 8 → Enclosed comma (d - 1) s (at + 1) pc o o₁ (Done (readNext c) (readEnd c) (readKind c) (readWrong c)) → Branches (d - 1) s c o₁ o₂ r → Called f d s at pc o o₂ r
-  choice-reads {o₂} {r} c e x y =
-      inside f d of-choice (ap (λ (g : ℕ). formOf (functionAt g)) e) t i z (reach (bounds (x .span)))
-      (λ p. more-goes (d - 1) (λ us q. ok (callTree of-choice p us) q) 1 x (λ u m n le. y .same pc o u m p n le))
-    where
-      reach : Bounds s (at + 1) pc (readNext c) (readEnd c) → Span s at pc r
-      reach b = y .span at pc (omega arith) (b .rises) (omega arith)
+  -- the condition of IF, and its branches
+  module _ (h : formOf (functionAt f) ≡ plain of-choice) where
+    pub condition-stopped : {o₁ : List ℕ} {r : Read} → Enclosed comma d s (at + 1) pc o o₁ r → Stopped r → Arguing w d s at pc o o₁ r
+    condition-stopped x stop = of-form (plain of-choice) h (span-stopped stop (x .span)) (more-stops d (made-of (wordPlace w) of-choice) 1 x stop)
+
+    pub choice-reads : {o₁ o₂ : List ℕ} {r : Read} (c : ℕ) → Enclosed comma d s (at + 1) pc o o₁ (Done (readNext c) (readEnd c) (readKind c) (readWrong c)) → Branches d s c o₁ o₂ r → Arguing w d s at pc o o₂ r
+    choice-reads {o₁} {o₂} {r} c x y =
+        of-form (plain of-choice) h (reach (bounds (x .span))) (more-goes d (made-of (wordPlace w) of-choice) 1 x (λ u m n le. y .same pc o u m (wordPlace w) n le))
+      where
+        reach : Bounds s (at + 1) pc (readNext c) (readEnd c) → Span s at pc r
+        reach b = y .span at pc (omega arith) (b .rises) (omega arith)
 
 -- ---- the branches of IF behind its condition
 pub branches-as : {d : ℕ} {s : List ℕ} {c : ℕ} {o o′ : List ℕ} {x y : Read} → x ≡ y → Branches d s c o o′ y → Branches d s c o o′ x

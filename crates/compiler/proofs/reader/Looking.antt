@@ -17,10 +17,11 @@ use Rattle.memory.specs.declared.Bank.the-variants.{X, C, «V», N, D, R}
 use Rattle.memory.specs.Cells.{bankKind}
 use Rattle.memory.specs.Numbers.{bankNumber}
 use Rattle.tokens.specs.declared.Function.{Function}
-use Rattle.tokens.specs.declared.Function.the-variants.{Abs, ToReal, ToInt, Trunc, Round, Frac, Max, Min, If}
+use Rattle.tokens.specs.declared.Function.the-variants.{Abs, ToReal, ToInt, Trunc, Round, Frac, Max, Min, If, TickMs, Since}
 use Rattle.tokens.specs.declared.Token.{Token}
 use Rattle.tokens.specs.declared.Token.the-variants.{Number, Cell, Letter, Name, Symbol}
 use Rattle.tokens.specs.Scan.{Tok}
+use Rattle.tokens.specs.Words.{functionAt}
 use Rattle.token_table.specs.private.Table.{packToken, functionNumber, wordClass, wordOperand, wordNumber, wordPlace, entryOf, wordAt, tokensFrom, Sound, TokenWord, blank, token, TokenWords}
 use Rattle.token_table.specs.private.Table as Sound
 use Rattle.token_table.proofs.Laws.{tok, tokenClass, tokenOperand, tokenNumber, class-packed, operand-packed, number-packed, place-packed, unpacked, blank-end, from-is, from-end}
@@ -29,7 +30,7 @@ use Rattle.grammar.specs.Symbols.{groups, groupNumber, group, isSymbol, Prefix,
 use Rattle.grammar.specs.Parse.{ok, binds, primary}
 use Rattle.tree_code.specs.Code.{codeOf}
 use Rattle.code.specs.Encode.{joinWord}
-use Rattle.draft.specs.private.Words.{unaryAt, bankAt, functionAt, leafOpcode, isMark, prefixNumber, groupIn, placeAt}
+use Rattle.draft.specs.private.Words.{unaryAt, bankAt, leafOpcode, isMark, prefixNumber, groupIn, placeAt}
 use Rattle.draft.specs.private.Draft.{putCode}
 use Rattle.compiler.specs.private.Reading.{DraftHolds}
 
@@ -223,16 +224,18 @@ bank-back N = (refl, lit< tt)
 bank-back D = (refl, lit< tt)
 bank-back R = (refl, lit< tt)
 
-function-back : (f : Function) → (functionAt (functionNumber f) ≡ f) × (functionNumber f < 9)
-function-back Abs = (refl, lit< tt)
-function-back ToReal = (refl, lit< tt)
-function-back ToInt = (refl, lit< tt)
-function-back Trunc = (refl, lit< tt)
-function-back Round = (refl, lit< tt)
-function-back Frac = (refl, lit< tt)
-function-back Max = (refl, lit< tt)
-function-back Min = (refl, lit< tt)
-function-back If = (refl, lit< tt)
+function-back : (f : Function) → functionAt (functionNumber f) ≡ f
+function-back Abs = refl
+function-back ToReal = refl
+function-back ToInt = refl
+function-back Trunc = refl
+function-back Round = refl
+function-back Frac = refl
+function-back Max = refl
+function-back Min = refl
+function-back If = refl
+function-back TickMs = refl
+function-back Since = refl
 
 -- a literal or a cell with the operand n, the number x and the place p: the tree it is, and its word as the instruction
 pub record Leaf (s : List ℕ) (at c n x p : ℕ) : Type 0 where
@@ -249,7 +252,7 @@ pub data Primary (s : List ℕ) (at n x p : ℕ) : ℕ → Type 0 where
   end : tokensFrom s at ≡ [] → Primary s at n x p 0
   leaf : {c : ℕ} → c < 4 → (c ≡ 0 → ⊥) → Leaf s at c n x p → Primary s at n x p c
   letter : n < 6 → Splits s at (tok (Letter (bankAt n)) p) → Primary s at n x p 4
-  name : n < 9 → Splits s at (tok (Name (functionAt n)) p) → Primary s at n x p 5
+  name : Splits s at (tok (Name (functionAt n)) p) → Primary s at n x p 5
   symbol : Splits s at (tok (Symbol n) p) → Primary s at n x p 6
 
 sorted : {s : List ℕ} {at p : ℕ} {t : Token} → Sound t → Splits s at (tok t p) → Primary s at (tokenOperand t) (tokenNumber t) p (tokenClass t)
@@ -265,8 +268,7 @@ sorted {s} {at} {p} (Sound.letter b) x =
     let (e, few) = bank-back b in
     letter few (subst (λ (b : Bank). Splits s at (tok (Letter b) p)) (sym e) x)
 sorted {s} {at} {p} (Sound.name f) x =
-    let (e, few) = function-back f in
-    name few (subst (λ (f : Function). Splits s at (tok (Name f) p)) (sym e) x)
+    name (subst (λ (f : Function). Splits s at (tok (Name f) p)) (sym (function-back f)) x)
 sorted (Sound.symbol m h) x = symbol x
 
 pub primary-there : {s : List ℕ} {at w : ℕ} → Look s at w → Primary s at (wordOperand w) (wordNumber w) (wordPlace w) (wordClass w)
@@ -292,12 +294,12 @@ module _ {s : List ℕ} {at n x p c : ℕ} (h : Primary s at n x p c) where
       go (leaf l k z) = absurd (omega arith)
       go (letter l z) = (l, z)
 
-  pub a-name : c ≡ 5 → (n < 9) × Splits s at (tok (Name (functionAt n)) p)
+  pub a-name : c ≡ 5 → Splits s at (tok (Name (functionAt n)) p)
   a-name e = go (subst (Primary s at n x p) e h)
     where
-      go : Primary s at n x p 5 → (n < 9) × Splits s at (tok (Name (functionAt n)) p)
+      go : Primary s at n x p 5 → Splits s at (tok (Name (functionAt n)) p)
       go (leaf l k z) = absurd (omega arith)
-      go (name l z) = (l, z)
+      go (name z) = z
 
   pub a-symbol : c ≡ 6 → Splits s at (tok (Symbol n) p)
   a-symbol e = go (subst (Primary s at n x p) e h)
@@ -313,7 +315,7 @@ module _ {s : List ℕ} {at n x p c : ℕ} (h : Primary s at n x p c) where
       go (end z) a b d e = absurd (a refl)
       go (leaf l k z) a b d e = z
       go (letter l z) a b d e = absurd (b refl)
-      go (name l z) a b d e = absurd (d refl)
+      go (name z) a b d e = absurd (d refl)
       go (symbol z) a b d e = absurd (e refl)
 
   pub is-leaf : cond (eqb c 0) false (ltb c 4) ≡ true → Leaf s at c n x p

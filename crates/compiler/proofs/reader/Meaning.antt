@@ -12,13 +12,13 @@ use Rattle.values.specs.declared.Kind.{Kind}
 use Rattle.values.specs.declared.Kind.the-variants as K
 use Rattle.operators.specs.declared.UnaryOp.{UnaryOp}
 use Rattle.operators.specs.declared.BinaryOp.{BinaryOp}
-use Rattle.operators.specs.Kinds.{join, unaryKind, unaryTakes, binaryKind, binaryTakes}
+use Rattle.operators.specs.Kinds.{isInt, join, unaryKind, unaryTakes, binaryKind, binaryTakes}
 use Rattle.memory.specs.declared.Bank.{Bank}
 use Rattle.memory.specs.Cells.{bankKind}
-use Rattle.grammar.specs.Tree.{Tree, indexed, unary, binary, logic, choice, treeKind, diagnosticOf, Diagnostic, clear, earlier, unless, wrongKindAt}
+use Rattle.grammar.specs.Tree.{Tree, indexed, unary, binary, logic, choice, tick, since, treeKind, diagnosticOf, Diagnostic, clear, earlier, unless, wrongKindAt}
 use Rattle.grammar.specs.Symbols.{infixTree}
 use Rattle.code.specs.declared.Instr.{Instr}
-use Rattle.code.specs.declared.Instr.the-variants.{LoadIndexed, Unary, Binary, Jump, JumpIf}
+use Rattle.code.specs.declared.Instr.the-variants.{LoadIndexed, Unary, Binary, Jump, JumpIf, Tick, Since}
 use Rattle.tree_code.specs.Code.{codeOf, truthTail, branchTailSkip, branchTail}
 use Rattle.draft.specs.private.Words.{binaryAt}
 use Rattle.draft.specs.private.Draft.{putInstr, putCode, reserved, settledCode, joinedCode, joinedEnd, infixKind, infixWrong, chosenCode}
@@ -31,6 +31,11 @@ lies m = record { ends = m .ends; code = m .code }
 made : {pc : ℕ} {o o′ : List ℕ} {e : ℕ} {k : Kind} {w : Diagnostic} {t : Tree} → treeKind t ≡ k → diagnosticOf t ≡ w → Lies (codeOf t) pc e o o′ → DraftHolds pc o o′ e k w t
 made k w l = record { kind = k; wrong = w; ends = l .ends; code = l .code }
 
+-- ---- one instruction
+pub means-tick : {pc : ℕ} {o o′ : List ℕ} → o′ ≡ putInstr o pc Tick → DraftHolds pc o o′ (pc + 1) K.Int clear tick
+unfolding codeOf treeKind diagnosticOf
+means-tick q = made refl refl (lies-add Tick q)
+
 -- ---- one instruction more
 module _ {pc : ℕ} {o o₁ o₂ : List ℕ} {e : ℕ} {k : Kind} {w : Diagnostic} {t : Tree} (m : DraftHolds pc o o₁ e k w t) where
   pub means-indexed : (b : Bank) → o₂ ≡ putInstr o₁ e (LoadIndexed b) → DraftHolds pc o o₂ (e + 1) (bankKind b) w (indexed b t)
@@ -41,6 +46,11 @@ module _ {pc : ℕ} {o o₁ o₂ : List ℕ} {e : ℕ} {k : Kind} {w : Diagnosti
   unfolding codeOf treeKind diagnosticOf
   means-unary p a q =
       made (ap (unaryKind a) (m .kind)) (ap₂ (λ (x : Kind) (y : Diagnostic). earlier (unless (unaryTakes a x) (wrongKindAt p)) y) (m .kind) (m .wrong)) (lies-then (lies m) (lies-add (Unary a) q))
+
+  pub means-since : (p : ℕ) → o₂ ≡ putInstr o₁ e Since → DraftHolds pc o o₂ (e + 1) K.Int (earlier (unless (isInt k) (wrongKindAt p)) w) (since p t)
+  unfolding codeOf treeKind diagnosticOf
+  means-since p q =
+      made refl (ap₂ (λ (x : Kind) (y : Diagnostic). earlier (unless (isInt x) (wrongKindAt p)) y) (m .kind) (m .wrong)) (lies-then (lies m) (lies-add Since q))
 
 -- ---- two sides
 module _ {pc : ℕ} {o o₁ o₂ o₃ : List ℕ} {e e′ : ℕ} {k k′ : Kind} {w w′ : Diagnostic} {t u : Tree} (m : DraftHolds pc o o₁ e k w t) where

@@ -156,13 +156,13 @@ module _ (d : ℕ) {s : List ℕ} {at pc : ℕ} {o : List ℕ} where
         go (suc f) le = rw (letter-step d h f) (bind-done (λ t z. ok (indexed b t) z) (x .same f (omega (arith, h .within))) (λ t m. same-done (means-indexed m b q) refl))
 
   module _ {o′ : List ℕ} {r : Read} where
-    pub primary-name : {p : ℕ} {g : Function} → Splits s at (tok (Name g) p) → ((i : ℕ) → ReaderAgrees (λ f ts. callOf g i d f ts) 0 s (at + 1) pc o o′ r) → Reading d s at pc o o′ r
+    pub primary-name : {p : ℕ} {g : Function} → Splits s at (tok (Name g) p) → ReaderAgrees (λ f ts. callOf g p d f ts) 0 s (at + 1) pc o o′ r → Reading d s at pc o o′ r
     unfolding primary
-    primary-name {p} h x = record { span = span-earlier (omega arith) (x p .span); same = go }
+    primary-name h x = record { span = span-earlier (omega arith) (x .span); same = go }
       where
         go : (f : ℕ) → (length s - at) * 8 + 1 ≤ f → SameResult pc o o′ s r (primaryOf f d (tokensFrom s at))
         go zero le = absurd (omega arith)
-        go (suc f) le = rw (h .split) (x p .same f (omega (arith, h .within)))
+        go (suc f) le = rw (h .split) (x .same f (omega (arith, h .within)))
 
     pub primary-symbol : {p n : ℕ} → Splits s at (tok (Symbol n) p) → ReaderAgrees (λ f ts. enter d openParen ts (λ e q. bracket f e closeParen q)) 0 s at pc o o′ r → Reading d s at pc o o′ r
     unfolding primary

@@ -11,7 +11,7 @@ use Rattle.tokens.specs.Scan.{Tok}
 use Rattle.token_table.specs.private.Table.{wordClass, wordPlace, wordAt, listed, tokensFrom, TokenWords}
 use Rattle.grammar.specs.Tree.{Tree, clear, at, diagnosticOf}
 use Rattle.grammar.specs.Symbols.{loosest}
-use Rattle.grammar.specs.Parse.{Result, ok, bad, deep, mostOpen, parse}
+use Rattle.grammar.specs.Parse.{Result, ok, bad, deep, mostOpen, expression, parseFrom}
 use Rattle.grammar.proofs.Laws.{parse-is}
 use Rattle.token_table.proofs.Laws.{tok}
 use Rattle.text.specs.Judge.{placeOf, judgeParse}
@@ -26,11 +26,11 @@ use Rattle.draft.proofs.results.Fields.{done-is, next-is, deep-is}
 use Rattle.compiler.proofs.reader.Looking.{look, placeIn, place-there, some-there, none-there}
 use Rattle.compiler.proofs.reader.Climbing.{Climbed}
 
-same : {table o o′ : List ℕ} {r : Read} → Climbed mostOpen loosest table 0 0 o o′ r → SameResult 0 o o′ table r (parse (listed table))
-same {table} {o} {o′} {r} x =
+same : (d room : ℕ) → room ≡ mostOpen - d → {table o o′ : List ℕ} {r : Read} → Climbed room loosest table 0 0 o o′ r → SameResult 0 o o′ table r (parseFrom d (listed table))
+same d room e {table} {o} {o′} {r} x =
     let w = listed table in
     let f = length w * 4 + 2 + ((length table - 0) * 8 + 3) in
-    subst (SameResult 0 o o′ table r) (parse-is 0 f w (omega arith)) (x .same f (omega arith))
+    subst (SameResult 0 o o′ table r) (ap (λ (k : ℕ). expression f k loosest w) e ∙ parse-is d f w (omega arith)) (x .same f (omega arith))
 
 placed-at : (size p : ℕ) (s : List ℕ) (ts : List Tok) {z : List Tok} → length s ≡ size → p ≡ placeIn size ts → z ≡ ts → p ≡ placeOf s z
 placed-at size p s ts e h z = h ∙ go ts ∙ ap (placeOf s) (sym z)
@@ -62,17 +62,17 @@ module _ (s : List ℕ) {o o′ : List ℕ} where
   told-done u e d l c = taken-up u (rw (e, d) refl) l c
 
 -- ---- what was read of the table
-module _ (table : List ℕ) {o o′ : List ℕ} (r : ℕ) (t : TokenWords table) (x : Climbed mostOpen loosest table 0 0 o o′ (readOf r)) where
+module _ (d room : ℕ) (behind : room ≡ mostOpen - d) (table : List ℕ) {o o′ : List ℕ} (r : ℕ) (t : TokenWords table) (x : Climbed room loosest table 0 0 o o′ (readOf r)) where
   abbrev Whole : Result Tree → Type 0
   Whole q = SameResult 0 o o′ table (Done (readNext r) (readEnd r) (readKind r) (readWrong r)) q
 
-  whole : isDone (readOf r) ≡ true → Whole (parse (listed table))
-  whole done = subst (λ (y : Read). SameResult 0 o o′ table y (parse (listed table))) (done-is r done) (same x)
+  whole : isDone (readOf r) ≡ true → Whole (parseFrom d (listed table))
+  whole done = subst (λ (y : Read). SameResult 0 o o′ table y (parseFrom d (listed table))) (done-is r done) (same d room behind x)
 
   -- no expression, or brackets too deep
   pub refused-way : (size : ℕ) {a i p : ℕ} → isDone (readOf r) ≡ false → a ≡ refusal (readOf r) → i ≡ readNext r → p ≡ placeAt size (wordAt table i)
-      → (s : List ℕ) → length s ≡ size → Judged (judgeParse s (parse (listed table))) o o′ (Coded.Refused a p)
-  refused-way size {a} {i} {p} stop q n z s l = go (readOf r) refl (same x)
+      → (s : List ℕ) → length s ≡ size → Judged (judgeParse s (parseFrom d (listed table))) o o′ (Coded.Refused a p)
+  refused-way size {a} {i} {p} stop q n z s l = go (readOf r) refl (same d room behind x)
     where
       place : p ≡ placeIn size (tokensFrom table (readNext r))
       place = z ∙ ap (λ (j : ℕ). placeAt size (wordAt table j)) n ∙ place-there size (look {s = table} {at = readNext r} t refl)
@@ -84,7 +84,7 @@ module _ (table : List ℕ) {o o′ : List ℕ} (r : ℕ) (t : TokenWords table)
 
   module _ (done : isDone (readOf r) ≡ true) {i w : ℕ} (n : i ≡ readNext r) (word : w ≡ wordAt table i) where
     -- a token behind the expression
-    pub more-way : {p : ℕ} → (wordClass w ≡ 0 → ⊥) → p ≡ wordPlace w → (s : List ℕ) → Judged (judgeParse s (parse (listed table))) o o′ (Coded.Refused 7 p)
+    pub more-way : {p : ℕ} → (wordClass w ≡ 0 → ⊥) → p ≡ wordPlace w → (s : List ℕ) → Judged (judgeParse s (parseFrom d (listed table))) o o′ (Coded.Refused 7 p)
     more-way {p} z q s = let (u, h) = some-there (look {s = table} {at = i} t word) z in go (h .split) (whole done)
       where
         go : {q : Result Tree} {u : Token} {us : List Tok} → tokensFrom table i ≡ tok u (wordPlace w) ∷ us → Whole q → Judged (judgeParse s q) o o′ (Coded.Refused 7 p)
@@ -94,13 +94,13 @@ module _ (table : List ℕ) {o o′ : List ℕ} (r : ℕ) (t : TokenWords table)
       ended : tokensFrom table (readNext r) ≡ []
       ended = ap (tokensFrom table) (sym n) ∙ none-there (look {s = table} {at = i} t word) z
 
-      pub wrong-way : {n p a : ℕ} → diagnosed n ≡ readWrong r → n < 1048576 → p ≡ placePart n → a ≡ answerPart n → (s : List ℕ) → Judged (judgeParse s (parse (listed table))) o o′ (Coded.Refused a p)
+      pub wrong-way : {n p a : ℕ} → diagnosed n ≡ readWrong r → n < 1048576 → p ≡ placePart n → a ≡ answerPart n → (s : List ℕ) → Judged (judgeParse s (parseFrom d (listed table))) o o′ (Coded.Refused a p)
       wrong-way {n} {p} {a} q lt e f s = go (whole done)
         where
           go : {q : Result Tree} → Whole q → Judged (judgeParse s q) o o′ (Coded.Refused a p)
           go (same-done {t = v} m c) = told-wrong s v (c ∙ ended) (m .wrong ∙ sym q ∙ rw (lt-ltb n 1048576 lt, e, f))
 
-      pub done-way : {n e : ℕ} → diagnosed n ≡ readWrong r → 1048576 ≤ n → e ≡ readEnd r → (s : List ℕ) → Judged (judgeParse s (parse (listed table))) o o′ (Coded.Done e)
+      pub done-way : {n e : ℕ} → diagnosed n ≡ readWrong r → 1048576 ≤ n → e ≡ readEnd r → (s : List ℕ) → Judged (judgeParse s (parseFrom d (listed table))) o o′ (Coded.Done e)
       done-way {n} {e} q le ends s = go (whole done)
         where
           go : {q : Result Tree} → Whole q → Judged (judgeParse s q) o o′ (Coded.Done e)

@@ -7,7 +7,8 @@ use lib.ListN.{length}
 use Rattle.values.specs.declared.Kind.{Kind}
 use Rattle.tokens.specs.declared.Function.{Function}
 use Rattle.tokens.specs.Scan.{Tok}
-use Rattle.token_table.specs.private.Table.{tokensFrom, TokenWords}
+use Rattle.tokens.specs.Words.{functionAt}
+use Rattle.token_table.specs.private.Table.{wordOperand, wordPlace, tokensFrom, TokenWords}
 use Rattle.grammar.specs.Tree.{Tree, Diagnostic, treeKind, diagnosticOf, choice}
 use Rattle.grammar.specs.Symbols.{openParen, formOf, argument}
 use Rattle.grammar.specs.Parse.{Result, ok, bad, deep, andThen, expect, enter, callBody, primary, arguments}
@@ -58,9 +59,17 @@ primaryOf f d (x ∷ xs) = primary f d x xs
 abbrev pub thenSymbol : ℕ → Result Tree → Result Tree
 thenSymbol n q = andThen q (λ t r. expect n r (λ z. ok t z))
 
--- the call of g at p, from its parenthesis on
+-- the call of g at p, from behind its parenthesis, and from its parenthesis on
+abbrev pub argumentsOf : Function → ℕ → ℕ → ℕ → List Tok → Result Tree
+argumentsOf g p d f ts = callBody (formOf g) p (λ m q. arguments f d m q) ts
+
 abbrev pub callOf : Function → ℕ → ℕ → ℕ → List Tok → Result Tree
-callOf g p d f ts = enter d openParen ts (λ e r. callBody (formOf g) p (λ m q. arguments f e m q) r)
+callOf g p d f ts = enter d openParen ts (λ e r. argumentsOf g p e f r)
+
+-- behind the parenthesis at `opener` of a call whose name has the word w
+pub record Arguing (w d : ℕ) (s : List ℕ) (opener pc : ℕ) (o o′ : List ℕ) (r : Read) : Type 0 where
+  pub span : Span s opener pc r
+  pub same : (f : ℕ) → (length s - (opener + 1)) * 8 + 4 ≤ f → SameResult pc o o′ s r (argumentsOf (functionAt (wordOperand w)) (wordPlace w) d f (tokensFrom s (opener + 1)))
 
 -- the branches of IF behind the condition c
 abbrev pub branchesOf : Tree → ℕ → ℕ → ℕ → List Tok → Result Tree

@@ -1,5 +1,5 @@
 -- `draft::applied` meets its contract.
-use Rattle.operators.specs.Functions.{functionOperator}
+use Rattle.grammar.specs.Functions.{functionOperator}
 use Rattle.draft.proofs.Numbers.{unary-at}
 use Rattle.draft.proofs.Typed.{unary-typed, unary-function}
 use borrow.Author.Needs.{needs}

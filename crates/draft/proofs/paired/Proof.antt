@@ -1,5 +1,5 @@
 -- `draft::paired` meets its contract.
-use Rattle.operators.specs.Functions.{functionOperator}
+use Rattle.grammar.specs.Functions.{functionOperator}
 use Rattle.draft.proofs.Numbers.{binary-at}
 use Rattle.draft.proofs.Typed.{binary-typed, binary-function}
 use borrow.Author.Needs.{needs}

@@ -12,19 +12,16 @@ use Rattle.operators.specs.declared.UnaryOp.the-variants as U
 use Rattle.operators.specs.declared.BinaryOp.{BinaryOp}
 use Rattle.operators.specs.declared.BinaryOp.the-variants as B
 use Rattle.operators.specs.Tables.{unaryOps, binaryOps}
-use Rattle.operators.specs.Functions.{functionOperator}
 use Rattle.memory.specs.declared.Bank.{Bank}
 use Rattle.memory.specs.declared.Bank.the-variants.{X}
 use Rattle.memory.specs.Cells.{bankKind}
 use Rattle.memory.specs.Numbers.{banks}
-use Rattle.tokens.specs.declared.Function.{Function}
-use Rattle.tokens.specs.declared.Function.the-variants.{Abs}
-use Rattle.tokens.specs.Words.{functions}
 use Rattle.token_table.specs.private.Table.{wordClass, wordOperand, wordPlace, wordAt}
+use Rattle.grammar.specs.Functions.{functionOperator}
 use Rattle.grammar.specs.Symbols.{minus, tilde, bang, groupNumber}
 use Rattle.code.specs.Instructions.{PUSH-INT, PUSH-REAL, LOAD}
 
--- operators, banks and functions by number
+-- operators and banks by number
 abbrev pub unaryAt : ℕ → UnaryOp
 unaryAt n = getD unaryOps n U.Neg
 
@@ -33,9 +30,6 @@ binaryAt n = getD binaryOps n B.Power
 
 abbrev pub bankAt : ℕ → Bank
 bankAt n = getD banks n X
-
-abbrev pub functionAt : ℕ → Function
-functionAt n = getD functions n Abs
 
 -- the operator of a function of one argument, and of one of two
 abbrev pub functionOp : ℕ → UnaryOp

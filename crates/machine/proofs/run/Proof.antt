@@ -40,11 +40,13 @@ made c =
     (⊎-elim (λ s. s .3 ∙ performed E (l .h) (l .stack) w class (s .1 .given .1) refl refl (s .2 .ensures E none none))
     (⊎-elim (λ s. s .5 ∙ performed E (l .h) (l .stack) w class (s .1 .given .1) refl (s .2 .ensures) (s .4 .ensures E none))
     (⊎-elim (λ s. s .5 ∙ performed E (l .h) (l .stack) w class (s .1 .given .1) refl (s .2 .ensures) (s .4 .ensures E none))
+    (⊎-elim (λ s. s .3 ∙ performed E (l .h) (l .stack) w class (s .1 .given .1) refl refl (s .2 .ensures (now (a .image)) _ _))
+    (⊎-elim (λ s. s .5 ∙ performed E (l .h) (l .stack) w class (s .1 .given .1) refl (s .2 .ensures) (s .4 .ensures (now (a .image)) _))
     (⊎-elim (λ s. s .3 ∙ performed E (l .h) (l .stack) w class (s .1 .given .1) refl refl (s .2 .ensures (a .tick) _ _))
     (⊎-elim (λ s. s .5 ∙ performed E (l .h) (l .stack) w class (s .1 .given .1) refl (s .2 .ensures) (s .4 .ensures (a .tick) _))
     (⊎-elim (λ s. s .5 ∙ performed E (l .h) (l .stack) w class (s .1 .given .1) refl (s .2 .ensures) (s .4 .ensures E _))
     (⊎-elim (λ s. s .7 ∙ performed E (l .h) (l .stack) w class (s .1 .given .1) (s .2 .ensures) (s .4 .ensures) (s .6 .ensures E))
-    (λ s. s .3 ∙ performed E (l .h) (l .stack) w class (s .1 .given .1) refl refl (s .2 .ensures))))))))))
+    (λ s. s .3 ∙ performed E (l .h) (l .stack) w class (s .1 .given .1) refl refl (s .2 .ensures))))))))))))
     (c .match .came))
 
 min-requires : tie.Need-min-requires Inv-loop μ-loop
@@ -115,14 +117,35 @@ jump-if-requires-2 c κs = search needs
 enum-told-6 : tie.Need-enum-told-6 Inv-loop μ-loop
 enum-told-6 c = search needs
 
-load-requires : tie.Need-load-requires Inv-loop μ-loop
-load-requires c κs = search needs
+push-tick-requires : tie.Need-push-tick-requires Inv-loop μ-loop
+push-tick-requires c κs = search needs
 
 enum-told-7 : tie.Need-enum-told-7 Inv-loop μ-loop
 enum-told-7 c = search needs
 
 from-top-requires-3 : tie.Need-from-top-requires-3 Inv-loop μ-loop
 from-top-requires-3 c κs = search needs
+
+mul-since : tie.Need-mul-since Inv-loop μ-loop
+mul-since c = omega arith
+
+array-copy-out-since : tie.Need-array-copy-out-since Inv-loop μ-loop
+array-copy-out-since c = omega arith
+
+since-requires : tie.Need-since-requires Inv-loop μ-loop
+since-requires c κs = search needs
+
+enum-told-8 : tie.Need-enum-told-8 Inv-loop μ-loop
+enum-told-8 c = search needs
+
+load-requires : tie.Need-load-requires Inv-loop μ-loop
+load-requires c κs = search needs
+
+enum-told-9 : tie.Need-enum-told-9 Inv-loop μ-loop
+enum-told-9 c = search needs
+
+from-top-requires-4 : tie.Need-from-top-requires-4 Inv-loop μ-loop
+from-top-requires-4 c κs = search needs
 
 mul-load-indexed : tie.Need-mul-load-indexed Inv-loop μ-loop
 mul-load-indexed c = omega arith
@@ -133,11 +156,11 @@ array-copy-out-load-indexed c = omega arith
 load-indexed-requires : tie.Need-load-indexed-requires Inv-loop μ-loop
 load-indexed-requires c κs = search needs
 
-enum-told-8 : tie.Need-enum-told-8 Inv-loop μ-loop
-enum-told-8 c = search needs
+enum-told-10 : tie.Need-enum-told-10 Inv-loop μ-loop
+enum-told-10 c = search needs
 
-from-top-requires-4 : tie.Need-from-top-requires-4 Inv-loop μ-loop
-from-top-requires-4 c κs = search needs
+from-top-requires-5 : tie.Need-from-top-requires-5 Inv-loop μ-loop
+from-top-requires-5 c κs = search needs
 
 mul-unary : tie.Need-mul-unary Inv-loop μ-loop
 mul-unary c = omega arith
@@ -148,11 +171,11 @@ array-copy-out-unary c = omega arith
 unary-requires : tie.Need-unary-requires Inv-loop μ-loop
 unary-requires c κs = search needs
 
-enum-told-9 : tie.Need-enum-told-9 Inv-loop μ-loop
-enum-told-9 c = search needs
+enum-told-11 : tie.Need-enum-told-11 Inv-loop μ-loop
+enum-told-11 c = search needs
 
-from-top-requires-5 : tie.Need-from-top-requires-5 Inv-loop μ-loop
-from-top-requires-5 c κs = search needs
+from-top-requires-6 : tie.Need-from-top-requires-6 Inv-loop μ-loop
+from-top-requires-6 c κs = search needs
 
 mul-binary : tie.Need-mul-binary Inv-loop μ-loop
 mul-binary c = omega arith
@@ -160,8 +183,8 @@ mul-binary c = omega arith
 array-copy-out-binary : tie.Need-array-copy-out-binary Inv-loop μ-loop
 array-copy-out-binary c = omega arith
 
-from-top-requires-6 : tie.Need-from-top-requires-6 Inv-loop μ-loop
-from-top-requires-6 c κs = search needs
+from-top-requires-7 : tie.Need-from-top-requires-7 Inv-loop μ-loop
+from-top-requires-7 c κs = search needs
 
 mul-binary-2 : tie.Need-mul-binary-2 Inv-loop μ-loop
 mul-binary-2 c = omega arith
@@ -172,8 +195,8 @@ array-copy-out-binary-2 c = omega arith
 binary-requires : tie.Need-binary-requires Inv-loop μ-loop
 binary-requires c κs = search needs
 
-enum-told-10 : tie.Need-enum-told-10 Inv-loop μ-loop
-enum-told-10 c = search needs
+enum-told-12 : tie.Need-enum-told-12 Inv-loop μ-loop
+enum-told-12 c = search needs
 
 stuck-step-requires : tie.Need-stuck-step-requires Inv-loop μ-loop
 stuck-step-requires c κs = search needs
@@ -184,17 +207,17 @@ add-place c = let q = nearer (made (c .before)) in omega arith
 add-place-2 : tie.Need-add-place-2 Inv-loop μ-loop
 add-place-2 c = let q = nearer (made (c .before)) in omega arith
 
-enum-told-11 : tie.Need-enum-told-11 Inv-loop μ-loop
-enum-told-11 c = search needs
+enum-told-13 : tie.Need-enum-told-13 Inv-loop μ-loop
+enum-told-13 c = search needs
 
 mul-stack : tie.Need-mul-stack Inv-loop μ-loop
-mul-stack c = let q = (onward (made (c .before .before .before)) (c .enum-told11 .given .1)) .0 in omega arith
+mul-stack c = let q = (onward (made (c .before .before .before)) (c .enum-told13 .given .1)) .0 in omega arith
 
 array-set-from-stack : tie.Need-array-set-from-stack Inv-loop μ-loop
-array-set-from-stack c = let q = (onward (made (c .before .before .before)) (c .enum-told11 .given .1)) .0 in omega arith
+array-set-from-stack c = let q = (onward (made (c .before .before .before)) (c .enum-told13 .given .1)) .0 in omega arith
 
 add-h : tie.Need-add-h Inv-loop μ-loop
-add-h c = let q = (onward (made (c .before .before .before)) (c .enum-told11 .given .1)) .0 in omega arith
+add-h c = let q = (onward (made (c .before .before .before)) (c .enum-told13 .given .1)) .0 in omega arith
 
 loop-less : tie.Need-loop-less Inv-loop μ-loop
 loop-less c = omega arith
@@ -202,11 +225,11 @@ loop-less c = omega arith
 loop-again : tie.Need-loop-again Inv-loop μ-loop
 loop-again c =
     let l = c .before .before .before .before .before .before .before .loop in
-    let on = onward (made (c .before .before .before)) (c .enum-told11 .given .1) in
+    let on = onward (made (c .before .before .before)) (c .enum-told13 .given .1) in
     (simp length-set (l .inv .0), omega (arith, on .0), omega arith, l .inv .3, l .inv .4, on .1 (l .inv .0))
 
-enum-told-12 : tie.Need-enum-told-12 Inv-loop μ-loop
-enum-told-12 c = search needs
+enum-told-14 : tie.Need-enum-told-14 Inv-loop μ-loop
+enum-told-14 c = search needs
 
 loop-less-2 : tie.Need-loop-less-2 Inv-loop μ-loop
 loop-less-2 c = omega arith
@@ -215,7 +238,7 @@ loop-again-2 : tie.Need-loop-again-2 Inv-loop μ-loop
 loop-again-2 c =
     let l = c .before .before .before .before .before .before .before .loop in
     let t = made (c .before .before .before) in
-    (l .inv .0, omega (arith, lower t), omega arith, l .inv .3, l .inv .4, onward t (c .enum-told12 .given .1))
+    (l .inv .0, omega (arith, lower t), omega arith, l .inv .3, l .inv .4, onward t (c .enum-told14 .given .1))
 
 failed-requires : tie.Need-failed-requires Inv-loop μ-loop
 failed-requires c κs = search needs
@@ -262,36 +285,43 @@ run-spec =
     array-copy-out-jump-if-2
     jump-if-requires-2
     enum-told-6
-    load-requires
+    push-tick-requires
     enum-told-7
     from-top-requires-3
+    mul-since
+    array-copy-out-since
+    since-requires
+    enum-told-8
+    load-requires
+    enum-told-9
+    from-top-requires-4
     mul-load-indexed
     array-copy-out-load-indexed
     load-indexed-requires
-    enum-told-8
-    from-top-requires-4
+    enum-told-10
+    from-top-requires-5
     mul-unary
     array-copy-out-unary
     unary-requires
-    enum-told-9
-    from-top-requires-5
+    enum-told-11
+    from-top-requires-6
     mul-binary
     array-copy-out-binary
-    from-top-requires-6
+    from-top-requires-7
     mul-binary-2
     array-copy-out-binary-2
     binary-requires
-    enum-told-10
+    enum-told-12
     stuck-step-requires
     add-place
     add-place-2
-    enum-told-11
+    enum-told-13
     mul-stack
     array-set-from-stack
     add-h
     loop-less
     loop-again
-    enum-told-12
+    enum-told-14
     loop-less-2
     loop-again-2
     failed-requires

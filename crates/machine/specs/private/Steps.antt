@@ -11,12 +11,13 @@ use Rattle.values.specs.declared.Fault.{Fault}
 use Rattle.values.specs.declared.Fault.the-variants.{Overflow}
 use Rattle.values.specs.declared.Outcome.{Outcome}
 use Rattle.values.specs.declared.Outcome.the-variants as Outcome
-use Rattle.operators.specs.Operators.{unaryRule, binaryRule, truthRule}
+use Rattle.values.specs.Patterns.{signedOf}
+use Rattle.operators.specs.Operators.{unaryRule, sinceRule, binaryRule, truthRule}
 use Rattle.memory.specs.declared.Bank.{Bank}
 use Rattle.memory.specs.Layout.{layoutOf}
 use Rattle.memory.specs.Environment.{Environment, indexedCell, memoryAt}
 use Rattle.code.specs.declared.Instr.{Instr}
-use Rattle.code.specs.declared.Instr.the-variants.{PushInt, PushReal, Load, LoadIndexed, Unary, Binary, Jump, JumpIf, Unknown}
+use Rattle.code.specs.declared.Instr.the-variants.{PushInt, PushReal, Load, LoadIndexed, Unary, Binary, Jump, JumpIf, Tick, Since, Unknown}
 use Rattle.machine.specs.declared.Ended.{Ended}
 use Rattle.machine.specs.declared.Ended.the-variants.{Done, Stopped, Stuck}
 use Rattle.machine.specs.declared.Ran.{Ran}
@@ -73,6 +74,8 @@ stepOf E (Unary o) h l r = givenStep h 1 (unaryRule o r)
 stepOf E (Binary o) h l r = givenStep h 2 (binaryRule o l r)
 stepOf E (Jump d) h l r = skipStep h d
 stepOf E (JumpIf t d) h l r = jumpStep h r t d
+stepOf E Tick h l r = pushOrStuck h (Int (signedOf 32 (E .tick)))
+stepOf E Since h l r = givenStep h 1 (sinceRule (E .tick) r)
 stepOf E Unknown h l r = stuckStep
 
 -- x is the step of an instruction that takes no value, wherever it is run; that takes the last value, r; that takes the two last
@@ -91,6 +94,13 @@ IsLoad m i h x = (t : ℕ) (l r : Value) → x ≡ stepOf (memoryAt t m) i h l r
 
 abbrev pub IsLoadOn : List ℕ → Instr → ℕ → Value → Step → Type 0
 IsLoadOn m i h r x = (t : ℕ) (l : Value) → x ≡ stepOf (memoryAt t m) i h l r
+
+-- the same at the tick t in any memory, for the two that see it
+abbrev pub IsTick : ℕ → Instr → ℕ → Step → Type 0
+IsTick t i h x = (m : List ℕ) (l r : Value) → x ≡ stepOf (memoryAt t m) i h l r
+
+abbrev pub IsTickOn : ℕ → Instr → ℕ → Value → Step → Type 0
+IsTickOn t i h r x = (m : List ℕ) (l : Value) → x ≡ stepOf (memoryAt t m) i h l r
 
 -- a load from the bank, of an element that may be beyond it
 abbrev pub bankStep : Environment → Bank → ℕ → ℕ → Step

@@ -50,12 +50,12 @@ module _ (c : tie.After-known-told) where
 returns : tie.Need-returns
 returns c =
     let s = c .before .before .before .before .before in
-    refuses (memory s) (code s) (no-memory (target s) (text s) (memory s) (code s) (λ e. omega arith))
+    refuses (s .args .tick) (memory s) (code s) (no-memory (target s) (text s) (memory s) (code s) (λ e. omega arith))
 
 returns-2 : tie.Need-returns-2
 returns-2 c =
     let s = c .before .before .before .before .before .before in
-    refuses (memory s) (code s) (no-room (target s) (text s) (memory s) (code s) (omega arith) (omega arith))
+    refuses (s .args .tick) (memory s) (code s) (no-room (target s) (text s) (memory s) (code s) (omega arith) (omega arith))
 
 target-of-requires : tie.Need-target-of-requires
 target-of-requires c κs = search needs
@@ -69,7 +69,7 @@ enum-told c = search needs
 returns-3 : tie.Need-returns-3
 returns-3 c =
     let s = c .before .before .before .before .before .before .before .before .before in
-    refuses (memory s) (code s) (named (target s) (text s) (memory s) (code s) (omega arith) (omega arith) (sym (c .before .before .target-of .ensures) ∙ c .enum-told .given .1))
+    refuses (s .args .tick) (memory s) (code s) (named (target s) (text s) (memory s) (code s) (omega arith) (omega arith) (sym (c .before .before .target-of .ensures) ∙ c .enum-told .given .1))
 
 compile-requires : tie.Need-compile-requires
 compile-requires c κs = search needs
@@ -99,7 +99,7 @@ returns-4 c =
     let e = with-room (code s) (text s) (room g) in
     let w = c .before .before .before .before .before .before .before .before .before .before .before .before .compile .ensures in
     let done = sym (c .before .before .before .before .before .before .before .before .count .given .1) in
-    performs (text s) (code s) (memory s) (bank g) (element g) (judge (text s)) (the-text g) refl (room g) (done ∙ w .0 ∙ ap codedAnswer e) (w .1 ∙ ap (codedBytes (code s)) e)
+    performs (s .args .tick) (text s) (code s) (memory s) (bank g) (element g) (judge (text s)) (the-text g) refl (room g) (done ∙ w .0 ∙ ap codedAnswer e) (w .1 ∙ ap (codedBytes (code s)) e)
     (c .before .before .before .before .run .ensures) (c .before .before .finish .ensures)
 
 same-length-3 : tie.Need-same-length-3
@@ -111,7 +111,7 @@ returns-5 c =
     let s = start g in
     let e = with-room (code s) (text s) (room g) in
     let w = c .before .before .before .before .before .compile .ensures in
-    refuses-text (code s) (memory s) (bank g) (element g) (judge (text s)) (the-text g) (sym (c .before .a .given .1) ∙ w .0 ∙ ap codedAnswer e) (w .1 ∙ ap (codedBytes (code s)) e)
+    refuses-text (s .args .tick) (code s) (memory s) (bank g) (element g) (judge (text s)) (the-text g) (sym (c .before .a .given .1) ∙ w .0 ∙ ap codedAnswer e) (w .1 ∙ ap (codedBytes (code s)) e)
 
 pub compile-and-run-spec : {M : Type 1} → statement M
 compile-and-run-spec =

@@ -39,7 +39,7 @@ goes-to c e =
 returns : tie.Need-returns
 returns c =
     let s = c .before .before .before .before in
-    refuses (code s) (n s) (target s) (memory s) (no-memory (code s) (n s) (target s) (memory s) (λ e. omega arith))
+    refuses (s .args .tick) (code s) (n s) (target s) (memory s) (no-memory (code s) (n s) (target s) (memory s) (λ e. omega arith))
 
 target-of-requires : tie.Need-target-of-requires
 target-of-requires c κs = search needs
@@ -53,7 +53,7 @@ enum-told c = search needs
 returns-2 : tie.Need-returns-2
 returns-2 c =
     let s = c .before .before .before .before .before .before .before in
-    refuses (code s) (n s) (target s) (memory s)
+    refuses (s .args .tick) (code s) (n s) (target s) (memory s)
     (named (code s) (n s) (target s) (memory s) (omega arith) (sym (c .before .before .target-of .ensures) ∙ c .enum-told .given .1) refl)
 
 check-requires : tie.Need-check-requires
@@ -68,7 +68,7 @@ enum-told-3 c = search needs
 returns-3 : tie.Need-returns-3
 returns-3 c =
     let s = start (c .before .before .before) in
-    refuses (code s) (n s) (target s) (memory s) (goes-to (c .before .before .before) (the-verdict (c .before .before .check .ensures) (c .enum-told3 .given .1)))
+    refuses (s .args .tick) (code s) (n s) (target s) (memory s) (goes-to (c .before .before .before) (the-verdict (c .before .before .check .ensures) (c .enum-told3 .given .1)))
 
 run-requires : tie.Need-run-requires
 run-requires c κs = search needs
@@ -85,7 +85,7 @@ returns-4 c =
     let v = the-verdict right (c .before .before .before .before .before .before .enum-told2 .given .1) in
     let g = c .before .before .before .before .before .before .before .before .before in
     let s = start g in
-    after-run (code s) (n s) (target s) (memory s) (goes-to g v) (c .before .before .before .before .run .ensures) (c .before .before .finish .ensures)
+    after-run (s .args .tick) (code s) (n s) (target s) (memory s) (goes-to g v) (c .before .before .before .before .run .ensures) (c .before .before .finish .ensures)
 
 pub run-spec : {M : Type 1} → statement M
 run-spec =

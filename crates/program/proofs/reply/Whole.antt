@@ -10,10 +10,10 @@ use Rattle.operations.specs.declared.Answer.{Answer}
 use Rattle.operations.specs.Operations.{request, requestAnswer, requestMemory}
 use Rattle.program.specs.Cases.{Case, zeros}
 use Rattle.lines.specs.private.Steps.{Puts}
-use Rattle.program.specs.Reply.{answerText, replyTo}
+use Rattle.program.specs.Reply.{answerText, programTick, replyTo}
 
-pub text : (s : Case) {code m : List ℕ} {a : Answer} → code ≡ zeros 16384 → a ≡ requestAnswer (s .memory) (request (s .target) (s .text) (s .memory) code)
-    → m ≡ requestMemory (s .memory) (request (s .target) (s .text) (s .memory) code) → answerText (s .target) m a ≡ replyTo s
+pub text : (s : Case) {code m : List ℕ} {a : Answer} → code ≡ zeros 16384 → a ≡ requestAnswer programTick (s .memory) (request (s .target) (s .text) (s .memory) code)
+    → m ≡ requestMemory programTick (s .memory) (request (s .target) (s .text) (s .memory) code) → answerText (s .target) m a ≡ replyTo s
 text s c f g = rw (f, g, c)
 
 -- a text that was put at the front is what stands there

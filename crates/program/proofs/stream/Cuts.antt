@@ -20,7 +20,7 @@ use Rattle.operations.specs.Operations.{reportOf, Request, stops, ofText, ofTar
 use Rattle.lines.specs.Forms.{cellPattern}
 use Rattle.lines.specs.Lines.{except, keyLength}
 use Rattle.program.specs.Cases.{Case, putForm, setCell, targetKey, exprKey, keyed, afterLine, zeros}
-use Rattle.program.specs.Reply.{reportText, storedText, replyTo}
+use Rattle.program.specs.Reply.{reportText, storedText, programTick, replyTo}
 use Rattle.program.specs.Stream.{keptBytes}
 use Rattle.lines.proofs.Long.{short-name, no-name, no-target, no-value}
 use Rattle.lines.proofs.Tests.{no}
@@ -41,7 +41,7 @@ of-target a b e (Cell c i) = ap (ofText (zeros 16384) c i) e
 of-target a b e Other = refl
 
 abbrev printed : List ℕ → Named → Request → List ℕ
-printed m n q = reportText (reportOf (requestAnswer m q)) ++ storedText (requestMemory m q) n (requestAnswer m q)
+printed m n q = reportText (reportOf (requestAnswer programTick m q)) ++ storedText (requestMemory programTick m q) n (requestAnswer programTick m q)
 
 abbrev guarded : List ℕ → Request → Request
 guarded m q = cond (eqb (length m) imageSize) (cond (ltb (length (zeros 16384)) 16384) (stops 10 0) q) (stops 1 0)

@@ -22,11 +22,11 @@ use Rattle.memory.specs.declared.numbers.BankOf.the-variants as BankOf
 use Rattle.memory.specs.Layout.{layoutOf}
 use Rattle.memory.specs.Numbers.{bankNumbered, bankNumber}
 use Rattle.tokens.specs.declared.Function.{Function}
-use Rattle.tokens.specs.declared.Function.the-variants.{Abs, ToReal, ToInt, Trunc, Round, Frac, Max, Min, If}
+use Rattle.tokens.specs.declared.Function.the-variants.{Abs, ToReal, ToInt, Trunc, Round, Frac, Max, Min, If, TickMs, Since}
 use Rattle.tokens.specs.declared.Token.{Token}
 use Rattle.tokens.specs.declared.Token.the-variants.{Number, Cell, Letter, Name, Symbol}
 use Rattle.tokens.specs.Symbols.{symbolCount}
-use Rattle.tokens.specs.Words.{functions}
+use Rattle.tokens.specs.Words.{functionCount, functionAt}
 use Rattle.tokens.specs.Scan.{Tok, Scan, tokens, wrong}
 use Rattle.token_table.specs.declared.Filled.{Filled}
 use Rattle.token_table.specs.declared.Filled.the-variants.{Good, Wrong}
@@ -51,9 +51,11 @@ functionNumber Frac = 5
 functionNumber Max = 6
 functionNumber Min = 7
 functionNumber If = 8
+functionNumber TickMs = 9
+functionNumber Since = 10
 
 abbrev pub functionNumbered : ℕ → FunctionOf
-functionNumbered n = cond (ltb n 9) (FunctionOf.Is (getD functions n Abs)) FunctionOf.Nothing
+functionNumbered n = cond (ltb n functionCount) (FunctionOf.Is (functionAt n)) FunctionOf.Nothing
 
 -- ---- a word
 -- 8 bits of a class, 8 of an operand, 16 of a place, 32 of a number

@@ -1,36 +1,39 @@
--- The rule for a word, function by function, and then by its length.
-use mathlib.Core.Path.{_≡_, refl, sym}
-use mathlib.Core.Bool.{true, false, and-false}
-use mathlib.Core.List.{List, [], _∷_}
-use Prim.Native.Nat.{ℕ}
+-- The rule for a word by its length: only the names of that length are compared with it.
+use mathlib.Core.Path.{_≡_, refl, sym, ap, subst, _∙_}
+use mathlib.Core.Logic.{_≢_}
+use mathlib.Core.Bool.{Bool, true, false, cond, and-false}
+use mathlib.Core.List.{List, [], _∷_, _++_}
+use Prim.Native.Nat.{ℕ, _≤_}
 use native.Mathlib.Omega.{arith}
+use lib.Dec.{eqb}
 use lib.ListN.{length, getD}
+use borrow.Author.Tests.{eqb-true, eqb-false, ne-eqb}
 use Rattle.memory.specs.declared.names.Letter.{Letter}
 use Rattle.memory.specs.declared.names.Letter.the-variants as L
 use Rattle.memory.specs.Names.{isDigit, letterBank, cellAfterLetter, namedRule}
 use Rattle.tokens.specs.declared.Function.{Function}
 use Rattle.tokens.specs.declared.Token.the-variants.{Name}
+use Rattle.tokens.specs.declared.Scanned.{Scanned}
 use Rattle.tokens.specs.declared.Scanned.the-variants.{Good, Bad}
 use Rattle.tokens.specs.Symbols.{equalBytes}
 use Rattle.tokens.specs.Words.{nameOf, functionNamed, functions, letterWord, cellWord, otherWord, wordToken}
+use Rattle.tokens.specs.private.Rows.{Row, end, name, inRow, WordOf}
+use Rattle.tokens.proofs.Same.{unlike}
+use Rattle.tokens.proofs.identifiers.Rows.{past-row}
 
--- the functions that may still have the name s
-pub record Left (fs : List Function) (s : List ℕ) : Type 0 where
-  pub rest : wordToken s ≡ functionNamed fs s (otherWord s)
+-- the functions whose names have n bytes
+abbrev pub ofLength : ℕ → List Function → List Function
+ofLength n [] = []
+ofLength n (f ∷ fs) = cond (eqb (length (nameOf f)) n) (f ∷ ofLength n fs) (ofLength n fs)
 
-pub all-left : (s : List ℕ) → Left functions s
-unfolding wordToken
-all-left s = record { rest = refl }
-
-module _ {f : Function} {fs : List Function} {s : List ℕ} (l : Left (f ∷ fs) s) where
-  pub not-this : equalBytes (nameOf f) s ≡ false → Left fs s
-  not-this e = record { rest = rw e at (l .rest) }
-
-  pub this : equalBytes (nameOf f) s ≡ true → Good (Name f) ≡ wordToken s
-  this e = sym (rw e at (l .rest))
-
-pub none-left : {s : List ℕ} → Left [] s → otherWord s ≡ wordToken s
-none-left l = sym (l .rest)
+by-length : (fs : List Function) (s : List ℕ) (o : Scanned) → functionNamed fs s o ≡ functionNamed (ofLength (length s) fs) s o
+by-length [] s o = refl
+by-length (f ∷ fs) s o = go (ofLength (length s) fs) (eqb (length (nameOf f)) (length s)) refl (by-length fs s o)
+  where
+    go : (gs : List Function) (t : Bool) → eqb (length (nameOf f)) (length s) ≡ t → functionNamed fs s o ≡ functionNamed gs s o
+        → functionNamed (f ∷ fs) s o ≡ functionNamed (cond t (f ∷ gs) gs) s o
+    go gs true e h = ap (cond (equalBytes (nameOf f) s) (Good (Name f))) h
+    go gs false e h = rw (← unlike (nameOf f) s (eqb-false _ _ e)) h
 
 pub one : (s : List ℕ) → length s ≡ 1 → otherWord s ≡ letterWord (letterBank (getD s 0 0))
 unfolding otherWord
@@ -43,8 +46,53 @@ not-a-cell : (d : ℕ) (cs : List ℕ) (l : Letter) → isDigit d ≡ false → 
 not-a-cell d cs (L.Of b) e = rw (e, and-false)
 not-a-cell d cs L.Other e = refl
 
-pub no-cell : (s : List ℕ) → isDigit (getD s 1 0) ≡ false → (length s ≡ 1 → ⊥) → otherWord s ≡ Bad 6
+no-cell : (s : List ℕ) → isDigit (getD s 1 0) ≡ false → (length s ≡ 1 → ⊥) → otherWord s ≡ Bad 6
 unfolding otherWord namedRule
 no-cell [] e n = refl
 no-cell (c ∷ []) e n = absurd (n refl)
 no-cell (c ∷ d ∷ cs) e n = not-a-cell d cs (letterBank c) e
+
+-- the names of n bytes, one after another
+abbrev pub namesOf : List Function → List ℕ
+namesOf [] = []
+namesOf (f ∷ fs) = nameOf f ++ namesOf fs
+
+row-of : (n : ℕ) (fs : List Function) → Row n (namesOf (ofLength n fs)) (ofLength n fs)
+row-of n [] = end
+row-of n (f ∷ fs) = go (ofLength n fs) (eqb (length (nameOf f)) n) refl (row-of n fs)
+  where
+    go : (gs : List Function) (t : Bool) → eqb (length (nameOf f)) n ≡ t → Row n (namesOf gs) gs → Row n (namesOf (cond t (f ∷ gs) gs)) (cond t (f ∷ gs) gs)
+    go gs true e r = name f (eqb-true _ _ e) r
+    go gs false e r = r
+
+-- a word of n bytes
+module _ {n : ℕ} {s : List ℕ} (w : WordOf n s) where
+  pub of-length : wordToken s ≡ functionNamed (ofLength n functions) s (otherWord s)
+  unfolding wordToken
+  of-length = by-length functions s (otherWord s) ∙ ap (λ (m : ℕ). functionNamed (ofLength m functions) s (otherWord s)) (w .long)
+
+  -- its place in the row of its length
+  module _ {k : ℕ} (h : (fs : List Function) (o : Scanned) → Row (length s) (namesOf (ofLength n functions)) fs → functionNamed fs s o ≡ inRow k fs o) where
+    at-place : inRow k (ofLength n functions) (otherWord s) ≡ wordToken s
+    at-place =
+        let r = subst (λ (m : ℕ). Row m (namesOf (ofLength n functions)) (ofLength n functions)) (sym (w .long)) (row-of n functions) in
+        sym (of-length ∙ h (ofLength n functions) (otherWord s) r)
+
+    pub a-name : (j : ℕ) → k ≡ j → inRow j (ofLength n functions) (otherWord s) ≡ wordToken s
+    a-name j e = ap (λ (i : ℕ). inRow i (ofLength n functions) (otherWord s)) (sym e) ∙ at-place
+
+    pub no-name : (n ≡ 1 → ⊥) → length (ofLength n functions) ≤ k → Bad 6 ≡ wordToken s
+    no-name m l =
+        sym (no-cell s (w .no-cell) (λ e. m (sym (w .long) ∙ e))) ∙ sym (past-row k (ofLength n functions) (otherWord s) l) ∙ at-place
+
+-- a word of a length that no name has
+pub no-length : (s : List ℕ) → isDigit (getD s 1 0) ≡ false → length s ≢ 1 → length s ≢ 2 → length s ≢ 3 → length s ≢ 4 → length s ≢ 5 → length s ≢ 6
+    → Bad 6 ≡ wordToken s
+no-length s d not1 not2 not3 not4 not5 not6 =
+    sym (of-length (record { long = refl; no-cell = d }) ∙ ap (λ (fs : List Function). functionNamed fs s (otherWord s)) none ∙ no-cell s d not1)
+  where
+    not-of : (n : ℕ) → length s ≢ n → eqb n (length s) ≡ false
+    not-of n m = ne-eqb n (length s) (λ e. m (sym e))
+
+    none : ofLength (length s) functions ≡ []
+    none = rw (not-of 2 not2, not-of 3 not3, not-of 4 not4, not-of 5 not5, not-of 6 not6)

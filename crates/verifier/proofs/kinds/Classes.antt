@@ -14,7 +14,7 @@ use Rattle.operators.specs.declared.tables.UnaryOf.the-variants as UnaryOf
 use Rattle.operators.specs.declared.tables.BinaryOf.{BinaryOf}
 use Rattle.operators.specs.declared.tables.BinaryOf.the-variants as BinaryOf
 use Rattle.operators.specs.Tables.{unaryOf, binaryOf}
-use Rattle.operators.specs.Kinds.{unaryTakes, unaryKind, binaryTakes, binaryKind, kindNumber, typed, unaryTyped, binaryTyped}
+use Rattle.operators.specs.Kinds.{isInt, unaryTakes, unaryKind, binaryTakes, binaryKind, kindNumber, typed, unaryTyped, binaryTyped}
 use Rattle.memory.specs.declared.Bank.{Bank}
 use Rattle.memory.specs.declared.Bank.the-variants.{X, C, «V», N, D, R}
 use Rattle.memory.specs.declared.numbers.BankOf.{BankOf}
@@ -25,8 +25,8 @@ use Rattle.memory.specs.Numbers.{bankNumbered, bankTyped, bankElements}
 use Rattle.code.specs.declared.Instr.{Instr}
 use Rattle.code.specs.declared.Instr.the-variants as Instr
 use Rattle.code.specs.declared.Instr.the-variants.{Unknown}
-use Rattle.code.specs.declared.Class.the-variants.{PushReal, Load, LoadIndexed, Unary, Binary}
-use Rattle.code.specs.Instructions.{finiteOnly, loadElement, loadIndexed, wordOf}
+use Rattle.code.specs.declared.Class.the-variants.{PushReal, Tick, Since, Load, LoadIndexed, Unary, Binary}
+use Rattle.code.specs.Instructions.{finiteOnly, loadElement, loadIndexed, pushTick, applySince, wordOf}
 use Rattle.code.specs.private.Classes.{numberOf, ofBank, ofUnary, ofBinary, instrIn}
 use Rattle.verifier.specs.Typing.{Shape, illTyped, next, pushKind, moveOf}
 use Rattle.verifier.specs.private.Shapes.{numberKind, leaving, pushNumber, elementTyped, LeavesKind, ReplacesKind, ReplacesTwo}
@@ -102,6 +102,16 @@ indexed-is (BankOf.Is D) k = record { is = λ s. refl }
 indexed-is (BankOf.Is R) k = record { is = λ s. refl }
 indexed-is BankOf.Nothing k = turns-none refl k
 
+-- ---- the tick
+
+tick-is : LeavesKind (pushTick 0) 0
+unfolding moveOf
+tick-is = record { is = λ s. refl }
+
+since-is : (k : ℕ) → ReplacesKind (applySince 0) k (typed (isInt (numberKind k)) Int)
+unfolding moveOf
+since-is k = record { is = λ s. left-kind (isInt (numberKind k)) Int s }
+
 -- ---- operators
 
 unary-is : (o : UnaryOf) (k : ℕ) → ReplacesKind (ofUnary o 0) k (unaryTyped o (numberKind k))
@@ -117,6 +127,12 @@ binary-is BinaryOf.Nothing j k = pairs-none refl j k
 -- ---- a word that must be 0
 
 module _ {w : ℕ} (h : w ≡ 0 → ⊥) where
+  tick-not : LeavesKind (pushTick w) 2
+  tick-not = gives-none (rw (ne-eqb w 0 h))
+
+  since-not : (k : ℕ) → ReplacesKind (applySince w) k 2
+  since-not = turns-none (rw (ne-eqb w 0 h))
+
   indexed-not : (b : BankOf) (k : ℕ) → ReplacesKind (ofBank loadIndexed b w) k 2
   indexed-not (BankOf.Is b) = turns-none (rw (ne-eqb w 0 h))
   indexed-not BankOf.Nothing = turns-none refl
@@ -140,6 +156,22 @@ module _ (w : ℕ) {d : ℕ} (q : d ≡ wordOf w) where
 
   other-word : (d ≡ 0 → ⊥) → wordOf w ≡ 0 → ⊥
   other-word h e = h (q ∙ e)
+
+  pub no-tick : (d ≡ 0 → ⊥) → LeavesKind (instrIn Tick w) 2
+  no-tick h = tick-not (other-word h)
+
+  pub ticks : d ≡ 0 → LeavesKind (instrIn Tick w) 0
+  ticks z =
+      let word : wordOf w ≡ 0 = sym q ∙ z in
+      rw word tick-is
+
+  pub no-since : (d ≡ 0 → ⊥) → (k : ℕ) → ReplacesKind (instrIn Since w) k 2
+  no-since h = since-not (other-word h)
+
+  pub applies-since : {n : ℕ} → d ≡ 0 → (k : ℕ) → n ≡ typed (isInt (numberKind k)) Int → ReplacesKind (instrIn Since w) k n
+  applies-since z k e =
+      let word : wordOf w ≡ 0 = sym q ∙ z in
+      rw (e, word) (since-is k)
 
   pub no-indexed : (d ≡ 0 → ⊥) → (k : ℕ) → ReplacesKind (instrIn LoadIndexed w) k 2
   no-indexed h = indexed-not (other-word h) (bankNumbered (numberOf w))

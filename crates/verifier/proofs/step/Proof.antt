@@ -47,8 +47,8 @@ fork-requires-2 c κs = search needs
 enum-told-6 : tie.Need-enum-told-6
 enum-told-6 c = search needs
 
-load-kind-requires : tie.Need-load-kind-requires
-load-kind-requires c κs = search needs
+tick-kind-requires : tie.Need-tick-kind-requires
+tick-kind-requires c κs = search needs
 
 push-requires-3 : tie.Need-push-requires-3
 push-requires-3 c κs = search needs
@@ -56,23 +56,38 @@ push-requires-3 c κs = search needs
 enum-told-7 : tie.Need-enum-told-7
 enum-told-7 c = search needs
 
-indexed-requires : tie.Need-indexed-requires
-indexed-requires c κs = search needs
+since-requires : tie.Need-since-requires
+since-requires c κs = search needs
 
 enum-told-8 : tie.Need-enum-told-8
 enum-told-8 c = search needs
 
-unary-requires : tie.Need-unary-requires
-unary-requires c κs = search needs
+load-kind-requires : tie.Need-load-kind-requires
+load-kind-requires c κs = search needs
+
+push-requires-4 : tie.Need-push-requires-4
+push-requires-4 c κs = search needs
 
 enum-told-9 : tie.Need-enum-told-9
 enum-told-9 c = search needs
 
-binary-requires : tie.Need-binary-requires
-binary-requires c κs = search needs
+indexed-requires : tie.Need-indexed-requires
+indexed-requires c κs = search needs
 
 enum-told-10 : tie.Need-enum-told-10
 enum-told-10 c = search needs
+
+unary-requires : tie.Need-unary-requires
+unary-requires c κs = search needs
+
+enum-told-11 : tie.Need-enum-told-11
+enum-told-11 c = search needs
+
+binary-requires : tie.Need-binary-requires
+binary-requires c κs = search needs
+
+enum-told-12 : tie.Need-enum-told-12
+enum-told-12 c = search needs
 
 returns : tie.Need-returns
 returns c =
@@ -172,15 +187,15 @@ returns-5 c =
 
 returns-6 : tie.Need-returns-6
 returns-6 c =
-    let at-load-kind = c .before in
-    let at-enum-told6 = at-load-kind .before .before in
+    let at-tick-kind = c .before in
+    let at-enum-told6 = at-tick-kind .before .before in
     let at-class-of = at-enum-told6 .before .before in
     let start = at-class-of .before .before .before .before in (
       typed-keeps (c .push3 .ensures),
       (
         start .pre .1 .1,
         steps-by _ _ (at-class-of .class-of .ensures)
-            (at-enum-told6 .enum-told6 .given .1) (typed-steps (at-load-kind .load-kind .ensures .is _) (c .push3 .ensures)),
+            (at-enum-told6 .enum-told6 .given .1) (typed-steps (at-tick-kind .tick-kind .ensures .is _) (c .push3 .ensures)),
       ),
     )
 
@@ -189,24 +204,25 @@ returns-7 c =
     let at-enum-told7 = c .before .before in
     let at-class-of = at-enum-told7 .before .before in
     let start = at-class-of .before .before .before .before in (
-      typed-keeps (c .indexed .ensures),
+      typed-keeps (c .since .ensures),
       (
         start .pre .1 .1,
         steps-by _ _ (at-class-of .class-of .ensures)
-            (at-enum-told7 .enum-told7 .given .1) (typed-steps refl (c .indexed .ensures)),
+            (at-enum-told7 .enum-told7 .given .1) (typed-steps refl (c .since .ensures)),
       ),
     )
 
 returns-8 : tie.Need-returns-8
 returns-8 c =
-    let at-enum-told8 = c .before .before in
+    let at-load-kind = c .before in
+    let at-enum-told8 = at-load-kind .before .before in
     let at-class-of = at-enum-told8 .before .before in
     let start = at-class-of .before .before .before .before in (
-      typed-keeps (c .unary .ensures),
+      typed-keeps (c .push4 .ensures),
       (
         start .pre .1 .1,
         steps-by _ _ (at-class-of .class-of .ensures)
-            (at-enum-told8 .enum-told8 .given .1) (typed-steps refl (c .unary .ensures)),
+            (at-enum-told8 .enum-told8 .given .1) (typed-steps (at-load-kind .load-kind .ensures .is _) (c .push4 .ensures)),
       ),
     )
 
@@ -215,22 +231,48 @@ returns-9 c =
     let at-enum-told9 = c .before .before in
     let at-class-of = at-enum-told9 .before .before in
     let start = at-class-of .before .before .before .before in (
-      typed-keeps (c .binary .ensures),
+      typed-keeps (c .indexed .ensures),
       (
         start .pre .1 .1,
         steps-by _ _ (at-class-of .class-of .ensures)
-            (at-enum-told9 .enum-told9 .given .1) (typed-steps refl (c .binary .ensures)),
+            (at-enum-told9 .enum-told9 .given .1) (typed-steps refl (c .indexed .ensures)),
       ),
     )
 
 returns-10 : tie.Need-returns-10
 returns-10 c =
+    let at-enum-told10 = c .before .before in
+    let at-class-of = at-enum-told10 .before .before in
+    let start = at-class-of .before .before .before .before in (
+      typed-keeps (c .unary .ensures),
+      (
+        start .pre .1 .1,
+        steps-by _ _ (at-class-of .class-of .ensures)
+            (at-enum-told10 .enum-told10 .given .1) (typed-steps refl (c .unary .ensures)),
+      ),
+    )
+
+returns-11 : tie.Need-returns-11
+returns-11 c =
+    let at-enum-told11 = c .before .before in
+    let at-class-of = at-enum-told11 .before .before in
+    let start = at-class-of .before .before .before .before in (
+      typed-keeps (c .binary .ensures),
+      (
+        start .pre .1 .1,
+        steps-by _ _ (at-class-of .class-of .ensures)
+            (at-enum-told11 .enum-told11 .given .1) (typed-steps refl (c .binary .ensures)),
+      ),
+    )
+
+returns-12 : tie.Need-returns-12
+returns-12 c =
     let at-class-of = c .before .before in
     let start = at-class-of .before .before .before .before in (
       start .pre .0,
       (
         start .pre .1 .1,
-        steps-by _ _ (at-class-of .class-of .ensures) (c .enum-told10 .given .1)
+        steps-by _ _ (at-class-of .class-of .ensures) (c .enum-told12 .given .1)
             (stuck (none-moves _)),
       ),
     )
@@ -252,15 +294,20 @@ step-spec =
     enum-told-5
     fork-requires-2
     enum-told-6
-    load-kind-requires
+    tick-kind-requires
     push-requires-3
     enum-told-7
-    indexed-requires
+    since-requires
     enum-told-8
-    unary-requires
+    load-kind-requires
+    push-requires-4
     enum-told-9
-    binary-requires
+    indexed-requires
     enum-told-10
+    unary-requires
+    enum-told-11
+    binary-requires
+    enum-told-12
     returns
     returns-2
     same-length
@@ -279,4 +326,6 @@ step-spec =
     returns-7
     returns-8
     returns-9
-    returns-10)
+    returns-10
+    returns-11
+    returns-12)

@@ -39,29 +39,41 @@ stays-requires-3 c κs = search needs
 enum-told-6 : tie.Need-enum-told-6
 enum-told-6 c = search needs
 
-load-kind-requires : tie.Need-load-kind-requires
-load-kind-requires c κs = search needs
+tick-kind-requires : tie.Need-tick-kind-requires
+tick-kind-requires c κs = search needs
 
 enum-told-7 : tie.Need-enum-told-7
 enum-told-7 c = search needs
 
-indexed-kind-requires : tie.Need-indexed-kind-requires
-indexed-kind-requires c κs = search needs
+since-kind-requires : tie.Need-since-kind-requires
+since-kind-requires c κs = search needs
 
 enum-told-8 : tie.Need-enum-told-8
 enum-told-8 c = search needs
 
-unary-kind-requires : tie.Need-unary-kind-requires
-unary-kind-requires c κs = search needs
+load-kind-requires : tie.Need-load-kind-requires
+load-kind-requires c κs = search needs
 
 enum-told-9 : tie.Need-enum-told-9
 enum-told-9 c = search needs
 
-binary-kind-requires : tie.Need-binary-kind-requires
-binary-kind-requires c κs = search needs
+indexed-kind-requires : tie.Need-indexed-kind-requires
+indexed-kind-requires c κs = search needs
 
 enum-told-10 : tie.Need-enum-told-10
 enum-told-10 c = search needs
+
+unary-kind-requires : tie.Need-unary-kind-requires
+unary-kind-requires c κs = search needs
+
+enum-told-11 : tie.Need-enum-told-11
+enum-told-11 c = search needs
+
+binary-kind-requires : tie.Need-binary-kind-requires
+binary-kind-requires c κs = search needs
+
+enum-told-12 : tie.Need-enum-told-12
+enum-told-12 c = search needs
 
 returns : tie.Need-returns
 returns c = known-by _ _ (c .before .before .class-of .ensures) (c .enum-told .given .1) _ refl
@@ -79,19 +91,25 @@ returns-5 : tie.Need-returns-5
 returns-5 c = known-by _ _ (c .before .before .before .class-of .ensures) (c .before .enum-told5 .given .1) _ (c .stays3 .ensures)
 
 returns-6 : tie.Need-returns-6
-returns-6 c = known-by _ _ (c .before .before .before .class-of .ensures) (c .before .enum-told6 .given .1) _ (gives-known _ (c .load-kind .ensures))
+returns-6 c = known-by _ _ (c .before .before .before .class-of .ensures) (c .before .enum-told6 .given .1) _ (gives-known _ (c .tick-kind .ensures))
 
 returns-7 : tie.Need-returns-7
-returns-7 c = known-by _ _ (c .before .before .before .class-of .ensures) (c .before .enum-told7 .given .1) _ (turns-known _ (c .indexed-kind .ensures 0))
+returns-7 c = known-by _ _ (c .before .before .before .class-of .ensures) (c .before .enum-told7 .given .1) _ (turns-known _ (c .since-kind .ensures))
 
 returns-8 : tie.Need-returns-8
-returns-8 c = known-by _ _ (c .before .before .before .class-of .ensures) (c .before .enum-told8 .given .1) _ (turns-known _ (c .unary-kind .ensures))
+returns-8 c = known-by _ _ (c .before .before .before .class-of .ensures) (c .before .enum-told8 .given .1) _ (gives-known _ (c .load-kind .ensures))
 
 returns-9 : tie.Need-returns-9
-returns-9 c = known-by _ _ (c .before .before .before .class-of .ensures) (c .before .enum-told9 .given .1) _ (pairs-known _ (c .binary-kind .ensures))
+returns-9 c = known-by _ _ (c .before .before .before .class-of .ensures) (c .before .enum-told9 .given .1) _ (turns-known _ (c .indexed-kind .ensures 0))
 
 returns-10 : tie.Need-returns-10
-returns-10 c = known-by _ _ (c .before .before .class-of .ensures) (c .enum-told10 .given .1) _ {r = false} refl
+returns-10 c = known-by _ _ (c .before .before .before .class-of .ensures) (c .before .enum-told10 .given .1) _ (turns-known _ (c .unary-kind .ensures))
+
+returns-11 : tie.Need-returns-11
+returns-11 c = known-by _ _ (c .before .before .before .class-of .ensures) (c .before .enum-told11 .given .1) _ (pairs-known _ (c .binary-kind .ensures))
+
+returns-12 : tie.Need-returns-12
+returns-12 c = known-by _ _ (c .before .before .class-of .ensures) (c .enum-told12 .given .1) _ {r = false} refl
 
 pub known-spec : {M : Type 1} → statement M
 known-spec =
@@ -108,14 +126,18 @@ known-spec =
     enum-told-5
     stays-requires-3
     enum-told-6
-    load-kind-requires
+    tick-kind-requires
     enum-told-7
-    indexed-kind-requires
+    since-kind-requires
     enum-told-8
-    unary-kind-requires
+    load-kind-requires
     enum-told-9
-    binary-kind-requires
+    indexed-kind-requires
     enum-told-10
+    unary-kind-requires
+    enum-told-11
+    binary-kind-requires
+    enum-told-12
     returns
     returns-2
     returns-3
@@ -125,4 +147,6 @@ known-spec =
     returns-7
     returns-8
     returns-9
-    returns-10)
+    returns-10
+    returns-11
+    returns-12)

@@ -1,18 +1,18 @@
--- `compiler::compile` meets its contract: the size of the buffer is tested first, then the length of the text.
+-- `compiler::compile_from` meets its contract: the size of the buffer is tested first, then the length of the text.
 use native.Mathlib.Omega.{arith}
 use Rattle.compiler.proofs.Answers.{small, enough, sized, not-sized, too-long, no-tokens}
 use borrow.Author.Needs.{needs}
-use Rattle.compiler.proofs.compile.Statement.{statement}
-use Rattle.compiler.proofs.compile.Tie as tie
+use Rattle.compiler.proofs.compile_from.Statement.{statement}
+use Rattle.compiler.proofs.compile_from.Tie as tie
 
 returns : tie.Need-returns
-returns c = let a = c .before .before .before .args in small (a .text .now) (a .code .now) (omega arith)
+returns c = let a = c .before .before .before .args in small (a .opened) (a .text .now) (a .code .now) (omega arith)
 
 is-sized-requires : tie.Need-is-sized-requires
 is-sized-requires c κs = search needs
 
 returns-2 : tie.Need-returns-2
-returns-2 c = let a = c .before .before .before .before .before .args in too-long (a .text .now) (a .code .now) (omega arith) (not-sized (a .text .now) (c .before .is-sized .ensures) (c .if2 .taken))
+returns-2 c = let a = c .before .before .before .before .before .args in too-long (a .opened) (a .text .now) (a .code .now) (omega arith) (not-sized (a .text .now) (c .before .is-sized .ensures) (c .if2 .taken) (a .opened))
 
 slice-aggregate-compile-in : tie.Need-slice-aggregate-compile-in
 slice-aggregate-compile-in c = search needs
@@ -30,7 +30,7 @@ same-length : tie.Need-same-length
 same-length c = search needs
 
 returns-3 : tie.Need-returns-3
-returns-3 c = let a = c .before .before .before .before .before .before .before .before .before .before .before .before .before .before .args in enough (a .text .now) (a .code .now) (omega arith) _ _ (c .before .before .before .before .compile-in .ensures)
+returns-3 c = let a = c .before .before .before .before .before .before .before .before .before .before .before .before .before .before .args in enough (a .opened) (a .text .now) (a .code .now) (omega arith) _ _ (c .before .before .before .before .compile-in .ensures)
 
 slice-aggregate-compile-in-3 : tie.Need-slice-aggregate-compile-in-3
 slice-aggregate-compile-in-3 c = search needs
@@ -48,7 +48,7 @@ same-length-2 : tie.Need-same-length-2
 same-length-2 c = search needs
 
 returns-4 : tie.Need-returns-4
-returns-4 c = let a = c .before .before .before .before .before .before .before .before .before .before .before .before .before .before .before .args in enough (a .text .now) (a .code .now) (omega arith) _ _ (c .before .before .before .before .compile-in2 .ensures)
+returns-4 c = let a = c .before .before .before .before .before .before .before .before .before .before .before .before .before .before .before .args in enough (a .opened) (a .text .now) (a .code .now) (omega arith) _ _ (c .before .before .before .before .compile-in2 .ensures)
 
 slice-aggregate-compile-in-5 : tie.Need-slice-aggregate-compile-in-5
 slice-aggregate-compile-in-5 c = search needs
@@ -66,10 +66,10 @@ same-length-3 : tie.Need-same-length-3
 same-length-3 c = search needs
 
 returns-5 : tie.Need-returns-5
-returns-5 c = let a = c .before .before .before .before .before .before .before .before .before .before .before .before .before .before .before .args in enough (a .text .now) (a .code .now) (omega arith) _ _ (c .before .before .before .before .compile-in3 .ensures)
+returns-5 c = let a = c .before .before .before .before .before .before .before .before .before .before .before .before .before .before .before .args in enough (a .opened) (a .text .now) (a .code .now) (omega arith) _ _ (c .before .before .before .before .compile-in3 .ensures)
 
-pub compile-spec : {M : Type 1} → statement M
-compile-spec =
+pub compile-from-spec : {M : Type 1} → statement M
+compile-from-spec =
     tie.close
     (tie.spec
     returns

@@ -1,16 +1,16 @@
--- `compiler::judge` meets its contract.
+-- `compiler::judge_from` meets its contract.
 use native.Mathlib.Omega.{arith}
 use mathlib.Core.Path.{refl}
 use Rattle.compiler.proofs.Answers.{sized, not-sized, no-tokens}
 use borrow.Author.Needs.{needs}
-use Rattle.compiler.proofs.judge.Statement.{statement}
-use Rattle.compiler.proofs.judge.Tie as tie
+use Rattle.compiler.proofs.judge_from.Statement.{statement}
+use Rattle.compiler.proofs.judge_from.Tie as tie
 
 is-sized-requires : tie.Need-is-sized-requires
 is-sized-requires c κs = search needs
 
 returns : tie.Need-returns
-returns c = rw (not-sized (c .before .before .before .args .text .now) (c .before .is-sized .ensures) (c .if1 .taken)) refl
+returns c = let a = c .before .before .before .args in rw (not-sized (a .text .now) (c .before .is-sized .ensures) (c .if1 .taken) (a .opened)) refl
 
 slice-aggregate-read : tie.Need-slice-aggregate-read
 slice-aggregate-read c = search needs
@@ -42,8 +42,8 @@ read-requires-2 c κs =
 returns-3 : tie.Need-returns-3
 returns-3 c = c .before .before .read2 .ensures .answer
 
-pub judge-spec : {M : Type 1} → statement M
-judge-spec =
+pub judge-from-spec : {M : Type 1} → statement M
+judge-from-spec =
     tie.close
     (tie.spec
     is-sized-requires

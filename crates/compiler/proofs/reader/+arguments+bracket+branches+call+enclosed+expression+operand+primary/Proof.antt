@@ -1,4 +1,4 @@
--- The cycle of the reader: `expression`, `operand`, `primary`, `enclosed`, `bracket`, `arguments` and `branches` meet their contracts. Each answer cites the law for its way. The measure is the cost: the words left, then the rank of the
+-- The cycle of the reader: `expression`, `operand`, `primary`, `enclosed`, `bracket`, `call`, `arguments` and `branches` meet their contracts. Each answer cites the law for its way. The measure is the cost: the words left, then the rank of the
 -- function.
 use mathlib.Core.Path.{_≡_, refl, sym, ap, ap₂, _∙_}
 use mathlib.Core.Bool.{true}
@@ -7,42 +7,46 @@ use Prim.Native.Nat.{ℕ, _+_, _-_, _*_, _<_}
 use native.Mathlib.Omega.{arith}
 use borrow.Author.Needs.{needs}
 use lib.ListN.{length}
-use Rattle.grammar.specs.Symbols.{openParen, formOf}
-use Rattle.grammar.specs.Parse.{bracket as bracketOf, callBody, arguments as argumentsOf}
+use Rattle.tokens.specs.Words.{functionAt}
+use Rattle.token_table.specs.private.Table.{wordOperand, wordPlace}
+use Rattle.grammar.specs.Symbols.{openParen}
+use Rattle.grammar.specs.Parse.{bracket as bracketOf}
 use Rattle.draft.specs.private.Results.{isDone, readNext, readOf}
-use Rattle.draft.specs.private.Words.{functionAt}
 use Rattle.draft.specs.private.Draft.{reserved}
+use Rattle.compiler.specs.private.Reading.{argumentsOf}
 use Rattle.compiler.proofs.reader.Looking.{look, there, primary-there, primary-as, is-leaf, at-end, a-leaf, a-letter, a-name, a-symbol}
 use Rattle.compiler.proofs.reader.Binding.{stopped, met, unmet}
 use Rattle.compiler.proofs.reader.Steps.{being, as-done, moved, reached, enclosed-stopped, enclosed-closed, enclosed-open, shut-reads, full-reads, bracket-inside, primary-end, letter-stopped, letter-done, primary-name, primary-symbol, leaf-reads}
 use Rattle.compiler.proofs.reader.Signing.{Operand, operand-leaf, operand-stopped, operand-signed}
 use Rattle.compiler.proofs.reader.Climbing.{Climb, reserved-few, climb-stopped, climb-starts, loop-none, loop-loose, loop-operator, loop-stopped, loop-joined}
-use Rattle.compiler.proofs.reader.Calls.{one-argument, two-arguments, more-arguments, three-arguments, branches-as, only-stopped, only-done, first-stopped, second-stopped, second-done, choice-reads, branch-stopped, other-stopped, other-done}
+use Rattle.compiler.proofs.reader.Calls.{call-inside, arguing-as, choice-of, only-stopped, only-done, since-stopped, since-done, clock-reads, first-stopped, second-stopped, second-done, condition-stopped, choice-reads, branches-as, branch-stopped, other-stopped, other-done}
 use Rattle.draft.proofs.results.Fields.{done-next}
 use borrow.Fn.Kinds.{In}
 use borrow.Fn.PlainCycle.{Measures, is, falls, and}
 use Rattle.compiler.proofs.reader.arguments.Reads as arguments
 use Rattle.compiler.proofs.reader.arguments.Kinds as arguments-kinds
-use Rattle.compiler.proofs.reader.+arguments+bracket+branches+enclosed+expression+operand+primary.Lts-arguments as arguments-lts
+use Rattle.compiler.proofs.reader.+arguments+bracket+branches+call+enclosed+expression+operand+primary.Lts-arguments as arguments-lts
 use Rattle.compiler.proofs.reader.bracket.Reads as bracket
 use Rattle.compiler.proofs.reader.bracket.Kinds as bracket-kinds
-use Rattle.compiler.proofs.reader.+arguments+bracket+branches+enclosed+expression+operand+primary.Lts-bracket as bracket-lts
+use Rattle.compiler.proofs.reader.+arguments+bracket+branches+call+enclosed+expression+operand+primary.Lts-bracket as bracket-lts
 use Rattle.compiler.proofs.reader.branches.Reads as branches
 use Rattle.compiler.proofs.reader.branches.Kinds as branches-kinds
-use Rattle.compiler.proofs.reader.+arguments+bracket+branches+enclosed+expression+operand+primary.Lts-branches as branches-lts
+use Rattle.compiler.proofs.reader.+arguments+bracket+branches+call+enclosed+expression+operand+primary.Lts-branches as branches-lts
+use Rattle.compiler.proofs.reader.call.Reads as call
+use Rattle.compiler.proofs.reader.call.Kinds as call-kinds
+use Rattle.compiler.proofs.reader.+arguments+bracket+branches+call+enclosed+expression+operand+primary.Lts-call as call-lts
 use Rattle.compiler.proofs.reader.enclosed.Reads as enclosed
 use Rattle.compiler.proofs.reader.enclosed.Kinds as enclosed-kinds
-use Rattle.compiler.proofs.reader.+arguments+bracket+branches+enclosed+expression+operand+primary.Lts-enclosed as enclosed-lts
+use Rattle.compiler.proofs.reader.+arguments+bracket+branches+call+enclosed+expression+operand+primary.Lts-enclosed as enclosed-lts
 use Rattle.compiler.proofs.reader.expression.Reads as expression
 use Rattle.compiler.proofs.reader.expression.Kinds as expression-kinds
-use Rattle.compiler.proofs.reader.+arguments+bracket+branches+enclosed+expression+operand+primary.Lts-expression as expression-lts
+use Rattle.compiler.proofs.reader.+arguments+bracket+branches+call+enclosed+expression+operand+primary.Lts-expression as expression-lts
 use Rattle.compiler.proofs.reader.operand.Reads as operand
 use Rattle.compiler.proofs.reader.operand.Kinds as operand-kinds
-use Rattle.compiler.proofs.reader.+arguments+bracket+branches+enclosed+expression+operand+primary.Lts-operand as operand-lts
+use Rattle.compiler.proofs.reader.+arguments+bracket+branches+call+enclosed+expression+operand+primary.Lts-operand as operand-lts
 use Rattle.compiler.proofs.reader.primary.Reads as primary
 use Rattle.compiler.proofs.reader.primary.Kinds as primary-kinds
-use Rattle.compiler.proofs.reader.+arguments+bracket+branches+enclosed+expression+operand+primary.Lts-primary as primary-lts
-use Rattle.operators.proofs.functions.arity.Reads as arity-reads
+use Rattle.compiler.proofs.reader.+arguments+bracket+branches+call+enclosed+expression+operand+primary.Lts-primary as primary-lts
 use Rattle.draft.proofs.ahead.expected.Reads as expected-reads
 use Rattle.draft.proofs.ahead.group_in.Reads as group-in-reads
 use Rattle.draft.proofs.ahead.is_leaf.Reads as is-leaf-reads
@@ -55,6 +59,7 @@ use Rattle.draft.proofs.leaf.Reads as leaf-reads
 use Rattle.draft.proofs.loaded.Reads as loaded-reads
 use Rattle.draft.proofs.paired.Reads as paired-reads
 use Rattle.draft.proofs.reserve.Reads as reserve-reads
+use Rattle.compiler.proofs.reader.clock.Reads as clock-reads′
 use Rattle.compiler.proofs.reader.signed.Reads as signed-reads
 use Rattle.draft.proofs.results.bad.Reads as bad-reads
 use Rattle.draft.proofs.results.deep.Reads as deep-reads
@@ -62,24 +67,29 @@ use Rattle.draft.proofs.results.end_of.Reads as end-of-reads
 use Rattle.draft.proofs.results.is_done.Reads as is-done-reads
 use Rattle.draft.proofs.results.next_of.Reads as next-of-reads
 use Rattle.draft.proofs.results.past.Reads as past-reads
+use Rattle.draft.proofs.since.Reads as since-reads
+use Rattle.grammar.proofs.functions.form.Reads as form-reads
 use Rattle.token_table.proofs.class_of.Reads as class-of-reads
 use Rattle.token_table.proofs.operand_of.Reads as operand-of-reads
 use Rattle.token_table.proofs.word_at.Reads as word-at-reads
-use Rattle.compiler.proofs.reader.+arguments+bracket+branches+enclosed+expression+operand+primary.{
+use Rattle.compiler.proofs.reader.+arguments+bracket+branches+call+enclosed+expression+operand+primary.{
   statement,
 }
-use Rattle.compiler.proofs.reader.+arguments+bracket+branches+enclosed+expression+operand+primary.Tie.{
+use Rattle.compiler.proofs.reader.+arguments+bracket+branches+call+enclosed+expression+operand+primary.Tie.{
   close,
 }
 
 abbrev μ-arguments : Measures 2 arguments-kinds.ps ℕ
-μ-arguments κs a = (length (a .0 .now) - a .1 .1 .0) * 8 + 0
+μ-arguments κs a = (length (a .0 .now) - (a .1 .1 .0 + 1)) * 8 + 5
 
 abbrev μ-bracket : Measures 2 bracket-kinds.ps ℕ
 μ-bracket κs a = (length (a .0 .now) - a .1 .1 .0) * 8 + 0
 
 abbrev μ-branches : Measures 2 branches-kinds.ps ℕ
 μ-branches κs a = (length (a .0 .now) - readNext (a .1 .1 .0)) * 8 + 5
+
+abbrev μ-call : Measures 2 call-kinds.ps ℕ
+μ-call κs a = (length (a .0 .now) - a .1 .1 .0) * 8 + 0
 
 abbrev μ-enclosed : Measures 2 enclosed-kinds.ps ℕ
 μ-enclosed κs a = (length (a .0 .now) - a .1 .1 .0) * 8 + 4
@@ -113,6 +123,12 @@ abbrev branches-below : ℕ → In 2 branches-kinds.ps
 branches-below t =
     and 2 branches-kinds.ps (falls 2 branches-kinds.ps _<_ μ-branches t) branches.Pre
 
+abbrev call-at : ℕ → In 2 call-kinds.ps
+call-at t = and 2 call-kinds.ps (is 2 call-kinds.ps μ-call t) call.Pre
+
+abbrev call-below : ℕ → In 2 call-kinds.ps
+call-below t = and 2 call-kinds.ps (falls 2 call-kinds.ps _<_ μ-call t) call.Pre
+
 abbrev enclosed-at : ℕ → In 2 enclosed-kinds.ps
 enclosed-at t = and 2 enclosed-kinds.ps (is 2 enclosed-kinds.ps μ-enclosed t) enclosed.Pre
 
@@ -141,13 +157,16 @@ abbrev primary-below : ℕ → In 2 primary-kinds.ps
 primary-below t = and 2 primary-kinds.ps (falls 2 primary-kinds.ps _<_ μ-primary t) primary.Pre
 
 abbrev arguments-calls : ℕ → arguments-lts.Claims
-arguments-calls t = (expected-reads.Asked, expected-reads.Learnt, bad-reads.Asked, bad-reads.Learnt, deep-reads.Asked, deep-reads.Learnt, arity-reads.Asked, arity-reads.Learnt, enclosed-below t, enclosed.Post, is-done-reads.Asked, is-done-reads.Learnt, applied-reads.Asked, applied-reads.Learnt, next-of-reads.Asked, next-of-reads.Learnt, end-of-reads.Asked, end-of-reads.Learnt, paired-reads.Asked, paired-reads.Learnt, branches-below t, branches.Post)
+arguments-calls t = (operand-of-reads.Asked, operand-of-reads.Learnt, form-reads.Asked, form-reads.Learnt, enclosed-below t, enclosed.Post, is-done-reads.Asked, is-done-reads.Learnt, applied-reads.Asked, applied-reads.Learnt, next-of-reads.Asked, next-of-reads.Learnt, end-of-reads.Asked, end-of-reads.Learnt, paired-reads.Asked, paired-reads.Learnt, since-reads.Asked, since-reads.Learnt, clock-reads′.Asked, clock-reads′.Learnt, branches-below t, branches.Post)
 
 abbrev bracket-calls : ℕ → bracket-lts.Claims
 bracket-calls t = (expected-reads.Asked, expected-reads.Learnt, bad-reads.Asked, bad-reads.Learnt, deep-reads.Asked, deep-reads.Learnt, enclosed-below t, enclosed.Post)
 
 abbrev branches-calls : ℕ → branches-lts.Claims
 branches-calls t = (next-of-reads.Asked, next-of-reads.Learnt, end-of-reads.Asked, end-of-reads.Learnt, enclosed-below t, enclosed.Post, is-done-reads.Asked, is-done-reads.Learnt, decided-reads.Asked, decided-reads.Learnt, chosen-reads.Asked, chosen-reads.Learnt)
+
+abbrev call-calls : ℕ → call-lts.Claims
+call-calls t = (expected-reads.Asked, expected-reads.Learnt, bad-reads.Asked, bad-reads.Learnt, deep-reads.Asked, deep-reads.Learnt, arguments-below t, arguments.Post)
 
 abbrev enclosed-calls : ℕ → enclosed-lts.Claims
 enclosed-calls t = (expression-below t, expression.Post, is-done-reads.Asked, is-done-reads.Learnt, next-of-reads.Asked, next-of-reads.Learnt, expected-reads.Asked, expected-reads.Learnt, past-reads.Asked, past-reads.Learnt, bad-reads.Asked, bad-reads.Learnt)
@@ -159,7 +178,7 @@ abbrev operand-calls : ℕ → operand-lts.Claims
 operand-calls t = (word-at-reads.Asked, word-at-reads.Learnt, is-leaf-reads.Asked, is-leaf-reads.Learnt, leaf-reads.Asked, leaf-reads.Learnt, signs-end-reads.Asked, signs-end-reads.Learnt, primary-below t, primary.Post, is-done-reads.Asked, is-done-reads.Learnt, signed-reads.Asked, signed-reads.Learnt)
 
 abbrev primary-calls : ℕ → primary-lts.Claims
-primary-calls t = (word-at-reads.Asked, word-at-reads.Learnt, operand-of-reads.Asked, operand-of-reads.Learnt, class-of-reads.Asked, class-of-reads.Learnt, bad-reads.Asked, bad-reads.Learnt, bracket-below t, bracket.Post, is-done-reads.Asked, is-done-reads.Learnt, loaded-reads.Asked, loaded-reads.Learnt, arguments-below t, arguments.Post, leaf-reads.Asked, leaf-reads.Learnt)
+primary-calls t = (word-at-reads.Asked, word-at-reads.Learnt, operand-of-reads.Asked, operand-of-reads.Learnt, class-of-reads.Asked, class-of-reads.Learnt, bad-reads.Asked, bad-reads.Learnt, bracket-below t, bracket.Post, is-done-reads.Asked, is-done-reads.Learnt, loaded-reads.Asked, loaded-reads.Learnt, call-below t, call.Post, leaf-reads.Asked, leaf-reads.Learnt)
 
 -- a loop knows the draft only from its own start on: so, whatever the draft was that the operand was written into
 abbrev expression-Inv-loop : expression-lts.InvT-loop
@@ -168,39 +187,19 @@ expression-Inv-loop table draft₀ at pc room level left₀ draft left = (length
 abbrev expression-μ-loop : expression-lts.MeasureT-loop
 expression-μ-loop table draft₀ at pc room level left₀ draft left = length table - readNext left
 
-arguments-expected-requires : (t : ℕ) → arguments-lts.Need-expected-requires (arguments-calls t) (arguments-at t) arguments.Post
-arguments-expected-requires t c κs = search needs
+arguments-operand-of-requires : (t : ℕ) → arguments-lts.Need-operand-of-requires (arguments-calls t) (arguments-at t) arguments.Post
+arguments-operand-of-requires t c κs = search needs
 
-arguments-bad-requires : (t : ℕ) → arguments-lts.Need-bad-requires (arguments-calls t) (arguments-at t) arguments.Post
-arguments-bad-requires t c κs = search needs
+arguments-add-at : (t : ℕ) → arguments-lts.Need-add-at (arguments-calls t) (arguments-at t) arguments.Post
+arguments-add-at t c = search needs
 
-arguments-returns : (t : ℕ) → arguments-lts.Need-returns (arguments-calls t) (arguments-at t) arguments.Post
-arguments-returns t c =
-    let s = c .before .before .before .before .before in
-    λ p. being (c .bad .ensures) (shut-reads (s .args .room) openParen (λ n e q. callBody (formOf (functionAt (s .args .f))) p (λ m z. argumentsOf n e m z) q) (s .pre .1 .0 .tokens) (s .pre .1 .0 .within) (unmet (c .before .before .expected .ensures) (c .before .if1 .taken)))
-
-arguments-deep-requires : (t : ℕ) → arguments-lts.Need-deep-requires (arguments-calls t) (arguments-at t) arguments.Post
-arguments-deep-requires t c κs = search needs
-
-arguments-returns-2 : (t : ℕ) → arguments-lts.Need-returns-2 (arguments-calls t) (arguments-at t) arguments.Post
-arguments-returns-2 t c =
-    let s = c .before .before .before .before .before .before in
-    λ p. being (c .deep .ensures) (full-reads (s .args .room) openParen (λ n e q. callBody (formOf (functionAt (s .args .f))) p (λ m z. argumentsOf n e m z) q) (s .pre .1 .0 .tokens) (s .pre .1 .0 .within) (met (c .before .before .before .expected .ensures) (c .before .before .if1 .left)) (c .before .if2 .taken))
-
-arguments-arity-requires : (t : ℕ) → arguments-lts.Need-arity-requires (arguments-calls t) (arguments-at t) arguments.Post
-arguments-arity-requires t c κs = search needs
-
-arguments-add-enclosed : (t : ℕ) → arguments-lts.Need-add-enclosed (arguments-calls t) (arguments-at t) arguments.Post
-arguments-add-enclosed t c = search needs
-
-arguments-sub-enclosed : (t : ℕ) → arguments-lts.Need-sub-enclosed (arguments-calls t) (arguments-at t) arguments.Post
-arguments-sub-enclosed t c = search needs
+arguments-form-requires : (t : ℕ) → arguments-lts.Need-form-requires (arguments-calls t) (arguments-at t) arguments.Post
+arguments-form-requires t c κs = search needs
 
 arguments-enclosed-requires : (t : ℕ) → arguments-lts.Need-enclosed-requires (arguments-calls t) (arguments-at t) arguments.Post
 arguments-enclosed-requires t c κs =
-    let s = c .before .before .before .before .before .before .before .before in
-    let h = there openParen (s .args .table .now) (s .args .at) (s .pre .1 .0 .tokens) (met (c .before .before .before .before .before .expected .ensures) (c .before .before .before .before .if1 .left)) .splits .within in
-    (omega (arith, s .pre .0), record { tokens = s .pre .1 .0 .tokens; small = s .pre .1 .0 .small; within = omega arith; room = omega (arith, s .pre .1 .0 .room) })
+    let s = c .before .before .before .before .before .before in
+    (omega (arith, s .pre .0), record { tokens = s .pre .1 .0 .tokens; small = s .pre .1 .0 .small; within = omega (arith, s .pre .1 .1); room = omega (arith, s .pre .1 .0 .room) })
 
 arguments-is-done-requires : (t : ℕ) → arguments-lts.Need-is-done-requires (arguments-calls t) (arguments-at t) arguments.Post
 arguments-is-done-requires t c κs = search needs
@@ -208,47 +207,32 @@ arguments-is-done-requires t c κs = search needs
 arguments-same-length : (t : ℕ) → arguments-lts.Need-same-length (arguments-calls t) (arguments-at t) arguments.Post
 arguments-same-length t c = search needs
 
-arguments-returns-3 : (t : ℕ) → arguments-lts.Need-returns-3 (arguments-calls t) (arguments-at t) arguments.Post
-arguments-returns-3 t c =
-    let s = c .before .before .before .before .before .before .before .before .before .before .before .before .before in
-    only-stopped (s .args .f) (s .args .room) (s .pre .1 .0 .tokens) (met (c .before .before .before .before .before .before .before .before .before .before .expected .ensures) (c .before .before .before .before .before .before .before .before .before .if1 .left)) (c .before .before .before .before .before .before .before .before .if2 .left) (one-argument (s .args .f) (s .pre .1 .1) (sym (c .before .before .before .before .before .before .before .arity .ensures) ∙ c .before .before .before .before .before .before .if3 .taken)) (c .before .before .before .before .enclosed .ensures) (stopped _ (unmet (c .before .is-done .ensures) (c .if4 .taken)))
+arguments-returns : (t : ℕ) → arguments-lts.Need-returns (arguments-calls t) (arguments-at t) arguments.Post
+arguments-returns t c =
+    let s = c .before .before .before .before .before .before .before .before .before .before .before in
+    only-stopped (c .before .before .before .before .before .before .before .before .operand-of .result) (s .args .w) (s .args .room) (c .before .before .before .before .before .before .before .before .operand-of .ensures) (sym (c .before .before .before .before .before .before .before .form .ensures) ∙ c .before .before .before .before .before .before .match .keys1) (c .before .before .before .before .enclosed .ensures) (stopped _ (unmet (c .before .is-done .ensures) (c .if1 .taken)))
 
 arguments-applied-requires : (t : ℕ) → arguments-lts.Need-applied-requires (arguments-calls t) (arguments-at t) arguments.Post
 arguments-applied-requires t c κs =
-    let s = c .before .before .before .before .before .before .before .before .before .before .before .before .before .before in
-    let b = reached (c .before .before .before .before .before .enclosed .result) (met (c .before .before .is-done .ensures) (c .before .if4 .left)) (c .before .before .before .before .before .enclosed .ensures .span) in
-    (sym (c .before .before .before .before .before .before .before .before .arity .ensures) ∙ c .before .before .before .before .before .before .before .if3 .taken, omega (arith, b .slack, b .within, s .pre .1 .0 .room))
-
-arguments-same-length-2 : (t : ℕ) → arguments-lts.Need-same-length-2 (arguments-calls t) (arguments-at t) arguments.Post
-arguments-same-length-2 t c = search needs
-
-arguments-returns-4 : (t : ℕ) → arguments-lts.Need-returns-4 (arguments-calls t) (arguments-at t) arguments.Post
-arguments-returns-4 t c =
-    let s = c .before .before .before .before .before .before .before .before .before .before .before .before .before .before .before .before .before in
-    λ p. being (c .before .before .applied .ensures .0) (only-done (s .args .f) (s .args .room) (s .pre .1 .0 .tokens) (met (c .before .before .before .before .before .before .before .before .before .before .before .before .before .before .expected .ensures) (c .before .before .before .before .before .before .before .before .before .before .before .before .before .if1 .left)) (c .before .before .before .before .before .before .before .before .before .before .before .before .if2 .left) (one-argument (s .args .f) (s .pre .1 .1) (sym (c .before .before .before .before .before .before .before .before .before .before .before .arity .ensures) ∙ c .before .before .before .before .before .before .before .before .before .before .if3 .taken)) (as-done (c .before .before .before .before .before .before .before .before .enclosed .result) (met (c .before .before .before .before .before .is-done .ensures) (c .before .before .before .before .if4 .left)) (c .before .before .before .before .before .before .before .before .enclosed .ensures)) (c .before .before .applied .ensures .1) p)
-
-arguments-add-enclosed-2 : (t : ℕ) → arguments-lts.Need-add-enclosed-2 (arguments-calls t) (arguments-at t) arguments.Post
-arguments-add-enclosed-2 t c = search needs
-
-arguments-sub-enclosed-2 : (t : ℕ) → arguments-lts.Need-sub-enclosed-2 (arguments-calls t) (arguments-at t) arguments.Post
-arguments-sub-enclosed-2 t c = search needs
+    let s = c .before .before .before .before .before .before .before .before .before .before .before .before in
+    let b = reached (c .before .before .before .before .before .enclosed .result) (met (c .before .before .is-done .ensures) (c .before .if1 .left)) (c .before .before .before .before .before .enclosed .ensures .span) in
+    ((sym (c .before .before .before .before .before .before .before .before .form .ensures) ∙ c .before .before .before .before .before .before .before .match .keys1), omega (arith, b .slack, b .within, s .pre .1 .0 .room))
 
 arguments-enclosed-requires-2 : (t : ℕ) → arguments-lts.Need-enclosed-requires-2 (arguments-calls t) (arguments-at t) arguments.Post
 arguments-enclosed-requires-2 t c κs =
-    let s = c .before .before .before .before .before .before .before .before in
-    let h = there openParen (s .args .table .now) (s .args .at) (s .pre .1 .0 .tokens) (met (c .before .before .before .before .before .expected .ensures) (c .before .before .before .before .if1 .left)) .splits .within in
-    (omega (arith, s .pre .0), record { tokens = s .pre .1 .0 .tokens; small = s .pre .1 .0 .small; within = omega arith; room = omega (arith, s .pre .1 .0 .room) })
+    let s = c .before .before .before .before .before .before in
+    (omega (arith, s .pre .0), record { tokens = s .pre .1 .0 .tokens; small = s .pre .1 .0 .small; within = omega (arith, s .pre .1 .1); room = omega (arith, s .pre .1 .0 .room) })
 
 arguments-is-done-requires-2 : (t : ℕ) → arguments-lts.Need-is-done-requires-2 (arguments-calls t) (arguments-at t) arguments.Post
 arguments-is-done-requires-2 t c κs = search needs
 
-arguments-same-length-3 : (t : ℕ) → arguments-lts.Need-same-length-3 (arguments-calls t) (arguments-at t) arguments.Post
-arguments-same-length-3 t c = search needs
+arguments-same-length-2 : (t : ℕ) → arguments-lts.Need-same-length-2 (arguments-calls t) (arguments-at t) arguments.Post
+arguments-same-length-2 t c = search needs
 
-arguments-returns-5 : (t : ℕ) → arguments-lts.Need-returns-5 (arguments-calls t) (arguments-at t) arguments.Post
-arguments-returns-5 t c =
-    let s = c .before .before .before .before .before .before .before .before .before .before .before .before .before in
-    first-stopped (s .args .f) (s .args .room) (s .pre .1 .0 .tokens) (met (c .before .before .before .before .before .before .before .before .before .before .expected .ensures) (c .before .before .before .before .before .before .before .before .before .if1 .left)) (c .before .before .before .before .before .before .before .before .if2 .left) (more-arguments (s .args .f) (s .pre .1 .1) (λ e. c .before .before .before .before .before .before .if3 .left (c .before .before .before .before .before .before .before .arity .ensures ∙ e))) (s .pre .1 .1) (c .before .before .before .before .enclosed2 .ensures) (stopped _ (unmet (c .before .is-done2 .ensures) (c .if5 .taken)))
+arguments-returns-2 : (t : ℕ) → arguments-lts.Need-returns-2 (arguments-calls t) (arguments-at t) arguments.Post
+arguments-returns-2 t c =
+    let s = c .before .before .before .before .before .before .before .before .before .before .before in
+    first-stopped (c .before .before .before .before .before .before .before .before .operand-of .result) (s .args .w) (s .args .room) (c .before .before .before .before .before .before .before .before .operand-of .ensures) (sym (c .before .before .before .before .before .before .before .form .ensures) ∙ c .before .before .before .before .before .before .match .keys2) (c .before .before .before .before .enclosed2 .ensures) (stopped _ (unmet (c .before .is-done2 .ensures) (c .if2 .taken)))
 
 arguments-next-of-requires : (t : ℕ) → arguments-lts.Need-next-of-requires (arguments-calls t) (arguments-at t) arguments.Post
 arguments-next-of-requires t c κs = search needs
@@ -256,58 +240,118 @@ arguments-next-of-requires t c κs = search needs
 arguments-end-of-requires : (t : ℕ) → arguments-lts.Need-end-of-requires (arguments-calls t) (arguments-at t) arguments.Post
 arguments-end-of-requires t c κs = search needs
 
-arguments-sub-enclosed-3 : (t : ℕ) → arguments-lts.Need-sub-enclosed-3 (arguments-calls t) (arguments-at t) arguments.Post
-arguments-sub-enclosed-3 t c = search needs
-
 arguments-enclosed-requires-3 : (t : ℕ) → arguments-lts.Need-enclosed-requires-3 (arguments-calls t) (arguments-at t) arguments.Post
 arguments-enclosed-requires-3 t c κs =
-    let s = c .before .before .before .before .before .before .before .before .before .before .before .before .before .before .before .before .before in
-    let h = there openParen (s .args .table .now) (s .args .at) (s .pre .1 .0 .tokens) (met (c .before .before .before .before .before .before .before .before .before .before .before .before .before .before .expected .ensures) (c .before .before .before .before .before .before .before .before .before .before .before .before .before .if1 .left)) .splits .within in
-    let b = reached (c .before .before .before .before .before .before .before .before .enclosed2 .result) (met (c .before .before .before .before .before .is-done2 .ensures) (c .before .before .before .before .if5 .left)) (c .before .before .before .before .before .before .before .before .enclosed2 .ensures .span) in
+    let s = c .before .before .before .before .before .before .before .before .before .before .before .before .before .before in
+    let b = reached (c .before .before .before .before .before .before .before .enclosed2 .result) (met (c .before .before .before .before .is-done2 .ensures) (c .before .before .before .if2 .left)) (c .before .before .before .before .before .before .before .enclosed2 .ensures .span) in
     (omega (arith, s .pre .0, b .ahead, b .within, c .before .before .next-of .ensures .0), record { tokens = s .pre .1 .0 .tokens; small = s .pre .1 .0 .small; within = omega (arith, b .within, c .before .before .next-of .ensures .0); room = omega (arith, s .pre .1 .0 .room, b .slack, c .before .before .next-of .ensures .0, c .before .end-of .ensures .0) })
 
 arguments-is-done-requires-3 : (t : ℕ) → arguments-lts.Need-is-done-requires-3 (arguments-calls t) (arguments-at t) arguments.Post
 arguments-is-done-requires-3 t c κs = search needs
 
-arguments-same-length-4 : (t : ℕ) → arguments-lts.Need-same-length-4 (arguments-calls t) (arguments-at t) arguments.Post
-arguments-same-length-4 t c = search needs
+arguments-same-length-3 : (t : ℕ) → arguments-lts.Need-same-length-3 (arguments-calls t) (arguments-at t) arguments.Post
+arguments-same-length-3 t c = search needs
 
-arguments-returns-6 : (t : ℕ) → arguments-lts.Need-returns-6 (arguments-calls t) (arguments-at t) arguments.Post
-arguments-returns-6 t c =
-    let s = c .before .before .before .before .before .before .before .before .before .before .before .before .before .before .before .before .before .before .before .before .before .before in
-    second-stopped (s .args .f) (s .args .room) (s .pre .1 .0 .tokens) (met (c .before .before .before .before .before .before .before .before .before .before .before .before .before .before .before .before .before .before .before .expected .ensures) (c .before .before .before .before .before .before .before .before .before .before .before .before .before .before .before .before .before .before .if1 .left)) (c .before .before .before .before .before .before .before .before .before .before .before .before .before .before .before .before .before .if2 .left) (as-done (c .before .before .before .before .before .before .before .before .before .before .before .before .before .enclosed2 .result) (met (c .before .before .before .before .before .before .before .before .before .before .is-done2 .ensures) (c .before .before .before .before .before .before .before .before .before .if5 .left)) (c .before .before .before .before .before .before .before .before .before .before .before .before .before .enclosed2 .ensures)) (two-arguments (s .args .f) (s .pre .1 .1) (sym (c .before .before .before .before .before .before .before .before .before .before .before .before .before .before .before .before .arity .ensures) ∙ c .before .before .before .before .before .before .before .before .if6 .taken) .0) (two-arguments (s .args .f) (s .pre .1 .1) (sym (c .before .before .before .before .before .before .before .before .before .before .before .before .before .before .before .before .arity .ensures) ∙ c .before .before .before .before .before .before .before .before .if6 .taken) .1) (moved (c .before .before .before .before .before .before .before .next-of .ensures .0) (c .before .before .before .before .before .before .end-of .ensures .0) (c .before .before .before .before .enclosed3 .ensures)) (stopped _ (unmet (c .before .is-done3 .ensures) (c .if7 .taken)))
+arguments-returns-3 : (t : ℕ) → arguments-lts.Need-returns-3 (arguments-calls t) (arguments-at t) arguments.Post
+arguments-returns-3 t c =
+    let s = c .before .before .before .before .before .before .before .before .before .before .before .before .before .before .before .before .before .before .before in
+    second-stopped (c .before .before .before .before .before .before .before .before .before .before .before .before .before .before .before .before .operand-of .result) (s .args .w) (s .args .room) (c .before .before .before .before .before .before .before .before .before .before .before .before .before .before .before .before .operand-of .ensures) (sym (c .before .before .before .before .before .before .before .before .before .before .before .before .before .before .before .form .ensures) ∙ c .before .before .before .before .before .before .before .before .before .before .before .before .before .before .match .keys2) (as-done (c .before .before .before .before .before .before .before .before .before .before .before .before .enclosed2 .result) (met (c .before .before .before .before .before .before .before .before .before .is-done2 .ensures) (c .before .before .before .before .before .before .before .before .if2 .left)) (c .before .before .before .before .before .before .before .before .before .before .before .before .enclosed2 .ensures)) (moved (c .before .before .before .before .before .before .before .next-of .ensures .0) (c .before .before .before .before .before .before .end-of .ensures .0) (c .before .before .before .before .enclosed3 .ensures)) (stopped _ (unmet (c .before .is-done3 .ensures) (c .if3 .taken)))
 
 arguments-paired-requires : (t : ℕ) → arguments-lts.Need-paired-requires (arguments-calls t) (arguments-at t) arguments.Post
 arguments-paired-requires t c κs =
-    let s = c .before .before .before .before .before .before .before .before .before .before .before .before .before .before .before .before .before .before .before .before .before .before .before in
-    let b = reached (c .before .before .before .before .before .before .before .before .before .before .before .before .before .before .enclosed2 .result) (met (c .before .before .before .before .before .before .before .before .before .before .before .is-done2 .ensures) (c .before .before .before .before .before .before .before .before .before .before .if5 .left)) (c .before .before .before .before .before .before .before .before .before .before .before .before .before .before .enclosed2 .ensures .span) in
-    let d = reached (c .before .before .before .before .before .enclosed3 .result) (met (c .before .before .is-done3 .ensures) (c .before .if7 .left)) (c .before .before .before .before .before .enclosed3 .ensures .span) in
-    (sym (c .before .before .before .before .before .before .before .before .before .before .before .before .before .before .before .before .before .arity .ensures) ∙ c .before .before .before .before .before .before .before .before .before .if6 .taken, omega (arith, s .pre .1 .0 .room, b .slack, d .slack, d .within, c .before .before .before .before .before .before .before .before .next-of .ensures .0, c .before .before .before .before .before .before .before .end-of .ensures .0))
+    let s = c .before .before .before .before .before .before .before .before .before .before .before .before .before .before .before .before .before .before .before .before in
+    let b = reached (c .before .before .before .before .before .before .before .before .before .before .before .before .before .enclosed2 .result) (met (c .before .before .before .before .before .before .before .before .before .before .is-done2 .ensures) (c .before .before .before .before .before .before .before .before .before .if2 .left)) (c .before .before .before .before .before .before .before .before .before .before .before .before .before .enclosed2 .ensures .span) in
+    let d = reached (c .before .before .before .before .before .enclosed3 .result) (met (c .before .before .is-done3 .ensures) (c .before .if3 .left)) (c .before .before .before .before .before .enclosed3 .ensures .span) in
+    ((sym (c .before .before .before .before .before .before .before .before .before .before .before .before .before .before .before .before .form .ensures) ∙ c .before .before .before .before .before .before .before .before .before .before .before .before .before .before .before .match .keys2), omega (arith, s .pre .1 .0 .room, b .slack, d .slack, d .within, c .before .before .before .before .before .before .before .before .next-of .ensures .0, c .before .before .before .before .before .before .before .end-of .ensures .0))
+
+arguments-enclosed-requires-4 : (t : ℕ) → arguments-lts.Need-enclosed-requires-4 (arguments-calls t) (arguments-at t) arguments.Post
+arguments-enclosed-requires-4 t c κs =
+    let s = c .before .before .before .before .before .before in
+    (omega (arith, s .pre .0), record { tokens = s .pre .1 .0 .tokens; small = s .pre .1 .0 .small; within = omega (arith, s .pre .1 .1); room = omega (arith, s .pre .1 .0 .room) })
+
+arguments-is-done-requires-4 : (t : ℕ) → arguments-lts.Need-is-done-requires-4 (arguments-calls t) (arguments-at t) arguments.Post
+arguments-is-done-requires-4 t c κs = search needs
+
+arguments-same-length-4 : (t : ℕ) → arguments-lts.Need-same-length-4 (arguments-calls t) (arguments-at t) arguments.Post
+arguments-same-length-4 t c = search needs
+
+arguments-returns-4 : (t : ℕ) → arguments-lts.Need-returns-4 (arguments-calls t) (arguments-at t) arguments.Post
+arguments-returns-4 t c =
+    let s = c .before .before .before .before .before .before .before .before .before .before .before in
+    since-stopped (c .before .before .before .before .before .before .before .before .operand-of .result) (s .args .w) (s .args .room) (c .before .before .before .before .before .before .before .before .operand-of .ensures) (sym (c .before .before .before .before .before .before .before .form .ensures) ∙ c .before .before .before .before .before .before .match .keys3) (c .before .before .before .before .enclosed4 .ensures) (stopped _ (unmet (c .before .is-done4 .ensures) (c .if4 .taken)))
+
+arguments-since-requires : (t : ℕ) → arguments-lts.Need-since-requires (arguments-calls t) (arguments-at t) arguments.Post
+arguments-since-requires t c κs =
+    let s = c .before .before .before .before .before .before .before .before .before .before .before .before in
+    let b = reached (c .before .before .before .before .before .enclosed4 .result) (met (c .before .before .is-done4 .ensures) (c .before .if4 .left)) (c .before .before .before .before .before .enclosed4 .ensures .span) in
+    omega (arith, b .slack, b .within, s .pre .1 .0 .room)
+
+arguments-clock-requires : (t : ℕ) → arguments-lts.Need-clock-requires (arguments-calls t) (arguments-at t) arguments.Post
+arguments-clock-requires t c κs =
+    let s = c .before .before .before .before .before .before in
+    record { tokens = s .pre .1 .0 .tokens; small = s .pre .1 .0 .small; within = omega (arith, s .pre .1 .1); room = omega (arith, s .pre .1 .0 .room) }
+
+arguments-enclosed-requires-5 : (t : ℕ) → arguments-lts.Need-enclosed-requires-5 (arguments-calls t) (arguments-at t) arguments.Post
+arguments-enclosed-requires-5 t c κs =
+    let s = c .before .before .before .before .before .before in
+    (omega (arith, s .pre .0), record { tokens = s .pre .1 .0 .tokens; small = s .pre .1 .0 .small; within = omega (arith, s .pre .1 .1); room = omega (arith, s .pre .1 .0 .room) })
+
+arguments-is-done-requires-5 : (t : ℕ) → arguments-lts.Need-is-done-requires-5 (arguments-calls t) (arguments-at t) arguments.Post
+arguments-is-done-requires-5 t c κs = search needs
 
 arguments-same-length-5 : (t : ℕ) → arguments-lts.Need-same-length-5 (arguments-calls t) (arguments-at t) arguments.Post
 arguments-same-length-5 t c = search needs
 
-arguments-returns-7 : (t : ℕ) → arguments-lts.Need-returns-7 (arguments-calls t) (arguments-at t) arguments.Post
-arguments-returns-7 t c =
-    let s = c .before .before .before .before .before .before .before .before .before .before .before .before .before .before .before .before .before .before .before .before .before .before .before .before .before .before in
-    λ p. being (c .before .before .paired .ensures .0) (second-done (s .args .f) (s .args .room) (s .pre .1 .0 .tokens) (met (c .before .before .before .before .before .before .before .before .before .before .before .before .before .before .before .before .before .before .before .before .before .before .before .expected .ensures) (c .before .before .before .before .before .before .before .before .before .before .before .before .before .before .before .before .before .before .before .before .before .before .if1 .left)) (c .before .before .before .before .before .before .before .before .before .before .before .before .before .before .before .before .before .before .before .before .before .if2 .left) (as-done (c .before .before .before .before .before .before .before .before .before .before .before .before .before .before .before .before .before .enclosed2 .result) (met (c .before .before .before .before .before .before .before .before .before .before .before .before .before .before .is-done2 .ensures) (c .before .before .before .before .before .before .before .before .before .before .before .before .before .if5 .left)) (c .before .before .before .before .before .before .before .before .before .before .before .before .before .before .before .before .before .enclosed2 .ensures)) (two-arguments (s .args .f) (s .pre .1 .1) (sym (c .before .before .before .before .before .before .before .before .before .before .before .before .before .before .before .before .before .before .before .before .arity .ensures) ∙ c .before .before .before .before .before .before .before .before .before .before .before .before .if6 .taken) .0) (two-arguments (s .args .f) (s .pre .1 .1) (sym (c .before .before .before .before .before .before .before .before .before .before .before .before .before .before .before .before .before .before .before .before .arity .ensures) ∙ c .before .before .before .before .before .before .before .before .before .before .before .before .if6 .taken) .1) (as-done (c .before .before .before .before .before .before .before .before .enclosed3 .result) (met (c .before .before .before .before .before .is-done3 .ensures) (c .before .before .before .before .if7 .left)) (moved (c .before .before .before .before .before .before .before .before .before .before .before .next-of .ensures .0) (c .before .before .before .before .before .before .before .before .before .before .end-of .ensures .0) (c .before .before .before .before .before .before .before .before .enclosed3 .ensures))) (c .before .before .paired .ensures .1) p)
-
-arguments-sub-branches : (t : ℕ) → arguments-lts.Need-sub-branches (arguments-calls t) (arguments-at t) arguments.Post
-arguments-sub-branches t c = search needs
+arguments-returns-5 : (t : ℕ) → arguments-lts.Need-returns-5 (arguments-calls t) (arguments-at t) arguments.Post
+arguments-returns-5 t c =
+    let s = c .before .before .before .before .before .before .before .before .before .before .before in
+    condition-stopped (c .before .before .before .before .before .before .before .before .operand-of .result) (s .args .w) (s .args .room) (c .before .before .before .before .before .before .before .before .operand-of .ensures) (choice-of (c .before .before .before .before .before .before .before .before .operand-of .result) (c .before .before .before .before .before .before .before .form .ensures) (c .before .before .before .before .before .before .match .rest .0 .0 .0 .1) (c .before .before .before .before .before .before .match .rest .0 .0 .1) (c .before .before .before .before .before .before .match .rest .0 .1) (c .before .before .before .before .before .before .match .rest .1)) (c .before .before .before .before .enclosed5 .ensures) (stopped _ (unmet (c .before .is-done5 .ensures) (c .if5 .taken)))
 
 arguments-branches-requires : (t : ℕ) → arguments-lts.Need-branches-requires (arguments-calls t) (arguments-at t) arguments.Post
 arguments-branches-requires t c κs =
-    let s = c .before .before .before .before .before .before .before .before .before .before .before .before .before .before .before in
-    let b = reached (c .before .before .before .before .before .before .enclosed2 .result) (met (c .before .before .before .is-done2 .ensures) (c .before .before .if5 .left)) (c .before .before .before .before .before .before .enclosed2 .ensures .span) in
+    let s = c .before .before .before .before .before .before .before .before .before .before .before .before in
+    let b = reached (c .before .before .before .before .before .enclosed5 .result) (met (c .before .before .is-done5 .ensures) (c .before .if5 .left)) (c .before .before .before .before .before .enclosed5 .ensures .span) in
     (omega (arith, s .pre .0, b .ahead, b .within), record { tokens = s .pre .1 .0 .tokens; small = s .pre .1 .0 .small; within = b .within; room = omega (arith, s .pre .1 .0 .room, b .slack) })
 
 arguments-same-length-6 : (t : ℕ) → arguments-lts.Need-same-length-6 (arguments-calls t) (arguments-at t) arguments.Post
 arguments-same-length-6 t c = search needs
 
+arguments-returns-6 : (t : ℕ) → arguments-lts.Need-returns-6 (arguments-calls t) (arguments-at t) arguments.Post
+arguments-returns-6 t c =
+    let s = c .before .before .before .before .before .before .before .before .before .before .before .before .before .before .before in
+    arguing-as (c .before .before .applied .ensures .0) (only-done (c .before .before .before .before .before .before .before .before .before .before .before .before .operand-of .result) (s .args .w) (s .args .room) (c .before .before .before .before .before .before .before .before .before .before .before .before .operand-of .ensures) (sym (c .before .before .before .before .before .before .before .before .before .before .before .form .ensures) ∙ c .before .before .before .before .before .before .before .before .before .before .match .keys1) (as-done (c .before .before .before .before .before .before .before .before .enclosed .result) (met (c .before .before .before .before .before .is-done .ensures) (c .before .before .before .before .if1 .left)) (c .before .before .before .before .before .before .before .before .enclosed .ensures)) (c .before .before .applied .ensures .1))
+
+arguments-same-length-7 : (t : ℕ) → arguments-lts.Need-same-length-7 (arguments-calls t) (arguments-at t) arguments.Post
+arguments-same-length-7 t c = search needs
+
+arguments-returns-7 : (t : ℕ) → arguments-lts.Need-returns-7 (arguments-calls t) (arguments-at t) arguments.Post
+arguments-returns-7 t c =
+    let s = c .before .before .before .before .before .before .before .before .before .before .before .before .before .before .before .before .before .before .before .before .before .before .before in
+    arguing-as (c .before .before .paired .ensures .0) (second-done (c .before .before .before .before .before .before .before .before .before .before .before .before .before .before .before .before .before .before .before .before .operand-of .result) (s .args .w) (s .args .room) (c .before .before .before .before .before .before .before .before .before .before .before .before .before .before .before .before .before .before .before .before .operand-of .ensures) (sym (c .before .before .before .before .before .before .before .before .before .before .before .before .before .before .before .before .before .before .before .form .ensures) ∙ c .before .before .before .before .before .before .before .before .before .before .before .before .before .before .before .before .before .before .match .keys2) (as-done (c .before .before .before .before .before .before .before .before .before .before .before .before .before .before .before .before .enclosed2 .result) (met (c .before .before .before .before .before .before .before .before .before .before .before .before .before .is-done2 .ensures) (c .before .before .before .before .before .before .before .before .before .before .before .before .if2 .left)) (c .before .before .before .before .before .before .before .before .before .before .before .before .before .before .before .before .enclosed2 .ensures)) (as-done (c .before .before .before .before .before .before .before .before .enclosed3 .result) (met (c .before .before .before .before .before .is-done3 .ensures) (c .before .before .before .before .if3 .left)) (moved (c .before .before .before .before .before .before .before .before .before .before .before .next-of .ensures .0) (c .before .before .before .before .before .before .before .before .before .before .end-of .ensures .0) (c .before .before .before .before .before .before .before .before .enclosed3 .ensures))) (c .before .before .paired .ensures .1))
+
+arguments-same-length-8 : (t : ℕ) → arguments-lts.Need-same-length-8 (arguments-calls t) (arguments-at t) arguments.Post
+arguments-same-length-8 t c = search needs
+
 arguments-returns-8 : (t : ℕ) → arguments-lts.Need-returns-8 (arguments-calls t) (arguments-at t) arguments.Post
 arguments-returns-8 t c =
-    let s = c .before .before .before .before .before .before .before .before .before .before .before .before .before .before .before .before .before .before in
-    choice-reads (s .args .f) (s .args .room) (s .pre .1 .0 .tokens) (met (c .before .before .before .before .before .before .before .before .before .before .before .before .before .before .before .expected .ensures) (c .before .before .before .before .before .before .before .before .before .before .before .before .before .before .if1 .left)) (c .before .before .before .before .before .before .before .before .before .before .before .before .before .if2 .left) (c .before .before .before .before .before .before .before .before .before .enclosed2 .result) (three-arguments (s .args .f) (s .pre .1 .1) (λ e. c .before .before .before .before .before .before .before .before .before .before .before .if3 .left (c .before .before .before .before .before .before .before .before .before .before .before .before .arity .ensures ∙ e)) (λ e. c .before .before .before .before .if6 .left (c .before .before .before .before .before .before .before .before .before .before .before .before .arity .ensures ∙ e))) (as-done (c .before .before .before .before .before .before .before .before .before .enclosed2 .result) (met (c .before .before .before .before .before .before .is-done2 .ensures) (c .before .before .before .before .before .if5 .left)) (c .before .before .before .before .before .before .before .before .before .enclosed2 .ensures)) (c .before .before .branches .ensures)
+    let s = c .before .before .before .before .before .before .before .before .before .before .before .before .before .before .before in
+    arguing-as (c .before .before .since .ensures .0) (since-done (c .before .before .before .before .before .before .before .before .before .before .before .before .operand-of .result) (s .args .w) (s .args .room) (c .before .before .before .before .before .before .before .before .before .before .before .before .operand-of .ensures) (sym (c .before .before .before .before .before .before .before .before .before .before .before .form .ensures) ∙ c .before .before .before .before .before .before .before .before .before .before .match .keys3) (as-done (c .before .before .before .before .before .before .before .before .enclosed4 .result) (met (c .before .before .before .before .before .is-done4 .ensures) (c .before .before .before .before .if4 .left)) (c .before .before .before .before .before .before .before .before .enclosed4 .ensures)) (c .before .before .since .ensures .1))
+
+arguments-same-length-9 : (t : ℕ) → arguments-lts.Need-same-length-9 (arguments-calls t) (arguments-at t) arguments.Post
+arguments-same-length-9 t c = search needs
+
+arguments-returns-9 : (t : ℕ) → arguments-lts.Need-returns-9 (arguments-calls t) (arguments-at t) arguments.Post
+arguments-returns-9 t c =
+    let s = c .before .before .before .before .before .before .before .before .before in
+    clock-reads (c .before .before .before .before .before .before .operand-of .result) (s .args .w) (s .args .room) (c .before .before .before .before .before .before .operand-of .ensures) (sym (c .before .before .before .before .before .form .ensures) ∙ c .before .before .before .before .match .keys4) (c .before .before .clock .ensures)
+
+arguments-same-length-10 : (t : ℕ) → arguments-lts.Need-same-length-10 (arguments-calls t) (arguments-at t) arguments.Post
+arguments-same-length-10 t c = search needs
+
+arguments-returns-10 : (t : ℕ) → arguments-lts.Need-returns-10 (arguments-calls t) (arguments-at t) arguments.Post
+arguments-returns-10 t c =
+    let s = c .before .before .before .before .before .before .before .before .before .before .before .before .before .before .before in
+    choice-reads (c .before .before .before .before .before .before .before .before .before .before .before .before .operand-of .result) (s .args .w) (s .args .room) (c .before .before .before .before .before .before .before .before .before .before .before .before .operand-of .ensures) (choice-of (c .before .before .before .before .before .before .before .before .before .before .before .before .operand-of .result) (c .before .before .before .before .before .before .before .before .before .before .before .form .ensures) (c .before .before .before .before .before .before .before .before .before .before .match .rest .0 .0 .0 .1) (c .before .before .before .before .before .before .before .before .before .before .match .rest .0 .0 .1) (c .before .before .before .before .before .before .before .before .before .before .match .rest .0 .1) (c .before .before .before .before .before .before .before .before .before .before .match .rest .1)) (c .before .before .before .before .before .before .before .before .enclosed5 .result) (as-done (c .before .before .before .before .before .before .before .before .enclosed5 .result) (met (c .before .before .before .before .before .is-done5 .ensures) (c .before .before .before .before .if5 .left)) (c .before .before .before .before .before .before .before .before .enclosed5 .ensures)) (c .before .before .branches .ensures)
 
 bracket-expected-requires : (t : ℕ) → bracket-lts.Need-expected-requires (bracket-calls t) (bracket-at t) bracket.Post
 bracket-expected-requires t c κs = search needs
@@ -418,6 +462,42 @@ branches-returns-3 : (t : ℕ) → branches-lts.Need-returns-3 (branches-calls t
 branches-returns-3 t c =
     let s = c .before .before .before .before .before .before .before .before .before .before .before .before .before .before .before .before .before .before .before .before .before .before .before .before .before .before in
     branches-as (c .before .before .chosen .ensures .0) (other-done (s .args .room) (s .args .condition) (as-done (c .before .before .before .before .before .before .before .before .before .before .before .before .before .before .before .before .before .before .before .before .enclosed .result) (met (c .before .before .before .before .before .before .before .before .before .before .before .before .before .before .before .before .before .is-done .ensures) (c .before .before .before .before .before .before .before .before .before .before .before .before .before .before .before .before .if1 .left)) (moved (c .before .before .before .before .before .before .before .before .before .before .before .before .before .before .before .before .before .before .before .before .before .before .before .next-of .ensures .0) (ap (λ (e : ℕ). e + 1) (c .before .before .before .before .before .before .before .before .before .before .before .before .before .before .before .before .before .before .before .before .before .before .end-of .ensures .0)) (c .before .before .before .before .before .before .before .before .before .before .before .before .before .before .before .before .before .before .before .before .enclosed .ensures))) (c .before .before .before .before .before .before .before .before .before .before .before .before .before .before .decided .ensures) (as-done (c .before .before .before .before .before .before .before .before .enclosed2 .result) (met (c .before .before .before .before .before .is-done2 .ensures) (c .before .before .before .before .if2 .left)) (moved (c .before .before .before .before .before .before .before .before .before .before .before .next-of2 .ensures .0) (ap (λ (e : ℕ). e + 1) (c .before .before .before .before .before .before .before .before .before .before .end-of2 .ensures .0)) (c .before .before .before .before .before .before .before .before .enclosed2 .ensures))) (c .before .before .chosen .ensures .1))
+
+call-expected-requires : (t : ℕ) → call-lts.Need-expected-requires (call-calls t) (call-at t) call.Post
+call-expected-requires t c κs = search needs
+
+call-bad-requires : (t : ℕ) → call-lts.Need-bad-requires (call-calls t) (call-at t) call.Post
+call-bad-requires t c κs = search needs
+
+call-returns : (t : ℕ) → call-lts.Need-returns (call-calls t) (call-at t) call.Post
+call-returns t c =
+    let s = c .before .before .before .before .before in
+    being (c .bad .ensures) (shut-reads (s .args .room) openParen (λ n e q. argumentsOf (functionAt (wordOperand (s .args .w))) (wordPlace (s .args .w)) e n q) (s .pre .1 .tokens) (s .pre .1 .within) (unmet (c .before .before .expected .ensures) (c .before .if1 .taken)))
+
+call-deep-requires : (t : ℕ) → call-lts.Need-deep-requires (call-calls t) (call-at t) call.Post
+call-deep-requires t c κs = search needs
+
+call-returns-2 : (t : ℕ) → call-lts.Need-returns-2 (call-calls t) (call-at t) call.Post
+call-returns-2 t c =
+    let s = c .before .before .before .before .before .before in
+    being (c .deep .ensures) (full-reads (s .args .room) openParen (λ n e q. argumentsOf (functionAt (wordOperand (s .args .w))) (wordPlace (s .args .w)) e n q) (s .pre .1 .tokens) (s .pre .1 .within) (met (c .before .before .before .expected .ensures) (c .before .before .if1 .left)) (c .before .if2 .taken))
+
+call-sub-arguments : (t : ℕ) → call-lts.Need-sub-arguments (call-calls t) (call-at t) call.Post
+call-sub-arguments t c = search needs
+
+call-arguments-requires : (t : ℕ) → call-lts.Need-arguments-requires (call-calls t) (call-at t) call.Post
+call-arguments-requires t c κs =
+    let s = c .before .before .before .before .before .before in
+    let h = there openParen (s .args .table .now) (s .args .at) (s .pre .1 .tokens) (met (c .before .before .before .expected .ensures) (c .before .before .if1 .left)) .splits .within in
+    (omega (arith, s .pre .0), (s .pre .1, h))
+
+call-same-length : (t : ℕ) → call-lts.Need-same-length (call-calls t) (call-at t) call.Post
+call-same-length t c = search needs
+
+call-returns-3 : (t : ℕ) → call-lts.Need-returns-3 (call-calls t) (call-at t) call.Post
+call-returns-3 t c =
+    let s = c .before .before .before .before .before .before .before .before .before in
+    call-inside (s .args .w) (s .args .room) (s .pre .1 .tokens) (met (c .before .before .before .before .before .before .expected .ensures) (c .before .before .before .before .before .if1 .left)) (c .before .before .before .before .if2 .left) (c .before .before .arguments .ensures)
 
 enclosed-expression-requires : (t : ℕ) → enclosed-lts.Need-expression-requires (enclosed-calls t) (enclosed-at t) enclosed.Post
 enclosed-expression-requires t c κs = (omega (arith, c .before .before .before .pre .0), c .before .before .before .pre .1)
@@ -694,15 +774,15 @@ primary-loaded-requires t c κs =
     let b = reached (c .before .before .before .before .before .bracket .result) (met (c .before .before .is-done .ensures) (c .before .if1 .left)) (c .before .before .before .before .before .bracket .ensures .span) in
     (few, omega (arith, b .slack, b .within, s .pre .1 .room))
 
-primary-add-arguments : (t : ℕ) → primary-lts.Need-add-arguments (primary-calls t) (primary-at t) primary.Post
-primary-add-arguments t c = search needs
+primary-add-call : (t : ℕ) → primary-lts.Need-add-call (primary-calls t) (primary-at t) primary.Post
+primary-add-call t c = search needs
 
-primary-arguments-requires : (t : ℕ) → primary-lts.Need-arguments-requires (primary-calls t) (primary-at t) primary.Post
-primary-arguments-requires t c κs =
+primary-call-requires : (t : ℕ) → primary-lts.Need-call-requires (primary-calls t) (primary-at t) primary.Post
+primary-call-requires t c κs =
     let s = c .before .before .before .before .before .before .before in
     let k = primary-as (look {s = s .args .table .now} {at = s .args .at} (s .pre .1 .tokens) (c .before .before .before .before .word-at .ensures)) (c .before .before .before .operand-of .ensures) (c .before .before .class-of .ensures) in
-    let (few, h) = a-name k (c .before .match .keys3) in
-    (omega (arith, s .pre .0, h .within), (record { tokens = s .pre .1 .tokens; small = s .pre .1 .small; within = omega (arith, h .within); room = omega (arith, s .pre .1 .room) }, few))
+    let h = a-name k (c .before .match .keys3) in
+    (omega (arith, s .pre .0, h .within), record { tokens = s .pre .1 .tokens; small = s .pre .1 .small; within = omega (arith, h .within); room = omega (arith, s .pre .1 .room) })
 
 primary-bracket-requires-2 : (t : ℕ) → primary-lts.Need-bracket-requires-2 (primary-calls t) (primary-at t) primary.Post
 primary-bracket-requires-2 t c κs = (omega (arith, c .before .before .before .before .before .before .before .pre .0), c .before .before .before .before .before .before .before .pre .1)
@@ -738,9 +818,8 @@ primary-same-length-3 t c = search needs
 primary-returns-4 : (t : ℕ) → primary-lts.Need-returns-4 (primary-calls t) (primary-at t) primary.Post
 primary-returns-4 t c =
     let s = c .before .before .before .before .before .before .before .before .before .before in
-    let k = primary-as (look {s = s .args .table .now} {at = s .args .at} (s .pre .1 .tokens) (c .before .before .before .before .before .before .before .word-at .ensures)) (c .before .before .before .before .before .before .operand-of .ensures) (c .before .before .before .before .before .class-of .ensures) in
-    let (few, h) = a-name k (c .before .before .before .before .match .keys3) in
-    primary-name (s .args .room) h (c .before .before .arguments .ensures)
+    let k = primary-there (look {s = s .args .table .now} {at = s .args .at} (s .pre .1 .tokens) (c .before .before .before .before .before .before .before .word-at .ensures)) in
+    primary-name (s .args .room) (a-name k (sym (c .before .before .before .before .before .class-of .ensures) ∙ c .before .before .before .before .match .keys3)) (c .before .before .call .ensures)
 
 primary-same-length-4 : (t : ℕ) → primary-lts.Need-same-length-4 (primary-calls t) (primary-at t) primary.Post
 primary-same-length-4 t c = search needs
@@ -763,47 +842,52 @@ primary-returns-6 t c =
     let l = a-leaf k (λ q. r .0 .0 .0 .1 (e ∙ q)) (λ q. r .0 .0 .1 (e ∙ q)) (λ q. r .0 .1 (e ∙ q)) (λ q. r .1 (e ∙ q)) in
     being (c .before .before .leaf .ensures .0) (leaf-reads (s .args .room) l (c .before .before .leaf .ensures .1))
 
-pub +arguments+bracket+branches+enclosed+expression+operand+primary-spec : {M : Type 1} → statement M
-+arguments+bracket+branches+enclosed+expression+operand+primary-spec =
-    close μ-arguments μ-bracket μ-branches μ-enclosed μ-expression μ-operand μ-primary
+pub +arguments+bracket+branches+call+enclosed+expression+operand+primary-spec : {M : Type 1} → statement M
++arguments+bracket+branches+call+enclosed+expression+operand+primary-spec =
+    close μ-arguments μ-bracket μ-branches μ-call μ-enclosed μ-expression μ-operand μ-primary
     (λ t. arguments-lts.spec (arguments-calls t)
     (arguments-at t)
     arguments.Post
-    (arguments-expected-requires t)
-    (arguments-bad-requires t)
-    (arguments-returns t)
-    (arguments-deep-requires t)
-    (arguments-returns-2 t)
-    (arguments-arity-requires t)
-    (arguments-add-enclosed t)
-    (arguments-sub-enclosed t)
+    (arguments-operand-of-requires t)
+    (arguments-add-at t)
+    (arguments-form-requires t)
     (arguments-enclosed-requires t)
     (arguments-is-done-requires t)
     (arguments-same-length t)
-    (arguments-returns-3 t)
+    (arguments-returns t)
     (arguments-applied-requires t)
-    (arguments-same-length-2 t)
-    (arguments-returns-4 t)
-    (arguments-add-enclosed-2 t)
-    (arguments-sub-enclosed-2 t)
     (arguments-enclosed-requires-2 t)
     (arguments-is-done-requires-2 t)
-    (arguments-same-length-3 t)
-    (arguments-returns-5 t)
+    (arguments-same-length-2 t)
+    (arguments-returns-2 t)
     (arguments-next-of-requires t)
     (arguments-end-of-requires t)
-    (arguments-sub-enclosed-3 t)
     (arguments-enclosed-requires-3 t)
     (arguments-is-done-requires-3 t)
-    (arguments-same-length-4 t)
-    (arguments-returns-6 t)
+    (arguments-same-length-3 t)
+    (arguments-returns-3 t)
     (arguments-paired-requires t)
+    (arguments-enclosed-requires-4 t)
+    (arguments-is-done-requires-4 t)
+    (arguments-same-length-4 t)
+    (arguments-returns-4 t)
+    (arguments-since-requires t)
+    (arguments-clock-requires t)
+    (arguments-enclosed-requires-5 t)
+    (arguments-is-done-requires-5 t)
     (arguments-same-length-5 t)
-    (arguments-returns-7 t)
-    (arguments-sub-branches t)
+    (arguments-returns-5 t)
     (arguments-branches-requires t)
     (arguments-same-length-6 t)
-    (arguments-returns-8 t))
+    (arguments-returns-6 t)
+    (arguments-same-length-7 t)
+    (arguments-returns-7 t)
+    (arguments-same-length-8 t)
+    (arguments-returns-8 t)
+    (arguments-same-length-9 t)
+    (arguments-returns-9 t)
+    (arguments-same-length-10 t)
+    (arguments-returns-10 t))
     (λ t. bracket-lts.spec (bracket-calls t)
     (bracket-at t)
     bracket.Post
@@ -838,6 +922,18 @@ pub +arguments+bracket+branches+enclosed+expression+operand+primary-spec : {M : 
     (branches-chosen-requires t)
     (branches-same-length-3 t)
     (branches-returns-3 t))
+    (λ t. call-lts.spec (call-calls t)
+    (call-at t)
+    call.Post
+    (call-expected-requires t)
+    (call-bad-requires t)
+    (call-returns t)
+    (call-deep-requires t)
+    (call-returns-2 t)
+    (call-sub-arguments t)
+    (call-arguments-requires t)
+    (call-same-length t)
+    (call-returns-3 t))
     (λ t. enclosed-lts.spec (enclosed-calls t)
     (enclosed-at t)
     enclosed.Post
@@ -912,8 +1008,8 @@ pub +arguments+bracket+branches+enclosed+expression+operand+primary-spec : {M : 
     (primary-same-length t)
     (primary-returns t)
     (primary-loaded-requires t)
-    (primary-add-arguments t)
-    (primary-arguments-requires t)
+    (primary-add-call t)
+    (primary-call-requires t)
     (primary-bracket-requires-2 t)
     (primary-leaf-requires t)
     (primary-returns-2 t)
