@@ -69,6 +69,28 @@ pub fn texts() -> Vec<Scan> {
     ]
 }
 
+/// The cells of each formula of totals.
+pub const CELLS: usize = 190;
+
+/// Single formulas that go over many cells, not the dearest ones of R and not the targets.
+pub fn totals() -> Vec<Scan> {
+    const TEXTS: [&str; 8] = [
+        "SUMR(R10, 190)",
+        "AVGR(R10, 190)",
+        "MAXR(R10, 190)",
+        "SUMIFGT(0.5, R10, 190)",
+        "SUMR(V0, 190)",
+        "AVGR(N0, 190)",
+        "MINR(D0, 190)",
+        "COUNTIFLE(1000, D0, 190)",
+    ];
+    let one = |text: &str| {
+        let formulas = vec![Formula { target: b"R200".into(), text: text.into() }];
+        Scan { name: text.into(), formulas }
+    };
+    TEXTS.map(one).into()
+}
+
 /// Scans of the dearest formulas of the greatest length. Each has the same text forty times, with a target for each.
 pub fn worst() -> Vec<Scan> {
     lines(include_str!("worst.txt")).map(worst_scan).collect()

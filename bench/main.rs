@@ -46,5 +46,6 @@ fn times(words: &[&str]) {
     agree::compare(texts);
     rows::corpus(batches);
     rows::texts(batches);
+    rows::totals(batches);
     rows::worst(batches.div_ceil(LONG));
 }

@@ -1,15 +1,15 @@
 //! The rows of the table. A run through the library is check, run and store, and so is the rival's; run and store is that less
 //! the check.
 
-use crate::data::{self, Formula, Scan, TICK};
-use crate::library::{self, CODE_BYTES};
+use crate::data::{self, Formula, Scan, CELLS, TICK};
+use crate::library::{self, Target, CODE_BYTES};
 use crate::reference::memory::FLAGS;
 use crate::rival;
 use crate::timing::{each, header, least, row, Pair};
 
 // The code that each side compiled, in buffers of its own size, as a controller would keep it.
 struct Ready<'a> {
-    target: &'a [u8],
+    target: Target<'a>,
     ours: Vec<u8>,
     theirs: Vec<u8>,
     instructions: usize,
@@ -23,7 +23,7 @@ fn ready(formula: &Formula) -> Ready<'_> {
         code.truncate(8 * instructions);
         code.shrink_to_fit();
     }
-    Ready { target: &formula.target, ours, theirs, instructions }
+    Ready { target: Target::cell(&formula.target), ours, theirs, instructions }
 }
 
 /// A scan, measured so often.
@@ -67,8 +67,8 @@ impl Measured<'_> {
     // Each side has a memory of its own; they run equally often, so both are the same in the end.
     fn run(&self) -> Pair {
         let (mut memory, mut other) = (data::memory(), data::memory());
-        let ours = &mut || each(&self.ready, |r| library::run(&r.ours, r.instructions, &mut memory, r.target, TICK));
-        let theirs = &mut || each(&self.ready, |r| rival::run(&r.theirs, r.instructions, &mut other, r.target, TICK));
+        let ours = &mut || each(&self.ready, |r| library::run(&r.ours, r.instructions, &mut memory, &r.target, TICK));
+        let theirs = &mut || each(&self.ready, |r| rival::run(&r.theirs, r.instructions, &mut other, &r.target, TICK));
         let times = least(self.batches, self.calls, [ours, theirs]);
         hold_to_each_other(&memory, &other);
         times
@@ -76,10 +76,14 @@ impl Measured<'_> {
 
     fn compile_and_run(&self) -> Pair {
         let (mut memory, mut other) = (data::memory(), data::memory());
-        let (mut code, mut other_code) = (vec![0; CODE_BYTES], vec![0; CODE_BYTES]);
+        let [mut code, mut index_code, mut other_code, mut other_index] = [(); 4].map(|()| vec![0; CODE_BYTES]);
         let formulas = &self.scan.formulas;
-        let ours = &mut || each(formulas, |f| library::compile_and_run(&f.target, &f.text, &mut memory, &mut code, TICK));
-        let theirs = &mut || each(formulas, |f| rival::compile_and_run(&f.target, &f.text, &mut other, &mut other_code, TICK));
+        let ours = &mut || {
+            each(formulas, |f| library::compile_and_run(&f.target, &f.text, &mut memory, [&mut code, &mut index_code], TICK));
+        };
+        let theirs = &mut || {
+            each(formulas, |f| rival::compile_and_run(&f.target, &f.text, &mut other, [&mut other_code, &mut other_index], TICK));
+        };
         let times = least(self.batches, self.calls, [ours, theirs]);
         hold_to_each_other(&memory, &other);
         times
@@ -117,6 +121,15 @@ pub fn texts(batches: usize) {
         row(&format!("compile, {}", scan.name), "a byte", m.bytes(), m.compile());
         row("  check", "an instruction", m.instructions(), check);
         row("  run and store", "an instruction", m.instructions(), less(run, check));
+    }
+}
+
+/// Totals, by the cells that they visit.
+pub fn totals(batches: usize) {
+    const CALLS: usize = 100;
+    for scan in &data::totals() {
+        let m = Measured::new(scan, batches, CALLS);
+        row(&format!("run and store, {}", scan.name), "a cell", CELLS as f64, less(m.run(), m.check()));
     }
 }
 

@@ -80,15 +80,15 @@ measure_sizes() {
     size -t "$library/libformula_bare.a" |
         awk 'END { print "text of all " NR - 2 " members of libformula_bare.a: " $1 " bytes, data " $2 ", bss " $3 }'
     have cc "no size of what is linked" || return
-    # what the four operations add to a program that does nothing
+    # what the operations add to a program that does nothing
     empty=$(echo 'int main(void) { return 0; }' | text_of)
-    four=$(echo '#include "formula.h"
+    all=$(echo '#include "formula.h"
         int main(void) {
             static void (*volatile all[])(void) = {(void (*)(void))formula_compile, (void (*)(void))formula_check,
-                (void (*)(void))formula_run, (void (*)(void))formula_compile_and_run};
+                (void (*)(void))formula_run, (void (*)(void))formula_compile_and_run, (void (*)(void))formula_compile_target};
             return all[0] == 0;
         }' | text_of)
-    echo "text that the four operations add to a program: $((four - empty)) bytes"
+    echo "text that the operations add to a program: $((all - empty)) bytes"
 }
 
 measure_stacks() {

@@ -1,7 +1,7 @@
 //! What is measured, for tools that count: one scan, once, function by function; and the inputs, for a program in C.
 
 use crate::data::{self, Scan};
-use crate::library::{self, CODE_BYTES};
+use crate::library::{self, Target, CODE_BYTES};
 
 /// The scans by name.
 pub fn names() {
@@ -44,7 +44,7 @@ fn check_scan(codes: &[Vec<u8>], counts: &[usize]) {
 #[inline(never)]
 fn run_scan(scan: &Scan, codes: &[Vec<u8>], counts: &[usize], memory: &mut [u8]) {
     for ((formula, code), count) in scan.formulas.iter().zip(codes).zip(counts) {
-        assert!(library::run(code, *count, memory, &formula.target, data::TICK).answer == 0);
+        assert!(library::run(code, *count, memory, &Target::cell(&formula.target), data::TICK).answer == 0);
     }
 }
 

@@ -17,7 +17,7 @@ static uint8_t stack[STACK] __attribute__((aligned(4096)));
 static ucontext_t caller, callee;
 
 static uint8_t memory[FORMULA_MEMORY_BYTES];
-static uint8_t code[FORMULA_CODE_BYTES];
+static uint8_t code[FORMULA_CODE_BYTES], index_code[FORMULA_CODE_BYTES];
 static struct formula_report report;
 static const uint8_t *expr, *target;
 static size_t expr_len, target_len, count;
@@ -35,11 +35,23 @@ static void check(void) {
 }
 
 static void run(void) {
-    formula_run(code, sizeof code, count, memory, sizeof memory, target, target_len, tick, &report);
+    formula_run(code, sizeof code, count, memory, sizeof memory, target, target_len, index_code, 0, 0, tick, &report);
 }
 
 static void compile_and_run(void) {
-    formula_compile_and_run(target, target_len, expr, expr_len, memory, sizeof memory, code, sizeof code, tick, &report);
+    formula_compile_and_run(target, target_len, expr, expr_len, memory, sizeof memory, code, sizeof code, index_code,
+                            sizeof index_code, tick, &report);
+}
+
+/* The text as the index of a target. */
+static void compile_target(void) {
+    static uint8_t text[FORMULA_TEXT_BYTES];
+    size_t len = expr_len + 3 <= sizeof text ? expr_len : 0;
+    text[0] = 'D';
+    text[1] = '[';
+    memcpy(text + 2, expr, len);
+    text[len + 2] = ']';
+    formula_compile_target(text, len + 3, index_code, sizeof index_code, &report);
 }
 
 static size_t painted_depth(void (*operation)(void), uint8_t paint) {
@@ -75,6 +87,7 @@ static struct measured measured[] = {
     {"formula_check", check, 0, ""},
     {"formula_run", run, 0, ""},
     {"formula_compile_and_run", compile_and_run, 0, ""},
+    {"formula_compile_target", compile_target, 0, ""},
 };
 
 #define OPERATIONS (sizeof measured / sizeof measured[0])

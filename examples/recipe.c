@@ -5,23 +5,26 @@
 
 #include "formula.h"
 
-/* Each line keeps its code. A box that is short of memory compiles into one buffer and keeps the first
- * FORMULA_INSTRUCTION_BYTES * instructions bytes of each. */
+/* Each line keeps its code, and that of its target's index, which a plain cell has not. A box that is short of memory compiles
+ * into one buffer and keeps the first FORMULA_INSTRUCTION_BYTES * instructions bytes of each. */
 struct line {
     const char *target;
     const char *formula;
     uint32_t instructions;
+    uint32_t index_instructions;
     uint8_t code[FORMULA_CODE_BYTES];
+    uint8_t index_code[FORMULA_CODE_BYTES];
 };
 
 /* V0 is the weight of the wool in grams, V1 the number of skeins, V2 the vat, X0 the switch of the pump.
- * R10 to R12 hold the dye in millilitres for each kilogram, one for each vat. */
+ * R10 to R12 hold the dye in millilitres for each kilogram, one for each vat; D20 to D22 count the skeins of each vat. */
 static struct line recipe[] = {
-    {"R0", "V0 / 1000.0 * R[10 + V2]", 0, {0}},
-    {"D0", "ROUND(R0)", 0, {0}},
-    {"R1", "R0 / V1", 0, {0}},
-    {"C0", "X0 && R0 >= 0.5", 0, {0}},
-    {"V9", "MIN(D0 * 4, 1000)", 0, {0}},
+    {"R0", "V0 / 1000.0 * R[10 + V2]", 0, 0, {0}, {0}},
+    {"D0", "ROUND(R0)", 0, 0, {0}, {0}},
+    {"R1", "R0 / V1", 0, 0, {0}, {0}},
+    {"C0", "X0 && R0 >= 0.5", 0, 0, {0}, {0}},
+    {"V9", "MIN(D0 * 4, 1000)", 0, 0, {0}, {0}},
+    {"D[20 + V2]", "D[20 + V2] + V1", 0, 0, {0}, {0}},
 };
 #define LINES (sizeof recipe / sizeof recipe[0])
 
@@ -70,6 +73,13 @@ static int load(struct line *line)
         return 0;
     }
     line->instructions = report.count;
+    formula_compile_target((const uint8_t *)line->target, strlen(line->target), line->index_code, sizeof line->index_code,
+                           &report);
+    if (report.answer != FORMULA_DONE) {
+        printf("  refused: answer %u, %s\n", (unsigned)report.answer, formula_answer_text(report.answer));
+        return 0;
+    }
+    line->index_instructions = report.count;
     /* Not needed after compiling, since compiled code is always accepted. Code that was kept or sent must be checked
      * before it is trusted; formula_run checks it again each time. */
     formula_check(line->code, sizeof line->code, line->instructions, &report);
@@ -90,8 +100,11 @@ static int load_recipe(void)
 
 /* ---- one scan ---- */
 
+/* The cell's name comes from the report: where an index names it, no one could work it out again after the store. */
 static void show_value(const struct line *line, const struct formula_report *report)
 {
+    char bank = "XCVNDR"[report->bank];
+    unsigned element = (unsigned)report->element;
     float real;
     int32_t integer;
     memcpy(&real, &report->bits, 4);
@@ -100,9 +113,9 @@ static void show_value(const struct line *line, const struct formula_report *rep
         printf("  %s keeps its value: answer %u, %s\n", line->target, (unsigned)report->answer,
                formula_answer_text(report->answer));
     } else if (report->kind == FORMULA_REAL) {
-        printf("  %s = %.3f\n", line->target, real);
+        printf("  %c%u = %.3f\n", bank, element, real);
     } else {
-        printf("  %s = %ld\n", line->target, (long)integer);
+        printf("  %c%u = %ld\n", bank, element, (long)integer);
     }
 }
 
@@ -128,8 +141,11 @@ static void scan(uint32_t tick)
     for (size_t i = 0; i < LINES; i++) {
         struct line *line = &recipe[i];
         struct formula_report report;
+        /* A run is given a plain cell's name, or the bank letter of a target with an index. */
+        size_t target_len = line->index_instructions == 0 ? strlen(line->target) : 1;
         formula_run(line->code, sizeof line->code, line->instructions, memory, sizeof memory,
-                    (const uint8_t *)line->target, strlen(line->target), tick, &report);
+                    (const uint8_t *)line->target, target_len, line->index_code, sizeof line->index_code,
+                    line->index_instructions, tick, &report);
         show_value(line, &report);
     }
     show_and_clear_flags();
@@ -147,7 +163,7 @@ static void scan_with(uint32_t tick, uint16_t grams, uint16_t skeins, uint16_t v
 /* What the screen shows for a formula with a slip. */
 static void show_a_slip(void)
 {
-    static struct line slip = {"D1", "ROUND(R0 * 1.5", 0, {0}};
+    static struct line slip = {"D1", "ROUND(R0 * 1.5", 0, 0, {0}, {0}};
     printf("%s = %s\n", slip.target, slip.formula);
     if (load(&slip)) {
         printf("  not expected\n");

@@ -21,16 +21,15 @@
 #ifndef FORMULA_H
 #define FORMULA_H
 
-#include <stddef.h>
 #include <stdint.h>
 
 #ifdef __cplusplus
 extern "C" {
 #endif
 
-#define FORMULA_VERSION 3 /* rises where this header, an answer or the bytes of an instruction change their meaning */
+#define FORMULA_VERSION 4 /* rises where this header, an answer or the bytes of an instruction change their meaning */
 
-#define FORMULA_TEXT_BYTES        1024u  /* the longest expression */
+#define FORMULA_TEXT_BYTES        1024u  /* the longest expression, and the longest target */
 #define FORMULA_MEMORY_BYTES      3204u  /* the only size of a memory */
 #define FORMULA_CODE_BYTES        16384u /* the least size of a code buffer to compile into */
 #define FORMULA_INSTRUCTION_BYTES 8u
@@ -76,34 +75,69 @@ enum formula_kind {
     FORMULA_REAL = 1
 };
 
+/* A bank's number in a report. */
+enum formula_bank {
+    FORMULA_BANK_X = 0,
+    FORMULA_BANK_C = 1,
+    FORMULA_BANK_V = 2,
+    FORMULA_BANK_N = 3,
+    FORMULA_BANK_D = 4,
+    FORMULA_BANK_R = 5
+};
+
 struct formula_report {
-    uint32_t answer; /* one of enum formula_answer */
-    uint32_t place;  /* answers 4 to 9: the byte of the expression that it is about; else 0 */
-    uint32_t kind;   /* one of enum formula_kind: the value's. 0 on a refusal or fault, and for compile and check */
-    uint32_t bits;   /* the value's 32-bit pattern, before the store; 0 where kind is 0 for want of a value */
-    uint32_t count;  /* compile: instructions written; run: instructions begun; 0 on a refusal and for check */
+    uint32_t answer;  /* one of enum formula_answer */
+    uint32_t place;   /* answers 4 to 9: the byte of the expression that it is about; else 0 */
+    uint32_t kind;    /* one of enum formula_kind: the value's. 0 on a refusal or fault, and where nothing is run */
+    uint32_t bits;    /* the value's 32-bit pattern, before the store; 0 where kind is 0 for want of a value */
+    uint32_t count;   /* compiling: instructions written; running: instructions begun, the index's included; else 0 */
+    uint32_t bank;    /* one of enum formula_bank, and the element of it: the cell that was stored to, or that */
+    uint32_t element; /* formula_compile_target found; 0 and 0 otherwise */
 };
 
 /* Compiles an expression. On answer 0 the first FORMULA_INSTRUCTION_BYTES * count bytes of the code buffer are written, and
  * nothing else ever. Answers: 0, 3 to 10. */
-void formula_compile(const uint8_t *expr, size_t expr_len, uint8_t *code, size_t code_len,
+void formula_compile(const uint8_t *expr, uint64_t expr_len, uint8_t *code, uint64_t code_len,
                      struct formula_report *report);
+
+/* Compiles the index of a target such as "D[V1 + 2]" (its bytes, no final zero): at most FORMULA_TEXT_BYTES, a bank letter but X,
+ * an expression in brackets, spaces inside the brackets only. On answer 0 the report has the bank, and count is the number of
+ * instructions written to the index buffer. A plain cell such as "D12" is taken too: count is 0, element is its own, and the
+ * buffer is left alone. Answers: 0, 2, 10. */
+void formula_compile_target(const uint8_t *target, uint64_t target_len, uint8_t *index_code, uint64_t index_len,
+                            struct formula_report *report);
 
 /* Checks the first instructions of a code buffer, from wherever they come. Code that is accepted always ends.
  * Answers: 0, 15. */
-void formula_check(const uint8_t *code, size_t code_len, size_t instructions, struct formula_report *report);
+void formula_check(const uint8_t *code, uint64_t code_len, uint64_t instructions, struct formula_report *report);
 
-/* Checks and runs code on a memory and stores its value into the target, such as "D12" (its bytes, no final zero).
- * On answer 0 the target's cell is written, on 11 to 14 the fault's flag, and nothing else ever.
+/* Checks and runs code on a memory and stores its value into the target: a cell such as "D12", for which the index code is not
+ * looked at, or a bank letter alone, such as "D", whose element the index code gives, worked out after the value and before the
+ * store. On answer 0 the cell that bank and element name is written, on 11 to 14 the fault's flag, and nothing else ever.
  * Answers: 0, 1, 2, 11 to 15. */
-void formula_run(const uint8_t *code, size_t code_len, size_t instructions, uint8_t *memory, size_t memory_len,
-                 const uint8_t *target, size_t target_len, uint32_t tick, struct formula_report *report);
+void formula_run(const uint8_t *code, uint64_t code_len, uint64_t instructions, uint8_t *memory, uint64_t memory_len,
+                 const uint8_t *target, uint64_t target_len, const uint8_t *index_code, uint64_t index_len,
+                 uint64_t index_instructions, uint32_t tick, struct formula_report *report);
 
-/* Compiles and runs in one call; the memory is written as by formula_run, the code buffer as by formula_compile.
- * The code is written on 11 to 14 too, and count is that of the run. Answers: 0 to 14. */
-void formula_compile_and_run(const uint8_t *target, size_t target_len, const uint8_t *expr, size_t expr_len,
-                             uint8_t *memory, size_t memory_len, uint8_t *code, size_t code_len,
-                             uint32_t tick, struct formula_report *report);
+/* Compiles and runs in one call. The target is a cell or a bank with an index, as for formula_compile_target; the memory is
+ * written as by formula_run, the code buffers as by formula_compile and formula_compile_target, also on 11 to 14. Both must have
+ * FORMULA_CODE_BYTES, also where the target is a plain cell, which leaves the second alone. count is that of the run.
+ * Answers: 0 to 14. */
+void formula_compile_and_run(const uint8_t *target, uint64_t target_len, const uint8_t *expr, uint64_t expr_len,
+                             uint8_t *memory, uint64_t memory_len, uint8_t *code, uint64_t code_len, uint8_t *index_code,
+                             uint64_t index_len, uint32_t tick, struct formula_report *report);
+
+/* Works out what a run of the code would store, and writes nothing, no flag either: to be seen before it is stored. The report has
+ * the value, or the fault. Answers: 0, 1, 11 to 15. */
+void formula_evaluate(const uint8_t *code, uint64_t code_len, uint64_t instructions, const uint8_t *memory,
+                      uint64_t memory_len, uint32_t tick, struct formula_report *report);
+
+/* Stores a value, as kind and bits of a report, into a target of the form that formula_run takes. Any kind but 0 is a real; one
+ * that is infinite or NaN is 13 into any target, before the index is worked out. formula_evaluate, then this, is formula_run:
+ * its count is the sum of theirs. Answers: 0, 1, 2, 11 to 15. */
+void formula_store(uint32_t kind, uint32_t bits, uint8_t *memory, uint64_t memory_len, const uint8_t *target,
+                   uint64_t target_len, const uint8_t *index_code, uint64_t index_len, uint64_t index_instructions,
+                   uint32_t tick, struct formula_report *report);
 
 /* C's fmodf for every x and y, in any floating-point mode and with at most 32 divisions of whole numbers. Where the remainder is
  * a NaN, which NaN is not fixed; errno is left alone. */
@@ -124,7 +158,7 @@ static inline const char *formula_answer_text(uint32_t answer)
     switch (answer) {
     case FORMULA_DONE: return "done";
     case FORMULA_BAD_MEMORY: return "the memory has not 3,204 bytes";
-    case FORMULA_BAD_TARGET: return "the target is not one C, V, N, D or R cell";
+    case FORMULA_BAD_TARGET: return "the target is no cell of C, V, N, D or R, nor such a bank with an index";
     case FORMULA_BAD_LENGTH: return "the expression is empty or has over 1,024 bytes";
     case FORMULA_BAD_BYTES: return "bytes that form no token";
     case FORMULA_BAD_NUMBER: return "a number out of range";

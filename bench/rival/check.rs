@@ -1,8 +1,10 @@
 //! The check of code: one pass, since jumps go forward. Kinds held are bits, 1 for a real, the last pushed lowest.
 
 use super::image::REAL_BANK;
-use super::machine::{decode, taken, BINARY, JUMP, LOAD, LOAD_INDEXED, PUSH_REAL, SINCE, UNARY};
+use super::machine::{decode, taken, BINARY, JUMP, LOAD, LOAD_INDEXED, MATCH, PUSH_REAL, SINCE, TOTAL, UNARY};
 use super::op;
+use super::totals::{match_kind, total_kind};
+use super::values::Kind;
 
 #[derive(Clone, Copy, PartialEq)]
 struct Held {
@@ -57,7 +59,7 @@ fn height_at_end(code: &[u8], n: usize) -> Option<usize> {
             return None;
         }
         if let Some(now) = &mut held {
-            step(opcode, operand, now)?;
+            step(opcode, operand, word, now)?;
             if opcode >= JUMP {
                 arrivals.add(place + 1 + skipped, *now)?;
             }
@@ -77,12 +79,12 @@ fn height_at_end(code: &[u8], n: usize) -> Option<usize> {
 
 // What an instruction makes of what is held, None where it needs more or other kinds.
 #[inline]
-fn step(opcode: u8, operand: u8, held: &mut Held) -> Option<()> {
+fn step(opcode: u8, operand: u8, word: u32, held: &mut Held) -> Option<()> {
     let takes = taken(opcode);
     if held.height < takes {
         return None;
     }
-    let leaves = kind_left(opcode, operand, held.kinds)?;
+    let leaves = kind_left(opcode, operand, word, held.kinds)?;
     held.height -= takes;
     held.kinds >>= takes;
     if opcode < JUMP {
@@ -97,12 +99,14 @@ fn step(opcode: u8, operand: u8, held: &mut Held) -> Option<()> {
 
 // The kind that an instruction leaves, None where it takes other kinds; jumps leave nothing.
 #[inline]
-fn kind_left(opcode: u8, operand: u8, kinds: u128) -> Option<u8> {
+fn kind_left(opcode: u8, operand: u8, word: u32, kinds: u128) -> Option<u8> {
     let right = (kinds & 1) as u8;
     let left = (kinds >> 1 & 1) as u8;
     match (opcode, operand) {
         (PUSH_REAL, _) => Some(1),
         (LOAD | LOAD_INDEXED, bank) => Some((bank == REAL_BANK) as u8),
+        (TOTAL, operator) => Some((total_kind(operator, word as u8) == Kind::Real) as u8),
+        (MATCH, operator) => Some((match_kind(operator, word as u8) == Kind::Real) as u8),
         (UNARY, op::NEGATE | op::ABS) => Some(right),
         (UNARY, op::INVERT) | (SINCE, _) if right == 1 => None,
         (UNARY, op::TO_REAL | op::FRAC) => Some(1),

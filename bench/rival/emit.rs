@@ -8,6 +8,7 @@ use super::machine::*;
 use super::op;
 use super::reader::read;
 use super::tokens::Refusal;
+use super::totals::Range;
 use super::values::Kind::{self, Int, Real};
 
 /// The instructions so far. A gap is the place of a jump that skips what comes next.
@@ -25,6 +26,13 @@ impl Code {
     // The instructions after a gap.
     fn since(&self, gap: usize) -> usize {
         self.0.len() - gap - 1
+    }
+
+    /// Copies the code to a buffer and gives the number of instructions.
+    pub fn write(&self, buffer: &mut [u8]) -> usize {
+        let bytes = self.0.as_flattened();
+        buffer[..bytes.len()].copy_from_slice(bytes);
+        self.0.len()
     }
 
     pub fn number(&mut self, kind: Kind, bits: u32) {
@@ -53,6 +61,14 @@ impl Code {
 
     pub fn elapsed(&mut self) {
         self.push(SINCE, 0, 0);
+    }
+
+    pub fn total(&mut self, operator: u8, range: Range) {
+        self.push(TOTAL, operator, range.word());
+    }
+
+    pub fn matching(&mut self, operator: u8, range: Range) {
+        self.push(MATCH, operator, range.word());
     }
 
     /// After the left side of `&&` and `||`, and after the condition of IF.
@@ -97,13 +113,11 @@ impl Code {
     }
 }
 
-/// Writes the code of a formula and gives the number of instructions.
+/// The code of a formula behind so many open brackets.
 #[inline(never)]
-pub fn compile(text: &[u8], code: &mut [u8]) -> Result<usize, Refusal> {
+pub fn compile(text: &[u8], open: u8) -> Result<Code, Refusal> {
     // two instructions a byte are the most, so it never grows
     let mut scratch = Code(Vec::with_capacity(2 * text.len().min(1024)));
-    read(text, &mut scratch)?;
-    let bytes = scratch.0.as_flattened();
-    code[..bytes.len()].copy_from_slice(bytes);
-    Ok(scratch.0.len())
+    read(text, open, &mut scratch)?;
+    Ok(scratch)
 }

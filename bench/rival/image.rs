@@ -6,6 +6,7 @@ use Value::{Int, Real};
 
 pub const BYTES: usize = 3204;
 pub const REAL_BANK: u8 = 5;
+pub const BANK_STARTS: [usize; 6] = [0, 64, 128, 640, 1152, 2176];
 
 pub fn elements(bank: u8) -> u32 {
     if bank < 2 {
@@ -45,7 +46,9 @@ fn word(image: &[u8], at: usize) -> u32 {
     u32::from_le_bytes([bytes[0], bytes[1], bytes[2], bytes[3]])
 }
 
-pub fn read_indexed(image: &[u8], bank: u8, index: Value) -> Outcome {
+/// The element that an index names.
+#[inline]
+pub fn indexed(bank: u8, index: Value) -> Result<u8, Stop> {
     // a real index below zero is refused before it is cut
     if matches!(index, Real(x) if x < 0.0) {
         return Err(Stop::IndexError);
@@ -53,10 +56,14 @@ pub fn read_indexed(image: &[u8], bank: u8, index: Value) -> Outcome {
     let index = index.cut()? as u32;
     // a negative index is beyond every bank
     if index < elements(bank) {
-        read(image, bank, index as usize)
+        Ok(index as u8)
     } else {
         Err(Stop::IndexError)
     }
+}
+
+pub fn read_indexed(image: &[u8], bank: u8, index: Value) -> Outcome {
+    read(image, bank, indexed(bank, index)? as usize)
 }
 
 /// The bank by its letter.
@@ -91,14 +98,14 @@ pub fn element(bank: u8, digits: &[u8]) -> Option<u8> {
     }
 }
 
-/// The cell that a target names: any but an X cell.
-pub fn target(text: &[u8]) -> Option<(u8, u8)> {
-    let (&letter, digits) = text.split_first()?;
+/// The bank of a target, any but X, and what stands behind its letter.
+pub fn target(text: &[u8]) -> Option<(u8, &[u8])> {
+    let (&letter, rest) = text.split_first()?;
     let bank = bank(letter)?;
     if bank == 0 {
         return None;
     }
-    Some((bank, element(bank, digits)?))
+    Some((bank, rest))
 }
 
 pub fn store(image: &mut [u8], (bank, element): (u8, u8), v: Value) -> Result<(), Stop> {

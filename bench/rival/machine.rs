@@ -2,11 +2,13 @@
 
 use super::image::{elements, read, read_indexed, REAL_BANK};
 use super::op;
+use super::totals::{matching, total, Range};
 use super::values::{binary, since, unary, Outcome, Stop, Value};
 
 pub type Instruction = [u8; 8];
 
-// Opcodes. A load has its bank, and an operator its number, for its operand. Jumps come last: they leave nothing.
+// Opcodes. A load has its bank, and an operator its number, for its operand; a total has its range for its word. Jumps come last:
+// they leave nothing.
 pub const PUSH_INT: u8 = 1;
 pub const PUSH_REAL: u8 = 2;
 pub const LOAD: u8 = 3;
@@ -15,9 +17,11 @@ pub const UNARY: u8 = 5;
 pub const BINARY: u8 = 6;
 pub const TICK: u8 = 7;
 pub const SINCE: u8 = 8;
-pub const JUMP: u8 = 9;
-pub const JUMP_IF_FALSE: u8 = 10;
-pub const JUMP_IF_TRUE: u8 = 11;
+pub const TOTAL: u8 = 9;
+pub const MATCH: u8 = 10;
+pub const JUMP: u8 = 11;
+pub const JUMP_IF_FALSE: u8 = 12;
+pub const JUMP_IF_TRUE: u8 = 13;
 
 pub fn instruction(opcode: u8, operand: u8, word: u32) -> Instruction {
     let [a, b, c, d] = word.to_le_bytes();
@@ -42,6 +46,8 @@ pub fn decode(code: &[u8], place: usize) -> Option<(u8, u8, u32)> {
         UNARY => operand < op::UNARIES && word == 0,
         BINARY => operand < op::BINARIES && word == 0,
         TICK | SINCE => operand == 0 && word == 0,
+        TOTAL => operand < op::TOTALS && Range::of_word(word).is_some(),
+        MATCH => operand < op::MATCHES && Range::of_word(word).is_some(),
         _ => false,
     };
     if good {
@@ -55,7 +61,7 @@ pub fn decode(code: &[u8], place: usize) -> Option<(u8, u8, u32)> {
 #[inline]
 pub fn taken(opcode: u8) -> usize {
     match opcode {
-        LOAD_INDEXED | UNARY | SINCE | JUMP_IF_FALSE | JUMP_IF_TRUE => 1,
+        LOAD_INDEXED | UNARY | SINCE | MATCH | JUMP_IF_FALSE | JUMP_IF_TRUE => 1,
         BINARY => 2,
         _ => 0,
     }
@@ -77,9 +83,9 @@ impl Stack<'_> {
         Ok(self.values[self.height])
     }
 
-    // What an instruction gives that is no jump.
+    // What an instruction gives that is no jump; a total counts its cells.
     #[inline]
-    fn given(&mut self, opcode: u8, operand: u8, word: u32, image: &[u8], tick: u32) -> Outcome {
+    fn given(&mut self, (opcode, operand, word): (u8, u8, u32), image: &[u8], tick: u32, count: &mut usize) -> Outcome {
         match opcode {
             PUSH_INT => Ok(Value::Int(word as i32)),
             PUSH_REAL => Ok(Value::Real(f32::from_bits(word))),
@@ -88,6 +94,8 @@ impl Stack<'_> {
             UNARY => unary(operand, self.pop()?),
             TICK => Ok(Value::Int(tick as i32)),
             SINCE => since(tick, self.pop()?),
+            TOTAL => total(operand, Range::of_word(word).ok_or(Stop::Stuck)?, image, count),
+            MATCH => matching(operand, self.pop()?, Range::of_word(word).ok_or(Stop::Stuck)?, image, count),
             _ => {
                 let right = self.pop()?;
                 binary(operand, self.pop()?, right)
@@ -112,7 +120,7 @@ impl Stack<'_> {
     }
 }
 
-// Runs to the end and counts the instructions begun.
+// Runs to the end and counts the instructions begun and the cells visited.
 #[inline]
 fn go(code: &[u8], n: usize, image: &[u8], tick: u32, count: &mut usize) -> Outcome {
     let mut stack = Stack { values: &mut [Value::Int(0); 128], height: 0 };
@@ -122,7 +130,7 @@ fn go(code: &[u8], n: usize, image: &[u8], tick: u32, count: &mut usize) -> Outc
         let (opcode, operand, word) = decode(code, place).ok_or(Stop::Stuck)?;
         place += 1;
         if opcode < JUMP {
-            let v = stack.given(opcode, operand, word, image, tick)?;
+            let v = stack.given((opcode, operand, word), image, tick, count)?;
             stack.push(v)?;
         } else if stack.jumps(opcode)? {
             if word as usize > n - place {
@@ -138,7 +146,7 @@ fn go(code: &[u8], n: usize, image: &[u8], tick: u32, count: &mut usize) -> Outc
     }
 }
 
-/// What the code gives, and the instructions begun.
+/// What the code gives, and the count.
 #[inline(never)]
 pub fn run(code: &[u8], n: usize, image: &[u8], tick: u32) -> (Outcome, usize) {
     let mut count = 0;

@@ -11,6 +11,7 @@ mod op;
 mod operations;
 mod reader;
 mod tokens;
+mod totals;
 mod values;
 
-pub use operations::{check, compile, compile_and_run, run};
+pub use operations::{check, compile, compile_and_run, compile_target, run};

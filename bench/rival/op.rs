@@ -32,6 +32,17 @@ pub const MAX: u8 = 18;
 pub const MIN: u8 = 19;
 pub const BINARIES: u8 = 20;
 
+pub const SUM: u8 = 0;
+pub const AVERAGE: u8 = 1;
+pub const GREATEST: u8 = 2;
+pub const LEAST: u8 = 3;
+pub const TOTALS: u8 = 4;
+
+// COUNTIF with the tests EQ, NE, GE, GT, LE, LT, then SUMIF with the same.
+pub const COUNT_WHERE: u8 = 0;
+pub const SUM_WHERE: u8 = 6;
+pub const MATCHES: u8 = 12;
+
 // `&&` and `||` are jumps, and no operators on values.
 pub const LOGICAL_AND: u8 = 20;
 pub const LOGICAL_OR: u8 = 21;

@@ -1,12 +1,12 @@
 //! The operations of the library, with its report.
 
 use super::check::accepts;
-use super::emit;
-use super::image::{self, set_flag, store};
+use super::emit::{self, Code};
+use super::image::{self, element, indexed, set_flag, store};
 use super::machine;
 use super::tokens::Refusal;
-use super::values::{Outcome, Value};
-use crate::library::{Report, CODE_BYTES};
+use super::values::{Outcome, Stop, Value};
+use crate::library::{Report, Target, CODE_BYTES};
 
 fn answered(answer: u32) -> Report {
     Report { answer, ..Report::default() }
@@ -16,12 +16,43 @@ fn refused(refusal: Refusal) -> Report {
     Report { answer: refusal.answer, place: refusal.place as u32, ..Report::default() }
 }
 
+// Where a value goes.
+enum Destination<'a> {
+    Cell(u8, u8),
+    // the code of the index, and its instructions
+    Indexed(u8, &'a [u8], usize),
+}
+
+impl Destination<'_> {
+    #[inline]
+    fn cell(&self, memory: &[u8], tick: u32, count: &mut usize) -> Result<(u8, u8), Stop> {
+        match *self {
+            Destination::Cell(bank, element) => Ok((bank, element)),
+            Destination::Indexed(bank, code, n) => {
+                let (index, begun) = machine::run(code, n, memory, tick);
+                *count += begun;
+                Ok((bank, indexed(bank, index?)?))
+            }
+        }
+    }
+}
+
 // Stores what a run gave, or turns on its flag.
-fn settled(memory: &mut [u8], cell: (u8, u8), given: Outcome, count: usize) -> Report {
+fn settled(memory: &mut [u8], to: Destination, given: Outcome, mut count: usize, tick: u32) -> Report {
+    let stored = given.and_then(|value| {
+        let cell = to.cell(memory, tick, &mut count)?;
+        store(memory, cell, value)?;
+        Ok((value, cell))
+    });
     let count = count as u32;
-    match given.and_then(|value| store(memory, cell, value).map(|()| value)) {
-        Ok(Value::Int(z)) => Report { bits: z as u32, count, ..Report::default() },
-        Ok(Value::Real(x)) => Report { kind: 1, bits: x.to_bits(), count, ..Report::default() },
+    match stored {
+        Ok((value, (bank, element))) => {
+            let (kind, bits) = match value {
+                Value::Int(z) => (0, z as u32),
+                Value::Real(x) => (1, x.to_bits()),
+            };
+            Report { kind, bits, count, bank: bank as u32, element: element as u32, ..Report::default() }
+        }
         Err(fault) => {
             set_flag(memory, fault);
             Report { answer: fault as u32, count, ..Report::default() }
@@ -33,8 +64,8 @@ pub fn compile(text: &[u8], code: &mut [u8]) -> Report {
     if code.len() < CODE_BYTES {
         return answered(10);
     }
-    match emit::compile(text, code) {
-        Ok(n) => Report { count: n as u32, ..Report::default() },
+    match emit::compile(text, 0) {
+        Ok(compiled) => Report { count: compiled.write(code) as u32, ..Report::default() },
         Err(refusal) => refused(refusal),
     }
 }
@@ -44,38 +75,74 @@ pub fn check(code: &[u8], n: usize) -> Report {
     answered(if accepts(code, n) { 0 } else { 15 })
 }
 
-#[inline(never)]
-pub fn run(code: &[u8], n: usize, memory: &mut [u8], target: &[u8], tick: u32) -> Report {
-    if memory.len() != image::BYTES {
-        return answered(1);
+// The bank of a target's text, with its element or the code of its index.
+#[inline]
+fn read_target(text: &[u8]) -> Option<(u8, Result<u8, Code>)> {
+    let (bank, rest) = image::target(text)?;
+    match rest {
+        [b'[', index @ .., b']'] if text.len() <= 1024 => Some((bank, Err(emit::compile(index, 1).ok()?))),
+        digits => Some((bank, Ok(element(bank, digits)?))),
     }
-    let Some(cell) = image::target(target) else {
+}
+
+pub fn compile_target(target: &[u8], index_code: &mut [u8]) -> Report {
+    if index_code.len() < CODE_BYTES {
+        return answered(10);
+    }
+    let Some((bank, place)) = read_target(target) else {
         return answered(2);
     };
-    if !accepts(code, n) {
-        return answered(15);
-    }
-    let (given, count) = machine::run(code, n, memory, tick);
-    settled(memory, cell, given, count)
+    let (element, count) = match place {
+        Ok(element) => (element, 0),
+        Err(code) => (0, code.write(index_code)),
+    };
+    Report { bank: bank as u32, element: element as u32, count: count as u32, ..Report::default() }
 }
 
 #[inline(never)]
-pub fn compile_and_run(target: &[u8], text: &[u8], memory: &mut [u8], code: &mut [u8], tick: u32) -> Report {
+pub fn run(code: &[u8], n: usize, memory: &mut [u8], target: &Target, tick: u32) -> Report {
     if memory.len() != image::BYTES {
         return answered(1);
     }
-    if code.len() < CODE_BYTES {
+    let to = match image::target(target.text) {
+        None => return answered(2),
+        Some((bank, [])) => Destination::Indexed(bank, target.index_code, target.index_instructions),
+        Some((bank, digits)) => match element(bank, digits) {
+            None => return answered(2),
+            Some(element) => Destination::Cell(bank, element),
+        },
+    };
+    if !accepts(code, n) || matches!(to, Destination::Indexed(_, index, k) if !accepts(index, k)) {
+        return answered(15);
+    }
+    let (given, count) = machine::run(code, n, memory, tick);
+    settled(memory, to, given, count, tick)
+}
+
+#[inline(never)]
+pub fn compile_and_run(target: &[u8], text: &[u8], memory: &mut [u8], codes: [&mut [u8]; 2], tick: u32) -> Report {
+    let [code, index_code] = codes;
+    if memory.len() != image::BYTES {
+        return answered(1);
+    }
+    if code.len() < CODE_BYTES || index_code.len() < CODE_BYTES {
         return answered(10);
     }
-    let Some(cell) = image::target(target) else {
+    let Some((bank, place)) = read_target(target) else {
         return answered(2);
     };
-    match emit::compile(text, code) {
-        Ok(n) => {
-            // just compiled, so there is nothing to check
-            let (given, count) = machine::run(code, n, memory, tick);
-            settled(memory, cell, given, count)
+    let n = match emit::compile(text, 0) {
+        Ok(compiled) => compiled.write(code),
+        Err(refusal) => return refused(refusal),
+    };
+    let to = match place {
+        Ok(element) => Destination::Cell(bank, element),
+        Err(compiled) => {
+            let k = compiled.write(index_code);
+            Destination::Indexed(bank, index_code, k)
         }
-        Err(refusal) => refused(refusal),
-    }
+    };
+    // just compiled, so there is nothing to check
+    let (given, count) = machine::run(code, n, memory, tick);
+    settled(memory, to, given, count, tick)
 }

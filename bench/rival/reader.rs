@@ -4,14 +4,15 @@
 use super::emit::Code;
 use super::op;
 use super::tokens::{kind_of, Function, Read, Refusal, Scanner, Token};
+use super::totals::{match_kind, total_kind, Range};
 use super::values::joined;
 use super::values::Kind::{self, Int, Real};
 
 struct Reader<'a> {
     ahead: Scanner<'a>,
     code: &'a mut Code,
-    // the first operator with an operand of a wrong kind
-    wrong: Option<usize>,
+    // the first operator with an operand of a wrong kind, or the count of a bad range
+    wrong: Option<Refusal>,
 }
 
 const LOOSEST: u8 = 11;
@@ -26,8 +27,14 @@ impl Reader<'_> {
         self.ahead.advance()
     }
 
+    fn wrong(&mut self, answer: u32, place: usize) {
+        if self.wrong.is_none_or(|first| place < first.place) {
+            self.wrong = Some(Refusal { answer, place });
+        }
+    }
+
     fn wrong_at(&mut self, place: usize) {
-        self.wrong = Some(self.wrong.map_or(place, |p| p.min(place)));
+        self.wrong(9, place);
     }
 
     fn expression(&mut self, open: u8, loosest: u8) -> Read<Kind> {
@@ -150,8 +157,10 @@ impl Reader<'_> {
         if !matches!(self.ahead.token, Token::Open) {
             return self.refused(7);
         }
-        if let Function::Tick = function {
-            return self.clock(open);
+        match function {
+            Function::Tick => return self.clock(open),
+            Function::Total(operator) => return self.total(open, operator),
+            _ => {}
         }
         let first = self.bracket(open)?;
         let kind = match function {
@@ -176,8 +185,14 @@ impl Reader<'_> {
                 self.code.choose(gap, first, second);
                 joined(first, second)
             }
-            // the other one has no argument
-            Function::Since | Function::Tick => {
+            Function::Match(operator) => {
+                self.comma()?;
+                let range = self.range()?;
+                self.code.matching(operator, range);
+                match_kind(operator, range.bank)
+            }
+            // the other two have no argument
+            Function::Since | Function::Tick | Function::Total(_) => {
                 self.code.elapsed();
                 if first == Real {
                     self.wrong_at(place);
@@ -197,6 +212,39 @@ impl Reader<'_> {
         Ok(Int)
     }
 
+    fn total(&mut self, open: u8, operator: u8) -> Read<Kind> {
+        self.opener(open)?;
+        let range = self.range()?;
+        self.code.total(operator, range);
+        self.close()?;
+        Ok(total_kind(operator, range.bank))
+    }
+
+    // The first cell ahead, a comma and the count. A bad range is noted, and its first cell stands for it.
+    fn range(&mut self) -> Read<Range> {
+        let Token::Cell(bank, first) = self.ahead.token else {
+            return self.refused(7);
+        };
+        self.advance()?;
+        self.comma()?;
+        let Token::Number(Int, count) = self.ahead.token else {
+            return self.refused(7);
+        };
+        let range = Range::new(bank, first as u32, count);
+        if range.is_none() {
+            self.wrong(6, self.ahead.place);
+        }
+        self.advance()?;
+        Ok(range.unwrap_or(Range::one(bank)))
+    }
+
+    fn comma(&mut self) -> Read<()> {
+        if !matches!(self.ahead.token, Token::Comma) {
+            return self.refused(7);
+        }
+        self.advance()
+    }
+
     fn opener(&mut self, open: u8) -> Read<()> {
         if open == MOST_OPEN {
             return self.refused(8);
@@ -211,10 +259,7 @@ impl Reader<'_> {
     }
 
     fn argument(&mut self, open: u8) -> Read<Kind> {
-        if !matches!(self.ahead.token, Token::Comma) {
-            return self.refused(7);
-        }
-        self.advance()?;
+        self.comma()?;
         self.expression(open + 1, LOOSEST)
     }
 
@@ -225,9 +270,9 @@ impl Reader<'_> {
         self.advance()
     }
 
-    fn formula(&mut self) -> Read<()> {
+    fn formula(&mut self, open: u8) -> Read<()> {
         self.advance()?;
-        self.expression(0, LOOSEST)?;
+        self.expression(open, LOOSEST)?;
         if !matches!(self.ahead.token, Token::End) {
             return self.refused(7);
         }
@@ -243,17 +288,14 @@ impl Reader<'_> {
     }
 }
 
-/// Writes the code of a formula, or says why the text is none; then a part of it is written.
-pub fn read(text: &[u8], code: &mut Code) -> Result<(), Refusal> {
+/// Writes the code of a formula behind so many open brackets, or says why the text is none; then a part of it is written.
+pub fn read(text: &[u8], open: u8, code: &mut Code) -> Result<(), Refusal> {
     if text.is_empty() || text.len() > 1024 {
         return Err(Refusal { answer: 3, place: 0 });
     }
     let mut reader = Reader { ahead: Scanner::new(text), code, wrong: None };
-    match reader.formula() {
-        Ok(()) => match reader.wrong {
-            Some(place) => Err(Refusal { answer: 9, place }),
-            None => Ok(()),
-        },
+    match reader.formula(open) {
+        Ok(()) => reader.wrong.map_or(Ok(()), Err),
         Err(refusal) if refusal.answer < 7 => Err(refusal),
         Err(refusal) => reader.rest().and(Err(refusal)),
     }

@@ -12,6 +12,9 @@ pub enum Function {
     If,
     Tick,
     Since,
+    /// These end with a first cell and a count.
+    Total(u8),
+    Match(u8),
 }
 
 #[derive(Clone, Copy)]
@@ -58,6 +61,12 @@ pub fn word(run: &[u8]) -> Option<Token> {
         b"IF" => return Some(Token::Name(Function::If)),
         b"TICKms" => return Some(Token::Name(Function::Tick)),
         b"SINCE" => return Some(Token::Name(Function::Since)),
+        b"SUMR" => return Some(Token::Name(Function::Total(op::SUM))),
+        b"AVGR" => return Some(Token::Name(Function::Total(op::AVERAGE))),
+        b"MAXR" => return Some(Token::Name(Function::Total(op::GREATEST))),
+        b"MINR" => return Some(Token::Name(Function::Total(op::LEAST))),
+        [b'C', b'O', b'U', b'N', b'T', b'I', b'F', test @ ..] => return test_of(test, op::COUNT_WHERE),
+        [b'S', b'U', b'M', b'I', b'F', test @ ..] => return test_of(test, op::SUM_WHERE),
         _ => {}
     }
     let bank = bank(run[0])?;
@@ -65,6 +74,20 @@ pub fn word(run: &[u8]) -> Option<Token> {
         return Some(Token::Bank(bank));
     }
     Some(Token::Cell(bank, element(bank, &run[1..])?))
+}
+
+// COUNTIF or SUMIF with a test.
+fn test_of(test: &[u8], operator: u8) -> Option<Token> {
+    let test = match test {
+        b"EQ" => 0,
+        b"NE" => 1,
+        b"GE" => 2,
+        b"GT" => 3,
+        b"LE" => 4,
+        b"LT" => 5,
+        _ => return None,
+    };
+    Some(Token::Name(Function::Match(operator + test)))
 }
 
 /// The token of a numeral: digits, a real, or hexadecimal digits behind `0x`.

@@ -71,12 +71,12 @@ pub fn joined(a: Kind, b: Kind) -> Kind {
     }
 }
 
-fn exact(z: Option<i32>) -> Outcome {
+pub fn exact(z: Option<i32>) -> Outcome {
     z.map(Int).ok_or(Overflow)
 }
 
 // No operation of two finite singles gives a NaN where the divisor is not zero.
-fn finite(x: f32) -> Outcome {
+pub fn finite(x: f32) -> Outcome {
     if x.is_finite() {
         Ok(Real(x))
     } else {

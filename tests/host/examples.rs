@@ -2,13 +2,14 @@
 //!
 //! In a block ```cells a line `R1 = 2.5` says what a cell holds in the examples that follow, and `tick = 704` their tick, which
 //! is 0 before. In any other block a line with an arrow is an example: `EXPR -> 64` (an integer), `EXPR -> 3.5` (a real), `EXPR -> V0 = 0` (the cell after the
-//! store), `EXPR -> answer 12` or `EXPR -> answer 7 at 4` (the place).
+//! store), `EXPR -> answer 12` or `EXPR -> answer 7 at 4` (the place). Before the result a target can stand, as in
+//! `EXPR -> D[V2]: D6 = 0`.
 
 use crate::library::{self, Lent};
 use crate::reference::memory::{cell_name, Bank};
 use crate::reference::operations::{compile_and_run, walk, Report};
 use crate::reference::program::{output, read_input};
-use crate::reference::text::{tokens, Token};
+use crate::reference::text::{tokens, Function, Placed, Token};
 
 #[derive(Default)]
 pub struct Examples {
@@ -59,7 +60,8 @@ impl Examples {
     fn try_one(&mut self, line: &str) -> Result<(), String> {
         let Some((expr, result)) = line.rsplit_once(" -> ") else { return Ok(()) };
         let stated = stated(result).ok_or(format!("no result: {line}"))?;
-        let case = format!("{}target={}\nexpr={expr}\n", self.cells_of(expr), stated.target);
+        let cells = self.cells_of(&[expr, &stated.target]);
+        let case = format!("{cells}target={}\nexpr={expr}\n", stated.target);
         for operation in [compile_and_run, through_library] {
             let given = output(read_input(case.as_bytes()), operation, self.tick);
             if given != stated.output {
@@ -73,11 +75,13 @@ impl Examples {
         Ok(())
     }
 
-    // The lines of the cells that an expression can read.
-    fn cells_of(&self, expr: &str) -> String {
-        let tokens = tokens(expr.as_bytes()).unwrap_or_default();
+    // The lines of the cells that texts can read.
+    fn cells_of(&self, texts: &[&str]) -> String {
+        let tokens: Vec<Placed> = texts.iter().flat_map(|text| tokens(text.as_bytes()).unwrap_or_default()).collect();
+        let totals = tokens.iter().any(|t| matches!(t.token, Token::Function(Function::Total(_) | Function::Matching(..))));
         let read = |name: &str| {
             tokens.iter().any(|t| match t.token {
+                Token::Cell(bank, _) if totals => name.as_bytes()[0] == bank.letter(),
                 Token::Cell(bank, element) => cell_name(name.as_bytes()) == Some((bank, Some(element))),
                 Token::Bank(bank) => name.as_bytes()[0] == bank.letter(),
                 _ => false,
@@ -87,10 +91,10 @@ impl Examples {
     }
 }
 
-fn through_library(target: &[u8], expr: &[u8], memory: &mut [u8], code: &mut [u8], tick: u32) -> Report {
-    let (mut lent_memory, mut lent_code) = (Lent::new(memory, 0), Lent::new(code, 0));
+fn through_library(target: &[u8], expr: &[u8], memory: &mut [u8], codes: [&mut [u8]; 2], tick: u32) -> Report {
+    let (mut lent_memory, [mut code, mut index_code]) = (Lent::new(memory, 0), codes.map(|code| Lent::new(code, 0)));
     let (target, expr) = (Lent::new(target, 0), Lent::new(expr, 0));
-    let report = library::compile_and_run(&target, &expr, &mut lent_memory, &mut lent_code, tick);
+    let report = library::compile_and_run(&target, &expr, &mut lent_memory, [&mut code, &mut index_code], tick);
     memory.copy_from_slice(lent_memory.content());
     report
 }
@@ -105,6 +109,9 @@ fn pattern(decimal: &str) -> Option<String> {
 }
 
 fn stated(result: &str) -> Option<Stated> {
+    if let Some((target, result)) = result.split_once(": ") {
+        return Some(Stated { target: target.into(), ..stated(result)? });
+    }
     if let Some(answer) = result.strip_prefix("answer ") {
         let (answer, place) = answer.split_once(" at ").unwrap_or((answer, "0"));
         return Some(refused(answer.parse().ok()?, place.parse().ok()?));

@@ -42,7 +42,7 @@ impl Lent {
 }
 
 // What a report holds before the call: every word must be written.
-const UNWRITTEN: Report = Report { answer: 77, place: 77, kind: 77, bits: 77, count: 77 };
+const UNWRITTEN: Report = Report { answer: 77, place: 77, kind: 77, bits: 77, count: 77, bank: 77, element: 77 };
 
 // Each call lends what the header asks for: readable or writable bytes of the given length that do not overlap.
 
@@ -60,24 +60,42 @@ pub fn check(code: &Lent, instructions: usize) -> Report {
     report
 }
 
-pub fn run(code: &Lent, instructions: usize, memory: &mut Lent, target: &Lent, tick: u32) -> Report {
+/// Code that is lent to be run.
+pub struct Code<'a> {
+    pub lent: &'a Lent,
+    pub instructions: usize,
+}
+
+#[rustfmt::skip]
+pub fn run(code: Code, memory: &mut Lent, target: &Lent, index_code: Code, tick: u32) -> Report {
     let mut report = UNWRITTEN;
-    let (code, target, memory) = (code.lend(), target.lend(), memory.lend_to_write());
+    let (instructions, index_instructions) = (code.instructions, index_code.instructions);
+    let (code, target, index, memory) = (code.lent.lend(), target.lend(), index_code.lent.lend(), memory.lend_to_write());
     unsafe {
-        formula_run(code.0, code.1, instructions, memory.0, memory.1, target.0, target.1, tick, &mut report);
+        formula_run(
+            code.0, code.1, instructions, memory.0, memory.1, target.0, target.1, index.0, index.1, index_instructions, tick,
+            &mut report,
+        );
     }
     report
 }
 
 #[rustfmt::skip]
-pub fn compile_and_run(target: &Lent, expr: &Lent, memory: &mut Lent, code: &mut Lent, tick: u32) -> Report {
+pub fn compile_and_run(target: &Lent, expr: &Lent, memory: &mut Lent, codes: [&mut Lent; 2], tick: u32) -> Report {
     let mut report = UNWRITTEN;
     let (target, expr) = (target.lend(), expr.lend());
-    let (memory, code) = (memory.lend_to_write(), code.lend_to_write());
+    let (memory, [code, index]) = (memory.lend_to_write(), codes.map(Lent::lend_to_write));
     unsafe {
         formula_compile_and_run(
-            target.0, target.1, expr.0, expr.1, memory.0, memory.1, code.0, code.1, tick, &mut report,
+            target.0, target.1, expr.0, expr.1, memory.0, memory.1, code.0, code.1, index.0, index.1, tick, &mut report,
         );
     }
+    report
+}
+
+pub fn compile_target(target: &Lent, index_code: &mut Lent) -> Report {
+    let mut report = UNWRITTEN;
+    let (target, index) = (target.lend(), index_code.lend_to_write());
+    unsafe { formula_compile_target(target.0, target.1, index.0, index.1, &mut report) };
     report
 }

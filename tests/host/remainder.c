@@ -129,6 +129,7 @@ static unsigned test_function(const struct mode *mode)
 /* ---- the operator, where it gives no fault ---- */
 
 static uint8_t memory[FORMULA_MEMORY_BYTES], code[FORMULA_CODE_BYTES];
+static const uint8_t no_index[1];
 static uint32_t instructions;
 
 static void compile_operator(void)
@@ -145,7 +146,7 @@ static unsigned test_operator(void)
         int fault = (dividends[i] & INFINITE) == INFINITE || (divisors[i] & INFINITE) == INFINITE || (divisors[i] & ~SIGN) == 0;
         memcpy(memory + FORMULA_R, &dividends[i], 4);
         memcpy(memory + FORMULA_R + 4, &divisors[i], 4);
-        formula_run(code, sizeof code, instructions, memory, sizeof memory, (const uint8_t *)"R2", 2, 0, &report);
+        formula_run(code, sizeof code, instructions, memory, sizeof memory, (const uint8_t *)"R2", 2, no_index, 0, 0, 0, &report);
         found[i] = fault ? expected[i] : report.bits;
         if (fault != (report.answer != FORMULA_DONE)) {
             printf("R0 %% R1: %08x %% %08x gives answer %u, %s\n", dividends[i], divisors[i], report.answer,

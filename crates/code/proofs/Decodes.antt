@@ -24,14 +24,21 @@ use Rattle.operators.specs.Tables.{unaryOps, binaryOps, unaryNumber, binaryNumb
 use Rattle.memory.specs.declared.Bank.{Bank}
 use Rattle.memory.specs.declared.Bank.the-variants.{X}
 use Rattle.memory.specs.Layout.{layoutOf}
-use Rattle.memory.specs.Numbers.{banks, bankNumber}
+use Rattle.memory.specs.declared.numbers.BankOf.{BankOf}
+use Rattle.memory.specs.declared.numbers.BankOf.the-variants as BankOf
+use Rattle.memory.specs.Numbers.{banks, bankNumbered, bankNumber}
+use Rattle.values.specs.declared.CompareOp.the-variants.{Eq}
+use Rattle.totals.specs.declared.TotalOp.the-variants as TotalOp
+use Rattle.totals.specs.declared.MatchOp.the-variants as MatchOp
+use Rattle.totals.specs.Totals.{goodRange}
+use Rattle.totals.specs.Numbers.{totalOps, matchOps, totalNumber, matchNumber}
 use Rattle.code.specs.declared.Instr.{Instr}
-use Rattle.code.specs.declared.Instr.the-variants.{Load, LoadIndexed, Unary, Binary, Tick, Since, Unknown}
-use Rattle.code.specs.Instructions.{PUSH-INT, PUSH-REAL, LOAD, LOAD-INDEXED, UNARY, BINARY}
-use Rattle.code.specs.Instructions.{ifZero, finiteOnly, pushInt, pushReal, loadElement, loadIndexed, applyUnary, applyBinary}
+use Rattle.code.specs.declared.Instr.the-variants.{Load, LoadIndexed, Unary, Binary, Tick, Since, Total, Match, Unknown}
+use Rattle.code.specs.Instructions.{PUSH-INT, PUSH-REAL, LOAD, LOAD-INDEXED, UNARY, BINARY, TOTAL, MATCH}
+use Rattle.code.specs.Instructions.{ifZero, finiteOnly, pushInt, pushReal, loadElement, loadIndexed, applyUnary, applyBinary, rangeBank, rangeFirst, rangeCount, overRange, ranging, applyTotal, applyMatch}
 use Rattle.code.specs.Instructions.{Row, rows, page, lookup, instruction, opcodeOf, wordOf, instructionOf}
-use Rattle.code.specs.Encode.{joinWord, codeWord, Encodable, push-int, push-real, load, load-indexed, unary, binary, jump, jump-if, push-tick, since}
-use Rattle.code.proofs.Numbers.{bank-forth, unary-forth, binary-forth}
+use Rattle.code.specs.Encode.{joinWord, joinRange, codeWord, Encodable, push-int, push-real, load, load-indexed, unary, binary, jump, jump-if, push-tick, since, total, matching}
+use Rattle.code.proofs.Numbers.{bank-forth, unary-forth, binary-forth, total-forth, match-forth, bank-number}
 
 pub data Decodes (n : ℕ) : Instr → Type 0 where
   none : Decodes n Unknown
@@ -71,6 +78,22 @@ element b w h =
 alone : (o : ℕ) (i : Instr) → Encodable i → codeWord i ≡ joinWord o 0 → Right o (λ w. ifZero w i)
 alone o i e q w h = when (Decodes (joinWord o w)) (eqb w 0) i Unknown (λ g. one e (q ∙ ap (joinWord o) (sym (eqb-true w 0 g)))) none
 
+-- over a range, which the word has
+range-whole : (w b : ℕ) → b ≡ rangeBank w → joinRange b (rangeFirst w) (rangeCount w) ≡ w
+range-whole w b e = rw e (omega arith)
+
+ranges : (o : ℕ) (f : Bank → ℕ → ℕ → Instr) → ((b : Bank) (i n : ℕ) → T (goodRange b i n) → Encodable (f b i n))
+    → ((b : Bank) (i n : ℕ) → codeWord (f b i n) ≡ joinWord o (joinRange (bankNumber b) i n)) → Right o (ranging f)
+ranges o f e q w h = by (bankNumbered (rangeBank w)) refl
+  where
+    by : (x : BankOf) → bankNumbered (rangeBank w) ≡ x → Decodes (joinWord o w) (overRange f x (rangeFirst w) (rangeCount w))
+    by (BankOf.Is b) is =
+        when (Decodes (joinWord o w)) (goodRange b (rangeFirst w) (rangeCount w)) (f b (rangeFirst w) (rangeCount w)) Unknown
+        (λ g. one (e b (rangeFirst w) (rangeCount w) (rw g tt))
+        (q b (rangeFirst w) (rangeCount w) ∙ ap (joinWord o) (range-whole w (bankNumber b) (bank-number (rangeBank w) b is))))
+        none
+    by BankOf.Nothing is = none
+
 -- ---- the page
 data Rights : List Row → Type 0 where
   end : Rights []
@@ -92,8 +115,12 @@ page-right =
     (rows-right bankNumber X LOAD-INDEXED loadIndexed (λ b. alone _ (LoadIndexed b) (load-indexed b) refl)
     (rows-right unaryNumber Neg UNARY applyUnary (λ o. alone _ (Unary o) (unary o) refl)
     (rows-right binaryNumber (Arith Add) BINARY applyBinary (λ o. alone _ (Binary o) (binary o) refl)
+    (rows-right totalNumber TotalOp.Sum TOTAL applyTotal (λ o. ranges _ (Total o) (total o) (λ b i n. refl))
+    (rows-right matchNumber (MatchOp.Count Eq) MATCH applyMatch (λ o. ranges _ (Match o) (matching o) (λ b i n. refl))
     (next integer (next real (next (λ w h. one (jump w h) refl) (next (λ w h. one (jump-if false w h) refl) (next (λ w h. one (jump-if true w h) refl)
     (next (alone _ Tick push-tick refl) (next (alone _ Since since refl) end)))))))
+    0 matchOps (λ n h. match-forth n h ∙ sym (zero-add n)))
+    0 totalOps (λ n h. total-forth n h ∙ sym (zero-add n)))
     0 binaryOps (λ n h. binary-forth n h ∙ sym (zero-add n)))
     0 unaryOps (λ n h. unary-forth n h ∙ sym (zero-add n)))
     0 banks (λ n h. bank-forth n h ∙ sym (zero-add n)))

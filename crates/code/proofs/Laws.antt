@@ -3,10 +3,10 @@ use mathlib.Core.Path.{_≡_, refl, ap, _∙_}
 use mathlib.Core.Logic.{_≢_, _⊎_, inl, inr}
 use mathlib.Core.Bool.{Bool, true, false}
 use mathlib.Core.List.{List}
-use Prim.Native.Nat.{ℕ, _+_, _*_, _/_, _^_, _≤_, _<_}
+use Prim.Native.Nat.{ℕ, _+_, _*_, _/_, _%_, _^_, _≤_, _<_}
 use native.Mathlib.Nat.{mod-eq-of-lt, lt-of-lt-of-le, le-trans}
 use native.Mathlib.Omega.{arith}
-use lib.Dec.{ltb, lit<, lit≤}
+use lib.Dec.{T, ltb, lit<, lit≤}
 use lib.IntN.{ℤ, pos, negsuc}
 use lib.ListN.{length, take, drop}
 use lib.Seq.{take-all}
@@ -28,15 +28,20 @@ use Rattle.operators.specs.declared.tables.BinaryOf.{BinaryOf}
 use Rattle.memory.specs.Layout.{layoutOf}
 use Rattle.memory.specs.Numbers.{bankNumber}
 use Rattle.operators.specs.Tables.{unaryNumber, binaryNumber}
+use Rattle.totals.specs.declared.tables.TotalOf.{TotalOf}
+use Rattle.totals.specs.declared.tables.MatchOf.{MatchOf}
+use Rattle.totals.specs.Totals.{goodRange}
+use Rattle.totals.specs.Numbers.{totalNumber, matchNumber}
+use Rattle.totals.proofs.Laws.{total-laws}
 use Rattle.code.specs.declared.Instr.{Instr}
-use Rattle.code.specs.declared.Instr.the-variants.{PushInt, Unknown}
-use Rattle.code.specs.Instructions.{PUSH-INT, PUSH-REAL, JUMP, JUMP-IF-FALSE, JUMP-IF-TRUE, TICK, SINCE, LOAD, LOAD-INDEXED, UNARY, BINARY}
-use Rattle.code.specs.Instructions.{finiteOnly, loadIndexed, instruction, opcodeOf, wordOf, instructionOf, decodeAt}
-use Rattle.code.specs.private.Classes.{ofBank, ofUnary, ofBinary}
-use Rattle.code.specs.Encode.{joinWord, codeWord, encode, Encodable, push-int, push-real, load, load-indexed, unary, binary, jump, jump-if, push-tick, since, EncodeLaws}
+use Rattle.code.specs.declared.Instr.the-variants.{PushInt, Total, Match, Unknown}
+use Rattle.code.specs.Instructions.{PUSH-INT, PUSH-REAL, JUMP, JUMP-IF-FALSE, JUMP-IF-TRUE, TICK, SINCE, LOAD, LOAD-INDEXED, UNARY, BINARY, TOTAL, MATCH}
+use Rattle.code.specs.Instructions.{finiteOnly, loadIndexed, rangeBank, rangeFirst, rangeCount, ranging, instruction, opcodeOf, wordOf, instructionOf, decodeAt}
+use Rattle.code.specs.private.Classes.{ofBank, ofUnary, ofBinary, ofTotal, ofMatch}
+use Rattle.code.specs.Encode.{joinWord, joinRange, codeWord, encode, Encodable, push-int, push-real, load, load-indexed, unary, binary, jump, jump-if, push-tick, since, total, matching, EncodeLaws}
 use Rattle.code.proofs.Finite.{finite-kept}
-use Rattle.code.proofs.Numbers.{bank-back, unary-back, binary-back, bank-below, unary-below, binary-below}
-use Rattle.code.proofs.Page.{load-class, indexed-class, unary-class, binary-class}
+use Rattle.code.proofs.Numbers.{bank-back, unary-back, binary-back, bank-below, unary-below, binary-below, total-back, match-back, total-below, match-below}
+use Rattle.code.proofs.Page.{load-class, indexed-class, unary-class, binary-class, total-class, match-class}
 use Rattle.code.proofs.Fetches.{eight-below}
 use Rattle.code.proofs.Parts.{decode-beyond, decode-within}
 use Rattle.code.proofs.Decodes.{Decodes, none, one, number-decodes}
@@ -63,6 +68,25 @@ elements-most R = lit≤ tt
 
 element-below : (b : Bank) (i : ℕ) → i < layoutOf b .elements → i < 2 ^ 32
 element-below b i h = lt-of-lt-of-le h (le-trans (elements-most b) (lit≤ tt))
+
+-- the word of a good range has its parts
+range-decoded : (f : Bank → ℕ → ℕ → Instr) (b : Bank) (i n : ℕ) → T (goodRange b i n) → ranging f (joinRange (bankNumber b) i n) ≡ f b i n
+range-decoded f b i n g =
+    let small = total-laws .range-small b i n g .1 in
+    let some = total-laws .range-small b i n g .0 in
+    let few = bank-below b in
+    let bank : rangeBank (joinRange (bankNumber b) i n) ≡ bankNumber b = omega arith in
+    let upper : joinRange (bankNumber b) i n / 2 ^ 8 ≡ i + 2 ^ 8 * n = omega arith in
+    let lower : (i + 2 ^ 8 * n) % 2 ^ 8 ≡ i = omega arith in
+    let first : rangeFirst (joinRange (bankNumber b) i n) ≡ i = ap (λ (m : ℕ). m % 2 ^ 8) upper ∙ lower in
+    let count : rangeCount (joinRange (bankNumber b) i n) ≡ n = omega arith in
+    rw (bank, first, count, bank-back b, is-true (goodRange b i n) g)
+
+range-below : (b : Bank) (i n : ℕ) → T (goodRange b i n) → joinRange (bankNumber b) i n < 2 ^ 32
+range-below b i n g =
+    let small = total-laws .range-small b i n g .1 in
+    let few = bank-below b in
+    omega arith
 
 pub word-decoded : (i : Instr) → Encodable i → instructionOf (codeWord i) ≡ i
 unfolding instruction
@@ -91,6 +115,16 @@ word-decoded _ (jump-if false d h) = joined-parts JUMP-IF-FALSE d (lit< tt)
 word-decoded _ (jump-if true d h) = joined-parts JUMP-IF-TRUE d (lit< tt)
 word-decoded _ push-tick = joined-parts TICK 0 (lit< tt)
 word-decoded _ since = joined-parts SINCE 0 (lit< tt)
+word-decoded _ (total o b i n g) =
+    let few = total-below o in
+    let w = joinRange (bankNumber b) i n in
+    joined-parts (TOTAL + totalNumber o) w (omega arith) ∙ total-class (totalNumber o) w (omega arith)
+    ∙ ap (λ (u : TotalOf). ofTotal u w) (total-back o) ∙ range-decoded (Total o) b i n g
+word-decoded _ (matching o b i n g) =
+    let few = match-below o in
+    let w = joinRange (bankNumber b) i n in
+    joined-parts (MATCH + matchNumber o) w (omega arith) ∙ match-class (matchNumber o) w (omega arith)
+    ∙ ap (λ (u : MatchOf). ofMatch u w) (match-back o) ∙ range-decoded (Match o) b i n g
 
 pub word-below : (i : Instr) → Encodable i → codeWord i < 2 ^ 64
 word-below _ (push-int z t) = let low = low-below z in omega arith
@@ -104,6 +138,8 @@ word-below _ (jump-if false d h) = omega arith
 word-below _ (jump-if true d h) = omega arith
 word-below _ push-tick = omega arith
 word-below _ since = omega arith
+word-below _ (total o b i n g) = let few = total-below o in let low = range-below b i n g in omega arith
+word-below _ (matching o b i n g) = let few = match-below o in let low = range-below b i n g in omega arith
 
 decoded : (i : Instr) → Encodable i → decodeAt (encode i) 0 ≡ i
 decoded i e =

@@ -23,7 +23,15 @@ use Rattle.memory.specs.declared.numbers.BankOf.the-variants as BankOf
 use Rattle.operators.specs.declared.tables.UnaryOf.the-variants as UnaryOf
 use Rattle.operators.specs.declared.tables.BinaryOf.the-variants as BinaryOf
 use Rattle.operators.specs.Tables.{unaryOps, binaryOps, unaryOf, binaryOf, unaryNumber, binaryNumber}
+use Rattle.memory.specs.declared.numbers.BankOf.{BankOf}
 use Rattle.memory.specs.Numbers.{banks, bankNumbered, bankNumber}
+use Rattle.totals.specs.declared.TotalOp.{TotalOp}
+use Rattle.totals.specs.declared.TotalOp.the-variants as TotalOp
+use Rattle.totals.specs.declared.MatchOp.{MatchOp}
+use Rattle.totals.specs.declared.MatchOp.the-variants as MatchOp
+use Rattle.totals.specs.declared.tables.TotalOf.the-variants as TotalOf
+use Rattle.totals.specs.declared.tables.MatchOf.the-variants as MatchOf
+use Rattle.totals.specs.Numbers.{totalOps, matchOps, totalOf, matchOf, totalNumber, matchNumber}
 
 -- ---- the operand of its number
 pub bank-back : (b : Bank) → bankNumbered (bankNumber b) ≡ BankOf.Is b
@@ -66,6 +74,26 @@ binary-back (Bits Or) = refl
 binary-back (Choice Max) = refl
 binary-back (Choice Min) = refl
 
+pub total-back : (o : TotalOp) → totalOf (totalNumber o) ≡ TotalOf.Is o
+total-back TotalOp.Sum = refl
+total-back TotalOp.Average = refl
+total-back (TotalOp.Choice Max) = refl
+total-back (TotalOp.Choice Min) = refl
+
+pub match-back : (o : MatchOp) → matchOf (matchNumber o) ≡ MatchOf.Is o
+match-back (MatchOp.Count Eq) = refl
+match-back (MatchOp.Count Ne) = refl
+match-back (MatchOp.Count Ge) = refl
+match-back (MatchOp.Count Gt) = refl
+match-back (MatchOp.Count Le) = refl
+match-back (MatchOp.Count Lt) = refl
+match-back (MatchOp.Sum Eq) = refl
+match-back (MatchOp.Sum Ne) = refl
+match-back (MatchOp.Sum Ge) = refl
+match-back (MatchOp.Sum Gt) = refl
+match-back (MatchOp.Sum Le) = refl
+match-back (MatchOp.Sum Lt) = refl
+
 -- a number that has one is below the list's length
 found-below : {A : Type 0} (n m : ℕ) (x y z : A) → (y ≡ z → false ≡ true) → cond (ltb n m) x y ≡ z → n < m
 found-below n m x y z other = by (ltb n m) refl
@@ -82,6 +110,12 @@ unary-below o = found-below (unaryNumber o) 8 _ UnaryOf.Nothing (UnaryOf.Is o) (
 
 pub binary-below : (o : BinaryOp) → binaryNumber o < 20
 binary-below o = found-below (binaryNumber o) 20 _ BinaryOf.Nothing (BinaryOf.Is o) (λ e. cc) (binary-back o)
+
+pub total-below : (o : TotalOp) → totalNumber o < 4
+total-below o = found-below (totalNumber o) 4 _ TotalOf.Nothing (TotalOf.Is o) (λ e. cc) (total-back o)
+
+pub match-below : (o : MatchOp) → matchNumber o < 12
+match-below o = found-below (matchNumber o) 12 _ MatchOf.Nothing (MatchOf.Is o) (λ e. cc) (match-back o)
 
 -- ---- the number of the operand at a place
 abbrev from : ℕ → ℕ → List ℕ
@@ -106,3 +140,17 @@ unary-forth = number-at unaryNumber unaryOps Neg refl
 
 pub binary-forth : (n : ℕ) → n < 20 → binaryNumber (getD binaryOps n (Arith Add)) ≡ n
 binary-forth = number-at binaryNumber binaryOps (Arith Add) refl
+
+pub total-forth : (n : ℕ) → n < 4 → totalNumber (getD totalOps n TotalOp.Sum) ≡ n
+total-forth = number-at totalNumber totalOps TotalOp.Sum refl
+
+pub match-forth : (n : ℕ) → n < 12 → matchNumber (getD matchOps n (MatchOp.Count Eq)) ≡ n
+match-forth = number-at matchNumber matchOps (MatchOp.Count Eq) refl
+
+-- the number of a bank that was found by its number
+pub bank-number : (n : ℕ) (b : Bank) → bankNumbered n ≡ BankOf.Is b → bankNumber b ≡ n
+bank-number n b = by (ltb n 6) refl
+  where
+    by : (t : Bool) → ltb n 6 ≡ t → cond t (BankOf.Is (getD banks n X)) BankOf.Nothing ≡ BankOf.Is b → bankNumber b ≡ n
+    by true e q = let same : getD banks n X ≡ b = cc in rw same at (bank-forth n (ltb-true n 6 e))
+    by false e q = let z : _≡_ {A = Bool} false true = cc in absurd (false≢true z)

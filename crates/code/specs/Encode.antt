@@ -20,13 +20,21 @@ use Rattle.memory.specs.declared.Bank.{Bank}
 use Rattle.memory.specs.Layout.{layoutOf}
 use Rattle.memory.specs.Numbers.{bankNumber}
 use Rattle.operators.specs.Tables.{unaryNumber, binaryNumber}
+use Rattle.totals.specs.declared.TotalOp.{TotalOp}
+use Rattle.totals.specs.declared.MatchOp.{MatchOp}
+use Rattle.totals.specs.Totals.{goodRange}
+use Rattle.totals.specs.Numbers.{totalNumber, matchNumber}
 use Rattle.code.specs.declared.Instr.{Instr}
-use Rattle.code.specs.declared.Instr.the-variants.{PushInt, PushReal, Load, LoadIndexed, Unary, Binary, Jump, JumpIf, Tick, Since, Unknown}
-use Rattle.code.specs.Instructions.{PUSH-INT, PUSH-REAL, JUMP, JUMP-IF-FALSE, JUMP-IF-TRUE, TICK, SINCE, LOAD, LOAD-INDEXED, UNARY, BINARY, decodeAt}
+use Rattle.code.specs.declared.Instr.the-variants.{PushInt, PushReal, Load, LoadIndexed, Unary, Binary, Jump, JumpIf, Tick, Since, Total, Match, Unknown}
+use Rattle.code.specs.Instructions.{PUSH-INT, PUSH-REAL, JUMP, JUMP-IF-FALSE, JUMP-IF-TRUE, TICK, SINCE, LOAD, LOAD-INDEXED, UNARY, BINARY, TOTAL, MATCH, decodeAt}
 
 -- the number of eight bytes, of an opcode and a word
 abbrev pub joinWord : ℕ → ℕ → ℕ
 joinWord o w = o + 2 ^ 32 * w
+
+-- the word of a range, of a bank's number, a first element and a count
+abbrev pub joinRange : ℕ → ℕ → ℕ → ℕ
+joinRange b i n = b + 2 ^ 8 * i + 2 ^ 16 * n
 
 -- the number of an instruction's eight bytes
 abbrev pub codeWord : Instr → ℕ
@@ -41,6 +49,8 @@ codeWord (JumpIf false d) = joinWord JUMP-IF-FALSE d
 codeWord (JumpIf true d) = joinWord JUMP-IF-TRUE d
 codeWord Tick = joinWord TICK 0
 codeWord Since = joinWord SINCE 0
+codeWord (Total o b i n) = joinWord (TOTAL + totalNumber o) (joinRange (bankNumber b) i n)
+codeWord (Match o b i n) = joinWord (MATCH + matchNumber o) (joinRange (bankNumber b) i n)
 codeWord Unknown = 0
 
 abbrev pub encode : Instr → List ℕ
@@ -58,6 +68,8 @@ pub data Encodable : Instr → Type 0 where
   jump-if : (t : Bool) (d : ℕ) → d < 2 ^ 32 → Encodable (JumpIf t d)
   push-tick : Encodable Tick
   since : Encodable Since
+  total : (o : TotalOp) (b : Bank) (i n : ℕ) → T (goodRange b i n) → Encodable (Total o b i n)
+  matching : (o : MatchOp) (b : Bank) (i n : ℕ) → T (goodRange b i n) → Encodable (Match o b i n)
 
 pub record EncodeLaws : Type 0 where
   -- decoding undoes encoding

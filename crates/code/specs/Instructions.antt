@@ -14,9 +14,15 @@ use Rattle.operators.specs.Tables.{unaryOps, binaryOps}
 use Rattle.words.specs.Words.{littleEndian}
 use Rattle.memory.specs.declared.Bank.{Bank}
 use Rattle.memory.specs.Layout.{layoutOf}
-use Rattle.memory.specs.Numbers.{banks}
+use Rattle.memory.specs.declared.numbers.BankOf.{BankOf}
+use Rattle.memory.specs.declared.numbers.BankOf.the-variants as BankOf
+use Rattle.memory.specs.Numbers.{banks, bankNumbered}
+use Rattle.totals.specs.declared.TotalOp.{TotalOp}
+use Rattle.totals.specs.declared.MatchOp.{MatchOp}
+use Rattle.totals.specs.Totals.{goodRange}
+use Rattle.totals.specs.Numbers.{totalOps, matchOps}
 use Rattle.code.specs.declared.Instr.{Instr}
-use Rattle.code.specs.declared.Instr.the-variants.{PushInt, PushReal, Load, LoadIndexed, Unary, Binary, Jump, JumpIf, Tick, Since, Unknown}
+use Rattle.code.specs.declared.Instr.the-variants.{PushInt, PushReal, Load, LoadIndexed, Unary, Binary, Jump, JumpIf, Tick, Since, Total, Match, Unknown}
 
 -- ---- the opcodes
 abbrev pub PUSH-INT : ℕ
@@ -53,6 +59,12 @@ UNARY = 96
 abbrev pub BINARY : ℕ
 BINARY = 128
 
+abbrev pub TOTAL : ℕ
+TOTAL = 160
+
+abbrev pub MATCH : ℕ
+MATCH = 192
+
 -- ---- the instruction of a word, behind its opcode
 -- the word must be 0
 abbrev pub ifZero : ℕ → Instr → Instr
@@ -87,6 +99,30 @@ pushTick w = ifZero w Tick
 abbrev pub applySince : ℕ → Instr
 applySince w = ifZero w Since
 
+-- the word of an instruction over a range: its lowest byte is the bank's number, the next the first element, the upper two the count
+abbrev pub rangeBank : ℕ → ℕ
+rangeBank w = w % 2 ^ 8
+
+abbrev pub rangeFirst : ℕ → ℕ
+rangeFirst w = w / 2 ^ 8 % 2 ^ 8
+
+abbrev pub rangeCount : ℕ → ℕ
+rangeCount w = w / 2 ^ 16
+
+-- "In the check, an instruction with such a count or range is not known" (paper 02, Ask 2)
+abbrev pub overRange : (Bank → ℕ → ℕ → Instr) → BankOf → ℕ → ℕ → Instr
+overRange f (BankOf.Is b) i n = cond (goodRange b i n) (f b i n) Unknown
+overRange f BankOf.Nothing i n = Unknown
+
+abbrev pub ranging : (Bank → ℕ → ℕ → Instr) → ℕ → Instr
+ranging f w = overRange f (bankNumbered (rangeBank w)) (rangeFirst w) (rangeCount w)
+
+abbrev pub applyTotal : TotalOp → ℕ → Instr
+applyTotal o w = ranging (Total o) w
+
+abbrev pub applyMatch : MatchOp → ℕ → Instr
+applyMatch o w = ranging (Match o) w
+
 -- ---- the page
 pub record Row : Type 0 where
   pub opcode : ℕ
@@ -108,7 +144,7 @@ unnumbered =
 abbrev pub page : List Row
 page =
     rows LOAD loadElement banks ++ (rows LOAD-INDEXED loadIndexed banks ++ (rows UNARY applyUnary unaryOps ++ (rows BINARY applyBinary binaryOps
-    ++ unnumbered)))
+    ++ (rows TOTAL applyTotal totalOps ++ (rows MATCH applyMatch matchOps ++ unnumbered)))))
 
 abbrev pub lookup : List Row → ℕ → ℕ → Instr
 lookup [] o w = Unknown

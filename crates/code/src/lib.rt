@@ -1,17 +1,20 @@
 // Instructions and their eight bytes. docs/INSTRUCTIONS.md is the page of them.
 ghost use mathlib.Core.Path.{_≡_};
 ghost use Prim.Native.Nat.{_<_};
-ghost use Rattle.code.specs.Instructions.{opcodeOf, wordOf, fetched};
-ghost use Rattle.code.specs.Encode.{joinWord};
-ghost use Rattle.code.specs.private.Classes.{singleClass, classOf, numberOf};
+ghost use Rattle.code.specs.Instructions.{opcodeOf, wordOf, rangeBank, rangeFirst, rangeCount, fetched};
+ghost use Rattle.code.specs.Encode.{joinWord, joinRange};
+ghost use Rattle.code.specs.private.Classes.{singleClass, rangeClass, classOf, numberOf};
 use memory::Bank;
 use operators::BinaryOp;
 use operators::UnaryOp;
+use totals::MatchOp;
+use totals::TotalOp;
 
 pub mod encoding;
 
 // A jump's number is how many instructions it skips after itself. JumpIf takes a value, and jumps if its truth is the one given.
-// Tick leaves the tick, and Since takes a value and leaves the tick less it.
+// Tick leaves the tick, and Since takes a value and leaves the tick less it. Total and Match go over a range of cells: a bank, its first
+// element and a count.
 pub enum Instr {
     PushInt(i32),
     PushReal(f32),
@@ -23,6 +26,8 @@ pub enum Instr {
     JumpIf(bool, u32),
     Tick,
     Since,
+    Total(TotalOp, Bank, u32, u32),
+    Match(MatchOp, Bank, u32, u32),
     Unknown,
 }
 
@@ -50,10 +55,19 @@ pub const UNARY: u32 = 96;
 
 pub const BINARY: u32 = 128;
 
+pub const TOTAL: u32 = 160;
+
+pub const MATCH: u32 = 192;
+
 const CLASS_SIZE: u32 = 32;
 
 // The word stands above the 32 bits of the opcode.
 const WORD: u64 = 0x1_0000_0000;
+
+// In the word of a range, the first element stands above the eight bits of the bank, and the count above its eight.
+const FIRST: u32 = 0x100;
+
+const COUNT: u32 = 0x1_0000;
 
 // What an instruction is, by its opcode.
 pub enum Class {
@@ -68,6 +82,8 @@ pub enum Class {
     LoadIndexed,
     Unary,
     Binary,
+    Total,
+    Match,
     Unknown,
 }
 
@@ -82,6 +98,32 @@ pub fn word_of(n: u64) -> u32
     ensures { λ r. ⌜ r ≡ wordOf n ⌝ }
 {
     (n / WORD) as u32
+}
+
+// The word of an instruction over a range, from its bank by number, its first element and its count.
+pub fn range_word(bank: u32, first: u32, count: u32) -> u32
+    requires { ⌜ (bank < 256) × (first < 256) × (count < 65536) ⌝ }
+    ensures { λ r. ⌜ r ≡ joinRange bank first count ⌝ }
+{
+    bank + FIRST * first + COUNT * count
+}
+
+pub fn range_bank(word: u32) -> u8
+    ensures { λ r. ⌜ r ≡ rangeBank word ⌝ }
+{
+    (word % FIRST) as u8
+}
+
+pub fn range_first(word: u32) -> u32
+    ensures { λ r. ⌜ r ≡ rangeFirst word ⌝ }
+{
+    word / FIRST % FIRST
+}
+
+pub fn range_count(word: u32) -> u32
+    ensures { λ r. ⌜ r ≡ rangeCount word ⌝ }
+{
+    word / COUNT
 }
 
 fn opcode_of(n: u64) -> u32
@@ -112,6 +154,20 @@ fn single(opcode: u32) -> Class
     }
 }
 
+// Of an opcode behind those of the binary operators.
+fn range_class(opcode: u32) -> Class
+    ensures { λ r. ⌜ r ≡ rangeClass opcode ⌝ }
+{
+    if opcode < MATCH {
+        return Class::Total;
+    }
+    if opcode < MATCH + CLASS_SIZE {
+        Class::Match
+    } else {
+        Class::Unknown
+    }
+}
+
 // The tests stand in the order of how often a class comes. Class has no data, so that a caller's match on it is one with the tests.
 pub fn class_of(n: u64) -> Class
     ensures { λ r. ⌜ r ≡ classOf (opcodeOf n) ⌝ }
@@ -121,11 +177,10 @@ pub fn class_of(n: u64) -> Class
         return single(o);
     }
     if BINARY <= o {
-        return if o < BINARY + CLASS_SIZE {
-            Class::Binary
-        } else {
-            Class::Unknown
-        };
+        if o < TOTAL {
+            return Class::Binary;
+        }
+        return range_class(o);
     }
     if o < LOAD_INDEXED {
         return Class::Load;

@@ -3,8 +3,8 @@ use Prim.Native.Nat.{ℕ, zero, suc, _+_, _^_, _≤_, _<_}
 use mathlib.Core.Bool.{Bool, true, false, not}
 use mathlib.Core.List.{List, [], _∷_, _++_}
 use native.Mathlib.Omega.{arith}
-use lib.Dec.{lit<}
-use lib.IntN.{pos}
+use lib.Dec.{T, lit<}
+use lib.IntN.{ℤ, pos}
 use lib.ListN.{length, length-append}
 use Rattle.values.specs.declared.Kind.{Kind}
 use Rattle.values.specs.declared.Kind.the-variants as K
@@ -14,17 +14,21 @@ use Rattle.operators.specs.declared.UnaryOp.{UnaryOp}
 use Rattle.operators.specs.declared.UnaryOp.the-variants.{ToReal}
 use Rattle.operators.specs.declared.BinaryOp.{BinaryOp}
 use Rattle.memory.specs.declared.Bank.{Bank}
+use Rattle.totals.specs.declared.TotalOp.{TotalOp}
+use Rattle.totals.specs.declared.MatchOp.{MatchOp}
+use Rattle.totals.specs.Totals.{goodRange, spanOf}
+use Rattle.totals.proofs.Laws.{total-laws}
 use Rattle.tokens.specs.declared.Token.the-variants.{Number, Cell}
 use Rattle.tokens.specs.Scan.{Tok}
 use Rattle.tokens.proofs.Known.{Known}
 use Rattle.tokens.proofs.Known as Known
 use Rattle.code.specs.declared.Instr.{Instr}
 use Rattle.code.specs.declared.Instr.the-variants.{Jump, JumpIf}
-use Rattle.code.specs.Encode.{Encodable, push-int, push-real, load, load-indexed, unary, binary, jump, jump-if, push-tick, since}
+use Rattle.code.specs.Encode.{Encodable, push-int, push-real, load, load-indexed, unary, binary, jump, jump-if, push-tick, since, total, matching}
 use Rattle.grammar.specs.Tree as Tree
 use Rattle.grammar.specs.Tree.{Tree, literal, cell, indexed, logic, choice, tick, treeKind}
 use Rattle.grammar.specs.Symbols.{Callee, of-one, of-two, of-choice, of-since, Arguments, argument, callTree}
-use Rattle.grammar.specs.Grammar.{Derives, number, name, index, parenthesis, call, clocked, prefixed, up, infixed, last, next, Formula}
+use Rattle.grammar.specs.Grammar.{Derives, number, name, index, parenthesis, call, Range, range, clocked, totalled, tested, prefixed, up, infixed, last, next, Formula}
 use Rattle.tree_code.specs.Code.{pushBool, truthTail, branchTail, branchTailSkip, codeOf}
 use Rattle.compiler.proofs.Each.{Each, none, some, each-append, each-first, each-rest, each-front, each-back}
 use Rattle.compiler.proofs.Scanned.{AllKnown}
@@ -84,6 +88,18 @@ on-tick : Fits tick
 unfolding codeOf
 on-tick = plain push-tick
 
+-- the count in the code gives a good range
+good-span : {b : Bank} {i : ℕ} → Known (Cell b i) → (z : ℤ) → T (goodRange b i (spanOf b i z))
+good-span (Known.cell b i h) z = total-laws .span-good b i z h
+
+on-total : (o : TotalOp) {b : Bank} {i u : ℕ} {z : ℤ} {w : List Tok} → Range b i z u w → AllKnown w → Fits (Tree.total u o b i z)
+unfolding codeOf
+on-total o (range {b = b} {i = i} {n = z} a c p r) e = plain (total o b i (spanOf b i z) (good-span (each-first e) z))
+
+on-matching : (o : MatchOp) (t : Tree) {b : Bank} {i u : ℕ} {z : ℤ} {w : List Tok} → Range b i z u w → AllKnown w → Fits t → Fits (Tree.matching u o t b i z)
+unfolding codeOf
+on-matching o t (range {b = b} {i = i} {n = z} a c p r) e f = follows (codeOf t) _ f (plain (matching o b i (spanOf b i z) (good-span (each-first e) z)))
+
 on-since : (p : ℕ) (t : Tree) → Fits t → Fits (Tree.since p t)
 unfolding codeOf
 on-since p t f = follows (codeOf t) _ f (plain since)
@@ -128,6 +144,8 @@ fits d = elim d as (λ l w t d. AllKnown w → Fits t) (λ m w ts a. AllKnown w 
   | parenthesis q {w} (d → f) ↦ λ e. f (each-front w _ (each-rest e))
   | call {c = c} {p} {ts = ts} q (a → g) ↦ λ e. on-call c p ts (g (each-rest (each-rest e)))
   | clocked r q ↦ λ e. on-tick
+  | totalled {o = o} q x ↦ λ e. on-total o x (each-rest (each-rest e))
+  | tested {o = o} c {w = w} {t = t} q (d → f) x ↦ λ e. on-matching o t x (each-rest (each-back w _ (each-rest (each-rest e)))) (f (each-front w _ (each-rest (each-rest e))))
   | prefixed {p = p} {o = o} {t = t} q (d → f) ↦ λ e. on-unary p o t (f (each-rest e))
   | up (d → f) ↦ f
   | infixed n p {w} {t = t} {u = u} q (d → f) (d′ → g) ↦ λ e. on-infix (infix-node n p t u) (f (each-front w _ e)) (g (each-rest (each-back w _ e)))

@@ -5,5 +5,6 @@ mod Meaning
 mod Steps
 mod Signing
 mod Climbing
+mod Ranging
 mod Calls
 mod Whole

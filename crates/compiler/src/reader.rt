@@ -9,6 +9,7 @@ ghost use lib.ListN.{length};
 ghost use Rattle.tokens.specs.Words.{functionAt};
 ghost use Rattle.token_table.specs.private.Table.{wordOperand, wordPlace, listed};
 ghost use Rattle.grammar.specs.Tree.{tick};
+ghost use Rattle.grammar.specs.Functions.{functionForm};
 ghost use Rattle.grammar.specs.Symbols.{loosest, closeParen};
 ghost use Rattle.grammar.specs.Parse.{ok, expect, mostOpen, enter, expression, operand, bracket, parseFrom};
 ghost use Rattle.text.specs.Judge.{judgeParse};
@@ -24,6 +25,8 @@ use draft::results;
 use grammar::functions;
 use token_table::classes;
 use tokens::symbols;
+
+mod ranges;
 
 // "more than eight open" is refused
 const MOST_OPEN: u8 = 8;
@@ -177,7 +180,25 @@ fn call(table: &[u64], draft: &mut [u64], at: usize, pc: usize, room: u8, w: u64
     arguments(table, draft, at, pc, room - 1, w)
 }
 
-// arguments: [ expression { , expression } ] ), behind the parenthesis at `opener`, and what the function makes of them
+// pair: expression , expression )
+fn pair(table: &[u64], draft: &mut [u64], opener: usize, pc: usize, room: u8, w: u64) -> u64
+    requires { ⌜ Fits (now table) opener pc × (opener < length (now table)) × (functionForm (wordOperand w) ≡ 2) ⌝ }
+    ensures { λ r. ⌜ Arguing w room (now (table .entry)) opener pc (now (draft .entry)) (now (draft .exit)) (readOf r) ⌝ }
+{
+    let first = enclosed(table, draft, opener + 1, pc, room, symbols::COMMA);
+    if !results::is_done(first) {
+        return first;
+    }
+    let next = results::next_of(first);
+    let end = results::end_of(first);
+    let last = enclosed(table, draft, next, end, room, symbols::CLOSE);
+    if !results::is_done(last) {
+        return last;
+    }
+    draft::paired(draft, token_table::operand_of(w), first, last)
+}
+
+// arguments: [ expression { , expression } ] ) | range | expression , range, behind the parenthesis at `opener`, and what the function makes of them
 fn arguments(table: &[u64], draft: &mut [u64], opener: usize, pc: usize, room: u8, w: u64) -> u64
     requires { ⌜ Fits (now table) opener pc × (opener < length (now table)) ⌝ }
     ensures { λ r. ⌜ Arguing w room (now (table .entry)) opener pc (now (draft .entry)) (now (draft .exit)) (readOf r) ⌝ }
@@ -192,19 +213,7 @@ fn arguments(table: &[u64], draft: &mut [u64], opener: usize, pc: usize, room: u
             }
             draft::applied(draft, f, only)
         }
-        functions::OF_TWO => {
-            let first = enclosed(table, draft, at, pc, room, symbols::COMMA);
-            if !results::is_done(first) {
-                return first;
-            }
-            let next = results::next_of(first);
-            let end = results::end_of(first);
-            let last = enclosed(table, draft, next, end, room, symbols::CLOSE);
-            if !results::is_done(last) {
-                return last;
-            }
-            draft::paired(draft, f, first, last)
-        }
+        functions::OF_TWO => pair(table, draft, opener, pc, room, w),
         functions::OF_SINCE => {
             let only = enclosed(table, draft, at, pc, room, symbols::CLOSE);
             if !results::is_done(only) {
@@ -213,6 +222,14 @@ fn arguments(table: &[u64], draft: &mut [u64], opener: usize, pc: usize, room: u
             draft::since(draft, w, only)
         }
         functions::CLOCK => clock(table, draft, at, pc),
+        functions::RANGED => ranges::totalled(table, draft, at, pc, f),
+        functions::MATCHED => {
+            let value = enclosed(table, draft, at, pc, room, symbols::COMMA);
+            if !results::is_done(value) {
+                return value;
+            }
+            ranges::matched(table, draft, value, f)
+        }
         _ => {
             let condition = enclosed(table, draft, at, pc, room, symbols::COMMA);
             if !results::is_done(condition) {

@@ -8,9 +8,14 @@ use lib.ListN.{length, getD, List·getD-map}
 use Rattle.operators.specs.declared.UnaryOp.the-variants.{Neg}
 use Rattle.operators.specs.declared.BinaryOp.the-variants.{Power}
 use Rattle.operators.specs.Tables.{unaryOps, binaryOps, unaryNumber, binaryNumber}
+use Rattle.values.specs.declared.CompareOp.the-variants.{Eq}
 use Rattle.memory.specs.declared.Bank.the-variants.{X}
 use Rattle.memory.specs.Numbers.{banks, bankNumber}
+use Rattle.totals.specs.declared.TotalOp.the-variants.{Sum}
+use Rattle.totals.specs.declared.MatchOp.the-variants.{Count}
+use Rattle.totals.specs.Numbers.{totalOps, matchOps, totalNumber, matchNumber}
 use Rattle.draft.specs.private.Words.{bankAt, unaryAt, binaryAt}
+use Rattle.draft.specs.private.Ranges.{totalAt, matchAt}
 
 abbrev count : ℕ → ℕ → List ℕ
 count k zero = []
@@ -28,6 +33,12 @@ module _ {A : Type 0} (number : A → ℕ) (l : List A) (d : A) (in-order : map 
 
 pub bank-at : (n : ℕ) → n < 6 → bankNumber (bankAt n) ≡ n
 bank-at = number-at bankNumber banks X refl
+
+pub total-at : (n : ℕ) → n < 4 → totalNumber (totalAt n) ≡ n
+total-at = number-at totalNumber totalOps Sum refl
+
+pub match-at : (n : ℕ) → n < 12 → matchNumber (matchAt n) ≡ n
+match-at = number-at matchNumber matchOps (Count Eq) refl
 
 pub unary-at : (n : ℕ) → n < 8 → unaryNumber (unaryAt n) ≡ n
 unary-at = number-at unaryNumber unaryOps Neg refl

@@ -23,8 +23,13 @@ use Rattle.operators.specs.Kinds.{isInt, join, numberKind, kindNumber, typed, u
 use Rattle.operators.proofs.Typed.{kind-small, typed-taken, typed-kind}
 use Rattle.memory.specs.Cells.{bankKind}
 use Rattle.memory.specs.Numbers.{bankNumbered, bankTyped}
+use Rattle.totals.specs.declared.TotalOp.{TotalOp}
+use Rattle.totals.specs.declared.TotalOp.the-variants as T'
+use Rattle.totals.specs.declared.MatchOp.{MatchOp}
+use Rattle.totals.specs.declared.MatchOp.the-variants as M'
+use Rattle.totals.specs.Numbers.{totalNumber, matchNumber}
 use Rattle.tokens.specs.Words.{functionAt}
-use Rattle.grammar.specs.Symbols.{Form, plain, clock, of-one, of-two, of-choice, of-since, formOf}
+use Rattle.grammar.specs.Symbols.{Form, plain, clock, ranged, matched, of-one, of-two, of-choice, of-since, formOf}
 use Rattle.grammar.specs.Functions.{formNumber, operatorNumber, functionForm, functionOperator}
 use Rattle.draft.specs.private.Words.{unaryAt, binaryAt, bankAt}
 
@@ -76,6 +81,8 @@ one-operator (plain (of-two o)) e = absurd (omega arith)
 one-operator (plain of-choice) e = absurd (omega arith)
 one-operator (plain of-since) e = absurd (omega arith)
 one-operator clock e = absurd (omega arith)
+one-operator (ranged o) e = absurd (omega arith)
+one-operator (matched o) e = absurd (omega arith)
 
 two-operator : (x : Form) → formNumber x ≡ 2 → operatorNumber x < 20
 two-operator (plain (of-one o)) e = absurd (omega arith)
@@ -83,9 +90,45 @@ two-operator (plain (of-two o)) e = binary-below o
 two-operator (plain of-choice) e = absurd (omega arith)
 two-operator (plain of-since) e = absurd (omega arith)
 two-operator clock e = absurd (omega arith)
+two-operator (ranged o) e = absurd (omega arith)
+two-operator (matched o) e = absurd (omega arith)
 
 pub unary-function : (f : ℕ) → functionForm f ≡ 1 → functionOperator f < 8
 unary-function f e = one-operator (formOf (functionAt f)) e
 
 pub binary-function : (f : ℕ) → functionForm f ≡ 2 → functionOperator f < 20
 binary-function f e = two-operator (formOf (functionAt f)) e
+
+-- ---- the totals of functions
+total-below : (o : TotalOp) → totalNumber o < 4
+total-below T'.Sum = lit< tt
+total-below T'.Average = lit< tt
+total-below (T'.Choice o) = elim o [ Max ↦ lit< tt | Min ↦ lit< tt ]
+
+match-below : (o : MatchOp) → matchNumber o < 12
+match-below (M'.Count o) = elim o [ Lt ↦ lit< tt | Gt ↦ lit< tt | Le ↦ lit< tt | Ge ↦ lit< tt | Eq ↦ lit< tt | Ne ↦ lit< tt ]
+match-below (M'.Sum o) = elim o [ Lt ↦ lit< tt | Gt ↦ lit< tt | Le ↦ lit< tt | Ge ↦ lit< tt | Eq ↦ lit< tt | Ne ↦ lit< tt ]
+
+total-operator : (x : Form) → formNumber x ≡ 6 → operatorNumber x < 4
+total-operator (plain (of-one o)) e = absurd (omega arith)
+total-operator (plain (of-two o)) e = absurd (omega arith)
+total-operator (plain of-choice) e = absurd (omega arith)
+total-operator (plain of-since) e = absurd (omega arith)
+total-operator clock e = absurd (omega arith)
+total-operator (ranged o) e = total-below o
+total-operator (matched o) e = absurd (omega arith)
+
+match-operator : (x : Form) → formNumber x ≡ 7 → operatorNumber x < 12
+match-operator (plain (of-one o)) e = absurd (omega arith)
+match-operator (plain (of-two o)) e = absurd (omega arith)
+match-operator (plain of-choice) e = absurd (omega arith)
+match-operator (plain of-since) e = absurd (omega arith)
+match-operator clock e = absurd (omega arith)
+match-operator (ranged o) e = absurd (omega arith)
+match-operator (matched o) e = match-below o
+
+pub total-function : (f : ℕ) → functionForm f ≡ 6 → functionOperator f < 4
+total-function f e = total-operator (formOf (functionAt f)) e
+
+pub match-function : (f : ℕ) → functionForm f ≡ 7 → functionOperator f < 12
+match-function f e = match-operator (formOf (functionAt f)) e

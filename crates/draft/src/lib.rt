@@ -34,6 +34,7 @@ use tokens::symbols::AND;
 
 pub mod ahead;
 pub mod diagnostics;
+pub mod ranges;
 pub mod results;
 
 // One instruction.

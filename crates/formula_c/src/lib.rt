@@ -1,12 +1,14 @@
-// The four operations for C, and the remainder: include/formula.h. A slice is a pointer and a length there, and the report is five
+// The operations for C, and the remainder: include/formula.h. A slice is a pointer and a length there, and the report is seven
 // 32-bit words.
 ghost use mathlib.Core.Path.{_≡_};
 ghost use Prim.Native.Nat.{_%_, _^_};
 ghost use lib.Ieee.{binary32, rem};
 ghost use lib.ListN.{length};
 ghost use Rattle.compiler.specs.Compile.{compiling, codedBytes};
-ghost use Rattle.operations.specs.Operations.{compileAnswer, checkAnswer, runAnswer, runMemory, request, requestAnswer, requestMemory, requestCode};
-ghost use Rattle.formula_c.specs.Words.{kindWord, bitsOf, reportWords};
+ghost use Rattle.operations.specs.Operations.{compileAnswer, checkAnswer, compileTargetAnswer, compileTargetCode, runAnswer, runMemory};
+ghost use Rattle.operations.specs.Operations.{kindWord, bitsOf, evaluateAnswer, givenValue, givenAnswer, givenMemory};
+ghost use Rattle.operations.specs.Operations.{request, requestAnswer, requestMemory, requestCode, requestIndex};
+ghost use Rattle.formula_c.specs.Words.{reportWords};
 use operations::Answer;
 use values::Kind;
 use values::Value;
@@ -35,18 +37,28 @@ fn low(n: usize) -> u32
     (n % 4294967296) as u32
 }
 
-fn fill_report(a: Answer, report: &mut [u32; 5])
+fn fill_report(a: Answer, report: &mut [u32; 7])
     ensures { λ _. ⌜ now (report .exit) ≡ reportWords a ⌝ }
 {
     let r = operations::reported(a);
     let value = r.value;
     let place = low(r.place);
     let count = low(r.count);
-    *report = [r.answer, place, kind_number(value), bits_of(value), count];
+    let bank = r.bank;
+    let number = memory::numbers::bank_number(bank) as u32;
+    *report = [
+        r.answer,
+        place,
+        kind_number(value),
+        bits_of(value),
+        count,
+        number,
+        r.element,
+    ];
 }
 
 #[no_mangle]
-pub extern "C" fn formula_compile(expr: &[u8], code: &mut [u8], report: &mut [u32; 5])
+pub extern "C" fn formula_compile(expr: &[u8], code: &mut [u8], report: &mut [u32; 7])
     ensures { λ _. ⌜ now (report .exit) ≡ reportWords (compileAnswer (compiling (length (now (code .entry))) (now (expr .entry)))) ⌝ }
     ensures { λ _. ⌜ now (code .exit) ≡ codedBytes (now (code .entry)) (compiling (length (now (code .entry))) (now (expr .entry))) ⌝ }
 {
@@ -55,7 +67,16 @@ pub extern "C" fn formula_compile(expr: &[u8], code: &mut [u8], report: &mut [u3
 }
 
 #[no_mangle]
-pub extern "C" fn formula_check(code: &[u8], instructions: usize, report: &mut [u32; 5])
+pub extern "C" fn formula_compile_target(target: &[u8], index: &mut [u8], report: &mut [u32; 7])
+    ensures { λ _. ⌜ now (report .exit) ≡ reportWords (compileTargetAnswer (now (index .entry)) (now (target .entry))) ⌝ }
+    ensures { λ _. ⌜ now (index .exit) ≡ compileTargetCode (now (index .entry)) (now (target .entry)) ⌝ }
+{
+    let answer = operations::compile_target(target, index);
+    fill_report(answer, report);
+}
+
+#[no_mangle]
+pub extern "C" fn formula_check(code: &[u8], instructions: usize, report: &mut [u32; 7])
     ensures { λ _. ⌜ now (report .exit) ≡ reportWords (checkAnswer (now (code .entry)) instructions) ⌝ }
 {
     let answer = operations::check(code, instructions);
@@ -68,13 +89,15 @@ pub extern "C" fn formula_run(
     instructions: usize,
     memory: &mut [u8],
     target: &[u8],
+    index: &[u8],
+    count: usize,
     tick: u32,
-    report: &mut [u32; 5],
+    report: &mut [u32; 7],
 )
-    ensures { λ _. ⌜ now (report .exit) ≡ reportWords (runAnswer tick (now (code .entry)) instructions (now (target .entry)) (now (memory .entry))) ⌝ }
-    ensures { λ _. ⌜ now (memory .exit) ≡ runMemory tick (now (code .entry)) instructions (now (target .entry)) (now (memory .entry)) ⌝ }
+    ensures { λ _. ⌜ now (report .exit) ≡ reportWords (runAnswer tick (now (code .entry)) instructions (now (target .entry)) (now (index .entry)) count (now (memory .entry))) ⌝ }
+    ensures { λ _. ⌜ now (memory .exit) ≡ runMemory tick (now (code .entry)) instructions (now (target .entry)) (now (index .entry)) count (now (memory .entry)) ⌝ }
 {
-    let answer = operations::run(code, instructions, memory, target, tick);
+    let answer = operations::run(code, instructions, memory, target, index, count, tick);
     fill_report(answer, report);
 }
 
@@ -84,14 +107,48 @@ pub extern "C" fn formula_compile_and_run(
     expr: &[u8],
     memory: &mut [u8],
     code: &mut [u8],
+    index: &mut [u8],
     tick: u32,
-    report: &mut [u32; 5],
+    report: &mut [u32; 7],
 )
-    ensures { λ _. ⌜ now (report .exit) ≡ reportWords (requestAnswer tick (now (memory .entry)) (request (now (target .entry)) (now (expr .entry)) (now (memory .entry)) (now (code .entry)))) ⌝ }
-    ensures { λ _. ⌜ now (memory .exit) ≡ requestMemory tick (now (memory .entry)) (request (now (target .entry)) (now (expr .entry)) (now (memory .entry)) (now (code .entry))) ⌝ }
-    ensures { λ _. ⌜ now (code .exit) ≡ requestCode (now (code .entry)) (request (now (target .entry)) (now (expr .entry)) (now (memory .entry)) (now (code .entry))) ⌝ }
+    ensures { λ _. ⌜ now (report .exit) ≡ reportWords (requestAnswer tick (now (memory .entry)) (request (now (target .entry)) (now (expr .entry)) (now (memory .entry)) (now (code .entry)) (now (index .entry)))) ⌝ }
+    ensures { λ _. ⌜ now (memory .exit) ≡ requestMemory tick (now (memory .entry)) (request (now (target .entry)) (now (expr .entry)) (now (memory .entry)) (now (code .entry)) (now (index .entry))) ⌝ }
+    ensures { λ _. ⌜ now (code .exit) ≡ requestCode (now (code .entry)) (request (now (target .entry)) (now (expr .entry)) (now (memory .entry)) (now (code .entry)) (now (index .entry))) ⌝ }
+    ensures { λ _. ⌜ now (index .exit) ≡ requestIndex (now (index .entry)) (request (now (target .entry)) (now (expr .entry)) (now (memory .entry)) (now (code .entry)) (now (index .entry))) ⌝ }
 {
-    let answer = operations::compile_and_run(target, expr, memory, code, tick);
+    let answer = operations::compile_and_run(target, expr, memory, code, index, tick);
+    fill_report(answer, report);
+}
+
+#[no_mangle]
+pub extern "C" fn formula_evaluate(
+    code: &[u8],
+    instructions: usize,
+    memory: &[u8],
+    tick: u32,
+    report: &mut [u32; 7],
+)
+    ensures { λ _. ⌜ now (report .exit) ≡ reportWords (evaluateAnswer tick (now (code .entry)) instructions (now (memory .entry))) ⌝ }
+{
+    let answer = operations::evaluate(code, instructions, memory, tick);
+    fill_report(answer, report);
+}
+
+#[no_mangle]
+pub extern "C" fn formula_store(
+    kind: u32,
+    bits: u32,
+    memory: &mut [u8],
+    target: &[u8],
+    index: &[u8],
+    count: usize,
+    tick: u32,
+    report: &mut [u32; 7],
+)
+    ensures { λ _. ⌜ now (report .exit) ≡ reportWords (givenAnswer tick (givenValue kind bits) (now (target .entry)) (now (index .entry)) count (now (memory .entry))) ⌝ }
+    ensures { λ _. ⌜ now (memory .exit) ≡ givenMemory tick (givenValue kind bits) (now (target .entry)) (now (index .entry)) count (now (memory .entry)) ⌝ }
+{
+    let answer = operations::store(kind, bits, memory, target, index, count, tick);
     fill_report(answer, report);
 }
 

@@ -4,16 +4,19 @@ use mathlib.Core.List.{List, [], _∷_, _++_, append-assoc, append-nil}
 use Prim.Native.Nat.{ℕ, zero, suc, _+_, _-_, _*_, _≤_}
 use native.Mathlib.Omega.{arith}
 use lib.ListN.{length, length-append}
+use lib.IntN.{ℤ}
 use borrow.Author.Tests.{eq-eqb}
 use Rattle.operators.specs.declared.UnaryOp.{UnaryOp}
 use Rattle.memory.specs.declared.Bank.{Bank}
+use Rattle.totals.specs.declared.TotalOp.{TotalOp}
+use Rattle.totals.specs.declared.MatchOp.{MatchOp}
 use Rattle.tokens.specs.declared.Function.{Function}
 use Rattle.tokens.specs.declared.Token.the-variants.{Number, Cell, Letter, Name, Symbol}
 use Rattle.tokens.specs.Scan.{Tok}
-use Rattle.grammar.specs.Tree.{Tree, literal, cell, indexed, unary, tick}
-use Rattle.grammar.specs.Symbols.{groupNumber, loosest, openParen, closeParen, openIndex, closeIndex, comma, prefixOf, prefixSymbol, is, none, infixTree, Callee, plain, clock, formOf, moreArguments, Arguments, one, more, callTree}
-use Rattle.grammar.specs.Grammar.{tok, Derives, number, name, index, parenthesis, call, clocked, prefixed, up, infixed, last, next}
-use Rattle.grammar.specs.Parse.{Result, ok, expect, expression, climb, operand, primary, bracket, arguments}
+use Rattle.grammar.specs.Tree.{Tree, literal, cell, indexed, unary, tick, total, matching}
+use Rattle.grammar.specs.Symbols.{groupNumber, loosest, openParen, closeParen, openIndex, closeIndex, comma, prefixOf, prefixSymbol, is, none, infixTree, Callee, plain, clock, ranged, matched, formOf, moreArguments, Arguments, one, more, callTree}
+use Rattle.grammar.specs.Grammar.{tok, Range, range, Derives, number, name, index, parenthesis, call, clocked, totalled, tested, prefixed, up, infixed, last, next}
+use Rattle.grammar.specs.Parse.{Result, ok, expect, expectRange, expression, climb, operand, primary, bracket, arguments}
 use Rattle.grammar.proofs.Tests.{Follow, at-end, before, follow-less, binds-yes, binds-no}
 
 -- reading the tokens w, an expression of the group m, at any group l from m on, goes on with what follows the tree t
@@ -111,6 +114,25 @@ r-clocked : (h : Function) (p q r : ℕ) → formOf h ≡ clock → Reads 0 (tok
 unfolding primary
 r-clocked h p q r e = r-primary (tok (Name h) p) (tok (Symbol openParen) q ∷ tok (Symbol closeParen) r ∷ []) tick refl (λ d rest n f le. rw e)
 
+r-range : {b : Bank} {i : ℕ} {n : ℤ} {u : ℕ} {w : List Tok} (k : Bank → ℕ → ℕ → ℤ → Tree) (rest : List Tok) → Range b i n u w → expectRange (w ++ rest) k ≡ ok (k b i u n) rest
+r-range k rest (range o q p r) = refl
+
+r-totalled : (h : Function) (o : TotalOp) (p q : ℕ) {b : Bank} {i : ℕ} {n : ℤ} {u : ℕ} (w : List Tok) → formOf h ≡ ranged o → Range b i n u w
+    → Reads 0 (tok (Name h) p ∷ tok (Symbol openParen) q ∷ w) (total u o b i n)
+unfolding primary
+r-totalled h o p q {b} {i} {n} {u} w e g =
+    r-primary (tok (Name h) p) (tok (Symbol openParen) q ∷ w) (total u o b i n) refl (λ d rest le f c. rw e (r-range _ rest g))
+
+r-tested : (h : Function) (o : MatchOp) (p q r : ℕ) {b : Bank} {i : ℕ} {n : ℤ} {u : ℕ} (w v : List Tok) (t : Tree) → formOf h ≡ matched o → Reads loosest w t → Range b i n u v
+    → Reads 0 (tok (Name h) p ∷ tok (Symbol openParen) q ∷ (w ++ tok (Symbol comma) r ∷ v)) (matching u o t b i n)
+unfolding primary groupNumber
+r-tested h o p q r {b} {i} {n} {u} w v t e g x =
+    r-primary (tok (Name h) p) (tok (Symbol openParen) q ∷ (w ++ tok (Symbol comma) r ∷ v)) (matching u o t b i n) refl
+    (λ d rest le f c.
+    let k = length-append w (tok (Symbol comma) r ∷ v) in
+    let j = length-append v rest in
+    rw (e, append-assoc, before-symbol comma r w t refl g d (v ++ rest) (omega arith) f (omega arith)) (r-range _ rest x))
+
 r-last : (q : ℕ) (w : List Tok) (t : Tree) → Reads loosest w t → ReadsAll 0 (w ++ tok (Symbol closeParen) q ∷ []) (one t)
 unfolding arguments groupNumber
 r-last q w t g d rest n zero c = absurd (omega arith)
@@ -135,6 +157,8 @@ complete a = elim a as (λ m w t a. Reads m w t) (λ m w ts a. ReadsAll m w ts) 
   | parenthesis {p} q {w} {t} (a → h) ↦ r-parenthesis p q w t h
   | call {f} {c} {p} {q} {w} {ts} e (a → h) ↦ r-call f c p q w ts e h
   | clocked {f} {p} {q} r e ↦ r-clocked f p q r e
+  | totalled {f} {o} {p} {q} {w = w} e g ↦ r-totalled f o p q w e g
+  | tested {f} {o} {p} {q} r {w = w} {v = v} {t = t} e (a → h) g ↦ r-tested f o p q r w v t e h g
   | prefixed {n} {p} {o} {w} {t} e (a → h) ↦ r-prefixed n p o w t e h
   | up {l} {w} {t} (a → h) ↦ r-up l w t h
   | infixed {l} n p {w} {v} {t} {u} e (a → h) (b → h′) ↦ r-infixed l n p w v t u e h h′

@@ -1,13 +1,14 @@
 -- The earlier of two diagnostics is the lesser of their numbers, place times 16 plus answer; so it does not matter which of them comes first.
 use mathlib.Core.Path.{_≡_, refl, ap, subst}
+use mathlib.Core.Logic.{_⊎_, inl, inr}
 use mathlib.Core.Bool.{Bool, true, false, _&&_, _||_, cond}
 use Prim.Native.Nat.{ℕ, _/_, _%_, _≤_, min}
 use native.Mathlib.Omega.{arith}
 use lib.Dec.{eqb, ltb, leb}
 use borrow.Author.Tests.{ltb-true, ltb-false, eqb-true, eqb-false, leb-true, leb-false}
 use Rattle.operators.specs.Kinds.{isInt, unaryTakes, binaryTakes}
-use Rattle.tokens.proofs.Tests.{choose}
-use Rattle.grammar.specs.Tree.{Tree, literal, cell, indexed, unary, binary, logic, choice, tick, since, treeKind, Diagnostic, clear, at, precedes, earlier, unless, wrongKindAt, diagnosticOf}
+use Rattle.totals.specs.Totals.{goodCount}
+use Rattle.grammar.specs.Tree.{Tree, literal, cell, indexed, unary, binary, logic, choice, tick, since, total, matching, treeKind, Diagnostic, clear, at, precedes, earlier, unless, wrongKindAt, wrongCountAt, diagnosticOf}
 
 abbrev pub numbered : ℕ → Diagnostic
 numbered n = at (n / 16) (n % 16)
@@ -39,33 +40,45 @@ earlier-least m n = go (precedes (m / 16) (m % 16) (n / 16) (n % 16)) refl
     go false e = let h = follows-least m n e in let i : n ≡ min m n = omega arith in ap numbered i
 
 -- ---- the answers that a tree can show
-data Nine : Diagnostic → Type 0 where
-  no-answer : Nine clear
-  nine : {p a : ℕ} → a ≡ 9 → Nine (at p a)
+data Late : Diagnostic → Type 0 where
+  no-answer : Late clear
+  six : {p a : ℕ} → a ≡ 6 → Late (at p a)
+  nine : {p a : ℕ} → a ≡ 9 → Late (at p a)
 
-nine-earlier : {x y : Diagnostic} → Nine x → Nine y → Nine (earlier x y)
-nine-earlier no-answer h = h
-nine-earlier (nine e) no-answer = nine e
-nine-earlier (nine {p = p} {a = a} e) (nine {p = q} {a = b} f) = choose Nine (precedes p a q b) _ _ (λ i. nine e) (λ i. nine f)
+late-cond : {x y : Diagnostic} (b : Bool) → Late x → Late y → Late (cond b x y)
+late-cond true h k = h
+late-cond false h k = k
 
-nine-unless : (b : Bool) (p : ℕ) → Nine (unless b (wrongKindAt p))
-nine-unless true p = no-answer
-nine-unless false p = nine refl
+late-earlier : (x y : Diagnostic) → Late x → Late y → Late (earlier x y)
+late-earlier clear y h k = k
+late-earlier (at p a) clear h k = h
+late-earlier (at p a) (at q b) h k = late-cond (precedes p a q b) h k
 
-nines : (t : Tree) → Nine (diagnosticOf t)
+late-kind : (b : Bool) (p : ℕ) → Late (unless b (wrongKindAt p))
+late-kind true p = no-answer
+late-kind false p = nine refl
+
+late-count : (b : Bool) (p : ℕ) → Late (unless b (wrongCountAt p))
+late-count true p = no-answer
+late-count false p = six refl
+
+late : (t : Tree) → Late (diagnosticOf t)
 unfolding diagnosticOf
-nines (literal p v) = no-answer
-nines (cell b i) = no-answer
-nines (indexed b t) = nines t
-nines (unary p o t) = nine-earlier (nine-unless (unaryTakes o (treeKind t)) p) (nines t)
-nines (binary p o t u) = nine-earlier (nine-unless (binaryTakes o (treeKind t) (treeKind u)) p) (nine-earlier (nines t) (nines u))
-nines (logic p d t u) = nine-earlier (nines t) (nines u)
-nines (choice p c t u) = nine-earlier (nines c) (nine-earlier (nines t) (nines u))
-nines tick = no-answer
-nines (since p t) = nine-earlier (nine-unless (isInt (treeKind t)) p) (nines t)
+late (literal p v) = no-answer
+late (cell b i) = no-answer
+late (indexed b t) = late t
+late (unary p o t) = late-earlier _ _ (late-kind (unaryTakes o (treeKind t)) p) (late t)
+late (binary p o t u) = late-earlier _ _ (late-kind (binaryTakes o (treeKind t) (treeKind u)) p) (late-earlier _ _ (late t) (late u))
+late (logic p d t u) = late-earlier _ _ (late t) (late u)
+late (choice p c t u) = late-earlier _ _ (late c) (late-earlier _ _ (late t) (late u))
+late tick = no-answer
+late (since p t) = late-earlier _ _ (late-kind (isInt (treeKind t)) p) (late t)
+late (total p o b i n) = late-count (goodCount b i n) p
+late (matching p o t b i n) = late-earlier _ _ (late-count (goodCount b i n) p) (late t)
 
-pub shown-nine : (t : Tree) {p a : ℕ} → diagnosticOf t ≡ at p a → a ≡ 9
-shown-nine t {p} {a} e = go (subst Nine e (nines t))
+pub shown-late : (t : Tree) {p a : ℕ} → diagnosticOf t ≡ at p a → (a ≡ 6) ⊎ (a ≡ 9)
+shown-late t {p} {a} e = go (subst Late e (late t))
   where
-    go : Nine (at p a) → a ≡ 9
-    go (nine i) = i
+    go : Late (at p a) → (a ≡ 6) ⊎ (a ≡ 9)
+    go (six i) = inl i
+    go (nine i) = inr i

@@ -5,14 +5,17 @@ use mathlib.Core.List.{List, [], _∷_}
 use Prim.Native.Nat.{ℕ, zero, suc, _+_, _-_, _*_, _≤_, _<_}
 use native.Mathlib.Omega.{arith}
 use lib.ListN.{length}
+use lib.IntN.{ℤ}
+use Rattle.values.specs.declared.Value.the-variants.{Int, Real}
 use Rattle.operators.specs.declared.UnaryOp.{UnaryOp}
+use Rattle.memory.specs.declared.Bank.{Bank}
 use Rattle.tokens.specs.declared.Token.{Token}
 use Rattle.tokens.specs.declared.Token.the-variants.{Number, Cell, Letter, Name, Symbol}
 use Rattle.tokens.specs.Scan.{Tok}
 use Rattle.grammar.specs.Tree.{Tree}
-use Rattle.grammar.specs.Symbols.{group, isSymbol, loosest, openParen, closeParen, openIndex, closeIndex, comma, Prefix, prefixOf, is, none, Form, plain, clock, formOf, moreArguments, Arguments}
+use Rattle.grammar.specs.Symbols.{group, isSymbol, loosest, openParen, closeParen, openIndex, closeIndex, comma, Prefix, prefixOf, is, none, Form, plain, clock, ranged, matched, formOf, moreArguments, Arguments}
 use Rattle.grammar.specs.Grammar.{tok}
-use Rattle.grammar.specs.Parse.{Result, ok, bad, deep, starved, andThen, expect, enter, binds, callBody, expression, climb, operand, primary, bracket, arguments}
+use Rattle.grammar.specs.Parse.{Result, ok, bad, deep, starved, andThen, expect, expectCell, expectCount, expectRange, enter, binds, callBody, expression, climb, operand, primary, bracket, arguments}
 
 -- not starved, and fewer than n tokens left
 pub data Fed {X : Type 0} (n : ℕ) : Result X → Type 0 where
@@ -47,15 +50,44 @@ module _ {X : Type 0} where
   fed-enter zero n r k h = fed-expect n r _ (λ ys lt. at-deep)
   fed-enter (suc d) n r k h = fed-expect n r _ (λ ys lt. h d ys lt)
 
+  fed-cell : {m : ℕ} (r : List Tok) (k : Bank → ℕ → List Tok → Result X) → ((b : Bank) (i : ℕ) (ys : List Tok) → length ys < length r → Fed m (k b i ys)) → Fed m (expectCell r k)
+  fed-cell [] k h = at-bad
+  fed-cell {m} (x ∷ ys) k h = go (x .token) (x .place) (λ b i. h b i ys (omega arith))
+    where
+      go : (t : Token) (p : ℕ) → ((b : Bank) (i : ℕ) → Fed m (k b i ys)) → Fed m (expectCell (tok t p ∷ ys) k)
+      go (Number v) p h = at-bad
+      go (Cell b i) p h = h b i
+      go (Letter b) p h = at-bad
+      go (Name g) p h = at-bad
+      go (Symbol n) p h = at-bad
+
+  fed-count : {m : ℕ} (r : List Tok) (k : ℕ → ℤ → List Tok → Result X) → ((p : ℕ) (z : ℤ) (ys : List Tok) → length ys < length r → Fed m (k p z ys)) → Fed m (expectCount r k)
+  fed-count [] k h = at-bad
+  fed-count {m} (x ∷ ys) k h = go (x .token) (x .place) (λ p z. h p z ys (omega arith))
+    where
+      go : (t : Token) (p : ℕ) → ((p : ℕ) (z : ℤ) → Fed m (k p z ys)) → Fed m (expectCount (tok t p ∷ ys) k)
+      go (Number (Int z)) p h = h p z
+      go (Number (Real y)) p h = at-bad
+      go (Cell b i) p h = at-bad
+      go (Letter b) p h = at-bad
+      go (Name g) p h = at-bad
+      go (Symbol n) p h = at-bad
+
   pub fed-not : {n : ℕ} {q : Result X} → Fed n q → q ≡ starved → ⊥
   fed-not (left r lt) e = let z : _≡_ {A = ℕ} 0 1 = cc in omega arith
   fed-not at-bad e = let z : _≡_ {A = ℕ} 0 1 = cc in omega arith
   fed-not at-deep e = let z : _≡_ {A = ℕ} 0 1 = cc in omega arith
 
-fed-call : {n : ℕ} (o : Form) (p : ℕ) (ts : List Tok) (read : ℕ → List Tok → Result Arguments) → length ts ≤ n → ((m : ℕ) → Fed n (read m ts))
-    → Fed n (callBody o p read ts)
-fed-call (plain c) p ts read le h = fed-bind _ (h (moreArguments c)) (λ us r lt. left r lt)
-fed-call clock p ts read le h = fed-expect closeParen ts _ (λ ys lt. left ys (omega arith))
+fed-range : {n : ℕ} (r : List Tok) (k : Bank → ℕ → ℕ → ℤ → Tree) → length r ≤ n → Fed n (expectRange r k)
+fed-range r k le =
+    fed-cell r _ (λ b i ys l. fed-expect comma ys _ (λ zs l′. fed-count zs _ (λ p n us l″. fed-expect closeParen us _ (λ vs l‴. left vs (omega arith)))))
+
+fed-call : {n : ℕ} (o : Form) (p : ℕ) (ts : List Tok) (read : ℕ → List Tok → Result Arguments) (whole : List Tok → Result Tree) → length ts ≤ n
+    → ((m : ℕ) → Fed n (read m ts)) → Fed n (whole ts) → Fed n (callBody o p read whole ts)
+fed-call (plain c) p ts read whole le h k = fed-bind _ (h (moreArguments c)) (λ us r lt. left r lt)
+fed-call clock p ts read whole le h k = fed-expect closeParen ts _ (λ ys lt. left ys (omega arith))
+fed-call (ranged o) p ts read whole le h k = fed-range ts _ le
+fed-call (matched o) p ts read whole le h k = fed-bind _ k (λ t r lt. fed-expect comma r _ (λ ys lt′. fed-range ys _ (omega arith)))
 
 mutual
   unfolding expression
@@ -86,7 +118,7 @@ mutual
   fed-primary (suc f) d (Letter b) p xs le =
       fed-enter d openIndex xs _ (λ e ys lt. fed-bind _ (fed-bracket f e closeIndex ys (omega arith)) (λ t r lt′. left r (omega arith)))
   fed-primary (suc f) d (Name g) p xs le =
-      fed-enter d openParen xs _ (λ e ys lt. fed-more (omega arith) (fed-call (formOf g) p ys _ (omega arith) (λ m. fed-arguments f e m ys (omega arith))))
+      fed-enter d openParen xs _ (λ e ys lt. fed-more (omega arith) (fed-call (formOf g) p ys _ _ (omega arith) (λ m. fed-arguments f e m ys (omega arith)) (fed-expression f e loosest ys (omega arith))))
   fed-primary (suc f) d (Symbol n) p xs le =
       fed-enter d openParen (tok (Symbol n) p ∷ xs) _ (λ e ys lt. fed-more (omega arith) (fed-bracket f e closeParen ys (omega arith)))
 

@@ -4,12 +4,16 @@ use mathlib.Core.Bool.{Bool, true, false}
 use mathlib.Core.List.{List, [], _∷_, _++_, append-assoc, append-nil}
 use Prim.Native.Nat.{ℕ, zero, suc, _+_, _≤_}
 use native.Mathlib.Omega.{arith}
+use lib.IntN.{ℤ}
+use Rattle.values.specs.declared.Value.the-variants.{Int, Real}
 use Rattle.operators.specs.declared.UnaryOp.{UnaryOp}
-use Rattle.tokens.specs.declared.Token.the-variants.{Symbol}
+use Rattle.memory.specs.declared.Bank.{Bank}
+use Rattle.tokens.specs.declared.Token.{Token}
+use Rattle.tokens.specs.declared.Token.the-variants.{Number, Cell, Letter, Name, Symbol}
 use Rattle.tokens.specs.Scan.{Tok}
 use Rattle.grammar.specs.Symbols.{isSymbol, Prefix, is, none}
 use Rattle.grammar.specs.Grammar.{tok}
-use Rattle.grammar.specs.Parse.{Result, ok, bad, deep, starved, andThen, expect, enter, mostOpen}
+use Rattle.grammar.specs.Parse.{Result, ok, bad, deep, starved, andThen, expect, expectCell, expectCount, enter, mostOpen}
 use Rattle.grammar.specs.Theorems.{isOpener, isCloser}
 use Rattle.grammar.proofs.Tests.{symbol-is}
 use Rattle.grammar.proofs.Nesting.{Spans, nothing, closing, along}
@@ -83,6 +87,33 @@ module _ {X : Type 0} {d e : ℕ} {P : List Tok → X → Type 0} {all : List To
       → Good d e P all (expect n r k)
   expects n [] k h b = b
   expects n (x ∷ ys) k h b = test (isSymbol n (x .token)) (λ i. h (x .place) ys (ap (λ (y : Tok). y ∷ ys) (symbol-is n x i))) (λ i. b)
+
+  pub expects-cell : (r : List Tok) (k : Bank → ℕ → List Tok → Result X) → ((b : Bank) (i p : ℕ) (ys : List Tok) → r ≡ tok (Cell b i) p ∷ ys → Good d e P all (k b i ys))
+      → Good d e P all (bad r) → Good d e P all (expectCell r k)
+  expects-cell [] k h b = b
+  expects-cell (x ∷ ys) k h b = go (x .token) (x .place) (λ c i p. h c i p ys) b
+    where
+      go : (t : Token) (p : ℕ) → ((c : Bank) (i q : ℕ) → tok t p ∷ ys ≡ tok (Cell c i) q ∷ ys → Good d e P all (k c i ys)) → Good d e P all (bad (tok t p ∷ ys))
+          → Good d e P all (expectCell (tok t p ∷ ys) k)
+      go (Number v) p h b = b
+      go (Cell c i) p h b = h c i p refl
+      go (Letter c) p h b = b
+      go (Name g) p h b = b
+      go (Symbol n) p h b = b
+
+  pub expects-count : (r : List Tok) (k : ℕ → ℤ → List Tok → Result X) → ((p : ℕ) (z : ℤ) (ys : List Tok) → r ≡ tok (Number (Int z)) p ∷ ys → Good d e P all (k p z ys))
+      → Good d e P all (bad r) → Good d e P all (expectCount r k)
+  expects-count [] k h b = b
+  expects-count (x ∷ ys) k h b = go (x .token) (x .place) (λ p z. h p z ys) b
+    where
+      go : (t : Token) (p : ℕ) → ((q : ℕ) (z : ℤ) → tok t p ∷ ys ≡ tok (Number (Int z)) q ∷ ys → Good d e P all (k q z ys)) → Good d e P all (bad (tok t p ∷ ys))
+          → Good d e P all (expectCount (tok t p ∷ ys) k)
+      go (Number (Int z)) p h b = h p z refl
+      go (Number (Real y)) p h b = b
+      go (Cell c i) p h b = b
+      go (Letter c) p h b = b
+      go (Name g) p h b = b
+      go (Symbol n) p h b = b
 
   -- an opener after the tokens o; c completes it
   pub enters : (room n : ℕ) (ts o c : List Tok) (t : X) (k : ℕ → List Tok → Result X)

@@ -8,7 +8,7 @@ use Rattle.tokens.specs.declared.Token.{Token}
 use Rattle.tokens.specs.declared.Token.the-variants.{Number, Cell, Letter, Name, Symbol}
 use Rattle.tokens.specs.Scan.{Tok}
 use Rattle.grammar.specs.Tree.{Tree}
-use Rattle.grammar.specs.Symbols.{group, isSymbol, loosest, openParen, closeParen, openIndex, closeIndex, comma, Prefix, prefixOf, is, none, Form, plain, clock, formOf, moreArguments, Arguments}
+use Rattle.grammar.specs.Symbols.{group, isSymbol, loosest, openParen, closeParen, openIndex, closeIndex, comma, Prefix, prefixOf, is, none, Form, plain, clock, ranged, matched, formOf, moreArguments, Arguments}
 use Rattle.grammar.specs.Grammar.{tok}
 use Rattle.grammar.specs.Parse.{Result, ok, bad, deep, starved, andThen, expect, enter, binds, callBody, expression, climb, operand, primary, bracket, arguments}
 
@@ -60,10 +60,12 @@ module _ {S : Type 0} where
     keep-enter n ts (some-left s) h = keep-expect n ts (λ ys. deeper s)
     keep-enter n ts (one-less m) h = keep-expect n ts (λ ys. h _ _ ys m)
 
-  keep-call : (o : Form) (p : ℕ) (ts : List Tok) (read read′ : ℕ → List Tok → Result Arguments)
-      → ((m : ℕ) → Keeps S (read m ts) (read′ m ts)) → Keeps S (callBody o p read ts) (callBody o p read′ ts)
-  keep-call (plain c) p ts read read′ h = keep-bind _ (h (moreArguments c)) (λ us r. same)
-  keep-call clock p ts read read′ h = keep-expect closeParen ts (λ ys. same)
+  keep-call : (o : Form) (p : ℕ) (ts : List Tok) (read read′ : ℕ → List Tok → Result Arguments) (whole whole′ : List Tok → Result Tree)
+      → ((m : ℕ) → Keeps S (read m ts) (read′ m ts)) → Keeps S (whole ts) (whole′ ts) → Keeps S (callBody o p read whole ts) (callBody o p read′ whole′ ts)
+  keep-call (plain c) p ts read read′ whole whole′ h k = keep-bind _ (h (moreArguments c)) (λ us r. same)
+  keep-call clock p ts read read′ whole whole′ h k = same
+  keep-call (ranged o) p ts read read′ whole whole′ h k = same
+  keep-call (matched o) p ts read read′ whole whole′ h k = keep-bind _ k (λ t r. same)
 
   mutual
     unfolding expression
@@ -87,7 +89,7 @@ module _ {S : Type 0} where
     keep-primary (suc f) (Number v) p xs m = same
     keep-primary (suc f) (Cell b i) p xs m = same
     keep-primary (suc f) (Letter b) p xs m = keep-enter openIndex xs m (λ d e ys m′. keep-bind _ (keep-bracket f closeIndex ys m′) (λ t r. same))
-    keep-primary (suc f) (Name g) p xs m = keep-enter openParen xs m (λ d e ys m′. keep-call (formOf g) p ys _ _ (λ n. keep-arguments f n ys m′))
+    keep-primary (suc f) (Name g) p xs m = keep-enter openParen xs m (λ d e ys m′. keep-call (formOf g) p ys _ _ _ _ (λ n. keep-arguments f n ys m′) (keep-expression f loosest ys m′))
     keep-primary (suc f) (Symbol n) p xs m = keep-enter openParen (tok (Symbol n) p ∷ xs) m (λ d e ys m′. keep-bracket f closeParen ys m′)
 
     pub keep-bracket : (f : ℕ) {d e : ℕ} (n : ℕ) (ts : List Tok) → Rooms S d e → Keeps S (bracket f d n ts) (bracket (suc f) e n ts)

@@ -4,14 +4,17 @@ use mathlib.Core.Bool.{Bool, true, false}
 use mathlib.Core.List.{List, [], _∷_, _++_, append-assoc, append-cancel-right}
 use Prim.Native.Nat.{ℕ, zero, suc, _-_}
 use native.Mathlib.Omega.{arith}
+use lib.IntN.{ℤ}
+use Rattle.values.specs.declared.Value.the-variants.{Int, Real}
 use Rattle.operators.specs.declared.UnaryOp.{UnaryOp}
+use Rattle.memory.specs.declared.Bank.{Bank}
 use Rattle.tokens.specs.declared.Token.{Token}
 use Rattle.tokens.specs.declared.Token.the-variants.{Number, Cell, Letter, Name, Symbol}
 use Rattle.tokens.specs.Scan.{Tok}
-use Rattle.grammar.specs.Tree.{Tree, literal, cell, indexed, unary, tick}
-use Rattle.grammar.specs.Symbols.{group, isSymbol, loosest, openParen, closeParen, openIndex, closeIndex, comma, Prefix, prefixOf, is, none, Form, plain, clock, formOf, moreArguments, Arguments, one, more, callTree}
+use Rattle.grammar.specs.Tree.{Tree, literal, cell, indexed, unary, tick, total, matching}
+use Rattle.grammar.specs.Symbols.{group, isSymbol, loosest, openParen, closeParen, openIndex, closeIndex, comma, Prefix, prefixOf, is, none, Form, plain, clock, ranged, matched, formOf, moreArguments, Arguments, one, more, callTree}
 use Rattle.grammar.specs.Grammar.{tok}
-use Rattle.grammar.specs.Parse.{Result, ok, bad, deep, starved, andThen, expect, enter, binds, callBody, expression, climb, operand, primary, bracket, arguments}
+use Rattle.grammar.specs.Parse.{Result, ok, bad, deep, starved, andThen, expect, expectCell, expectCount, expectRange, enter, binds, callBody, expression, climb, operand, primary, bracket, arguments}
 use Rattle.grammar.proofs.Levels.{joinedTree}
 
 -- two lists with one first token
@@ -106,6 +109,37 @@ module _ {X : Type 0} where
   local-enter zero n k (x ∷ ys) h = local-test (isSymbol n (x .token)) (λ e. at-deep) (λ e. swap x ys (λ r′. rw (expect, e)) (stopped (x ∷ ys)))
   local-enter (suc d) n k r h = local-expect n (λ ys. k d ys) r (h d)
 
+  -- a token that is not the one looked for
+  barred : {F : List Tok → Result X} (x : Tok) (xs : List Tok) → ((r′ : List Tok) → F (x ∷ r′) ≡ bad (x ∷ r′)) → Local F (x ∷ xs) (bad (x ∷ xs))
+  barred x xs h = swap x xs h (stopped (x ∷ xs))
+
+  local-cell : (k : Bank → ℕ → List Tok → Result X) (r : List Tok) → ((b : Bank) (i : ℕ) (ys : List Tok) → Local (k b i) ys (k b i ys)) → Local (λ r. expectCell r k) r (expectCell r k)
+  local-cell k [] h = bad-end
+  local-cell k (x ∷ ys) h = go (x .token) (x .place)
+    where
+      go : (t : Token) (p : ℕ) → Local (λ r. expectCell r k) (tok t p ∷ ys) (expectCell (tok t p ∷ ys) k)
+      go (Number v) p = barred (tok (Number v) p) ys (λ r′. refl)
+      go (Cell b i) p = push (tok (Cell b i) p) ys (λ r′. refl) (h b i ys)
+      go (Letter b) p = barred (tok (Letter b) p) ys (λ r′. refl)
+      go (Name g) p = barred (tok (Name g) p) ys (λ r′. refl)
+      go (Symbol n) p = barred (tok (Symbol n) p) ys (λ r′. refl)
+
+  local-count : (k : ℕ → ℤ → List Tok → Result X) (r : List Tok) → ((p : ℕ) (z : ℤ) (ys : List Tok) → Local (k p z) ys (k p z ys)) → Local (λ r. expectCount r k) r (expectCount r k)
+  local-count k [] h = bad-end
+  local-count k (x ∷ ys) h = go (x .token) (x .place)
+    where
+      go : (t : Token) (p : ℕ) → Local (λ r. expectCount r k) (tok t p ∷ ys) (expectCount (tok t p ∷ ys) k)
+      go (Number (Int z)) p = push (tok (Number (Int z)) p) ys (λ r′. refl) (h p z ys)
+      go (Number (Real y)) p = barred (tok (Number (Real y)) p) ys (λ r′. refl)
+      go (Cell b i) p = barred (tok (Cell b i) p) ys (λ r′. refl)
+      go (Letter b) p = barred (tok (Letter b) p) ys (λ r′. refl)
+      go (Name g) p = barred (tok (Name g) p) ys (λ r′. refl)
+      go (Symbol n) p = barred (tok (Symbol n) p) ys (λ r′. refl)
+
+local-range : (k : Bank → ℕ → ℕ → ℤ → Tree) (r : List Tok) → Local (λ r. expectRange r k) r (expectRange r k)
+local-range k r =
+    local-cell _ r (λ b i ys. local-expect comma _ ys (λ zs. local-count _ zs (λ p n us. local-expect closeParen (λ v. ok (k b i p n) v) us (λ vs. kept _ vs))))
+
 local-bind : {X Y : Type 0} {G : List Tok → Result X} {ts : List Tok} {q : Result X} (k : X → List Tok → Result Y) → Local G ts q → ((t : X) (r : List Tok) → Local (k t) r (k t r))
     → Local (λ ts. andThen (G ts) k) ts (andThen q k)
 local-bind {X} k (took {t = t} {r = r} b) h = after (b .read) (b .split) (λ r′ s. ap (λ (q : Result X). andThen q k) (b .agrees r′ s)) (h t r)
@@ -113,10 +147,14 @@ local-bind {X} k (stop b) h = stop (record { read = b .read; split = b .split; a
 local-bind k at-deep h = at-deep
 local-bind k at-none h = at-none
 
-local-call : (o : Form) (p : ℕ) (read : ℕ → List Tok → Result Arguments) (ts : List Tok) → ((m : ℕ) → Local (λ ts. read m ts) ts (read m ts))
-    → Local (λ ts. callBody o p read ts) ts (callBody o p read ts)
-local-call (plain c) p read ts h = local-bind (λ us r. ok (callTree c p us) r) (h (moreArguments c)) (λ us r. kept _ r)
-local-call clock p read ts h = local-expect closeParen (λ r. ok tick r) ts (λ ys. kept tick ys)
+local-call : (o : Form) (p : ℕ) (read : ℕ → List Tok → Result Arguments) (whole : List Tok → Result Tree) (ts : List Tok)
+    → ((m : ℕ) → Local (λ ts. read m ts) ts (read m ts)) → Local (λ ts. whole ts) ts (whole ts) → Local (λ ts. callBody o p read whole ts) ts (callBody o p read whole ts)
+local-call (plain c) p read whole ts h k = local-bind (λ us r. ok (callTree c p us) r) (h (moreArguments c)) (λ us r. kept _ r)
+local-call clock p read whole ts h k = local-expect closeParen (λ r. ok tick r) ts (λ ys. kept tick ys)
+local-call (ranged o) p read whole ts h k = local-range (λ b i u n. total u o b i n) ts
+local-call (matched o) p read whole ts h k =
+    local-bind (λ t r. expect comma r (λ q. expectRange q (λ b i u n. matching u o t b i n))) k
+    (λ t r. local-expect comma (λ q. expectRange q (λ b i u n. matching u o t b i n)) r (λ ys. local-range (λ b i u n. matching u o t b i n) ys))
 
 mutual
   unfolding expression
@@ -151,7 +189,7 @@ mutual
       push (tok (Letter b) p) xs h (local-enter d openIndex _ xs (λ e ys. local-bind (λ t r. ok (indexed b t) r) (local-bracket f e closeIndex ys) (λ t r. kept _ r)))
   local-primary (suc f) d (Name g) p xs F h =
       push (tok (Name g) p) xs h
-      (local-enter d openParen _ xs (λ e ys. local-call (formOf g) p (λ m ts. arguments f e m ts) ys (λ m. local-arguments f e m ys)))
+      (local-enter d openParen _ xs (λ e ys. local-call (formOf g) p (λ m ts. arguments f e m ts) (λ ts. expression f e loosest ts) ys (λ m. local-arguments f e m ys) (local-expression f e loosest ys)))
   local-primary (suc f) d (Symbol n) p xs F h =
       swap (tok (Symbol n) p) xs h (local-enter d openParen (λ e ys. bracket f e closeParen ys) (tok (Symbol n) p ∷ xs) (λ e ys. local-bracket f e closeParen ys))
 

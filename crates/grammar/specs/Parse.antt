@@ -5,11 +5,14 @@ use mathlib.Core.List.{List, [], _∷_}
 use Prim.Native.Nat.{ℕ, zero, suc, _+_, _-_, _*_}
 use lib.Dec.{leb}
 use lib.ListN.{length}
+use lib.IntN.{ℤ}
+use Rattle.values.specs.declared.Value.the-variants.{Int, Real}
+use Rattle.memory.specs.declared.Bank.{Bank}
 use Rattle.tokens.specs.declared.Token.{Token}
 use Rattle.tokens.specs.declared.Token.the-variants.{Number, Cell, Letter, Name, Symbol}
 use Rattle.tokens.specs.Scan.{Tok}
-use Rattle.grammar.specs.Tree.{Tree, literal, cell, indexed, unary, tick}
-use Rattle.grammar.specs.Symbols.{group, loosest, isSymbol, openParen, closeParen, openIndex, closeIndex, comma, prefixOf, is, none, infixTree, Form, plain, clock, formOf, moreArguments, Arguments, one, more, callTree}
+use Rattle.grammar.specs.Tree.{Tree, literal, cell, indexed, unary, tick, total, matching}
+use Rattle.grammar.specs.Symbols.{group, loosest, isSymbol, openParen, closeParen, openIndex, closeIndex, comma, prefixOf, is, none, infixTree, Form, plain, clock, ranged, matched, formOf, moreArguments, Arguments, one, more, callTree}
 
 -- a tree and the tokens left; the tokens from the first that no formula has there; the tokens from an opener met with eight still open; or too little fuel
 pub data Result (X : Type 0) : Type 0 where
@@ -28,6 +31,34 @@ andThen starved k = starved
 abbrev pub expect : {X : Type 0} → ℕ → List Tok → (List Tok → Result X) → Result X
 expect n [] k = bad []
 expect n (x ∷ xs) k = elim (isSymbol n (x .token)) [ true ↦ k xs | false ↦ bad (x ∷ xs) ]
+
+-- a cell comes next
+abbrev pub expectCell : {X : Type 0} → List Tok → (Bank → ℕ → List Tok → Result X) → Result X
+expectCell [] k = bad []
+expectCell (x ∷ xs) k =
+    elim (x .token) [
+      | Number v ↦ bad (x ∷ xs)
+      | Cell b i ↦ k b i xs
+      | Letter b ↦ bad (x ∷ xs)
+      | Name g ↦ bad (x ∷ xs)
+      | Symbol n ↦ bad (x ∷ xs)
+    ]
+
+-- an integer numeral comes next, with its place
+abbrev pub expectCount : {X : Type 0} → List Tok → (ℕ → ℤ → List Tok → Result X) → Result X
+expectCount [] k = bad []
+expectCount (x ∷ xs) k =
+    elim (x .token) [
+      | Number v ↦ elim v [ Int z ↦ k (x .place) z xs | Real y ↦ bad (x ∷ xs) ]
+      | Cell b i ↦ bad (x ∷ xs)
+      | Letter b ↦ bad (x ∷ xs)
+      | Name g ↦ bad (x ∷ xs)
+      | Symbol n ↦ bad (x ∷ xs)
+    ]
+
+-- a first cell, a count and the closing parenthesis come next
+abbrev pub expectRange : List Tok → (Bank → ℕ → ℕ → ℤ → Tree) → Result Tree
+expectRange ts k = expectCell ts (λ b i r. expect comma r (λ q. expectCount q (λ p n s. expect closeParen s (λ v. ok (k b i p n) v))))
 
 -- "more than eight open"
 abbrev pub mostOpen : ℕ
@@ -50,10 +81,12 @@ symbolNumber (Symbol n) = n
 abbrev pub binds : ℕ → Token → Bool
 binds l x = leb 1 (group x) && leb (group x) l
 
--- what stands behind the opening parenthesis of a call at the place p, by its form, given how so many arguments after the first are read
-abbrev pub callBody : Form → ℕ → (ℕ → List Tok → Result Arguments) → List Tok → Result Tree
-callBody (plain c) p read ts = andThen (read (moreArguments c) ts) (λ us r. ok (callTree c p us) r)
-callBody clock p read ts = expect closeParen ts (λ r. ok tick r)
+-- what stands behind the opening parenthesis of a call at the place p, by its form, given how so many arguments after the first are read, and how an expression is
+abbrev pub callBody : Form → ℕ → (ℕ → List Tok → Result Arguments) → (List Tok → Result Tree) → List Tok → Result Tree
+callBody (plain c) p read whole ts = andThen (read (moreArguments c) ts) (λ us r. ok (callTree c p us) r)
+callBody clock p read whole ts = expect closeParen ts (λ r. ok tick r)
+callBody (ranged o) p read whole ts = expectRange ts (λ b i u n. total u o b i n)
+callBody (matched o) p read whole ts = andThen (whole ts) (λ t r. expect comma r (λ q. expectRange q (λ b i u n. matching u o t b i n)))
 
 unfoldable mutual
   -- an expression of the group l at the loosest, with room for d brackets
@@ -84,7 +117,7 @@ unfoldable mutual
         | Number v ↦ ok (literal (x .place) v) xs
         | Cell b i ↦ ok (cell b i) xs
         | Letter b ↦ enter d openIndex xs (λ e r. andThen (bracket f e closeIndex r) (λ t q. ok (indexed b t) q))
-        | Name g ↦ enter d openParen xs (λ e r. callBody (formOf g) (x .place) (λ m q. arguments f e m q) r)
+        | Name g ↦ enter d openParen xs (λ e r. callBody (formOf g) (x .place) (λ m q. arguments f e m q) (λ q. expression f e loosest q) r)
         | Symbol n ↦ enter d openParen (x ∷ xs) (λ e r. bracket f e closeParen r)
       ]
 

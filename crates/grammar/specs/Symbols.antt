@@ -1,5 +1,6 @@
 -- What each token can be in a formula (paper 01, "Grammar and grouping"): "Tightest first: unary `- ~ !`, which may repeat; `**`; `* / %`; `+ -`; `<< >> >>>`; `< > <= >=`; `== !=`; `&`; `^`;
--- `|`; `&&`; `||`." "ABS, TOREAL, TOINT, TRUNC, ROUND, FRAC one, MAX, MIN two, IF three." TICKms has none, SINCE one (paper 02, Ask 13).
+-- `|`; `&&`; `||`." "ABS, TOREAL, TOINT, TRUNC, ROUND, FRAC one, MAX, MIN two, IF three." TICKms has none, SINCE one (paper 02, Ask 13); totals "a first cell and a
+-- plain numeral count", "for the IF forms an expression, then" these (Ask 2).
 use mathlib.Core.Bool.{Bool, false, cond}
 use mathlib.Core.List.{List, [], _∷_}
 use Prim.Native.Nat.{ℕ, zero, suc}
@@ -11,8 +12,10 @@ use Rattle.operators.specs.declared.UnaryOp.the-variants as U
 use Rattle.operators.specs.declared.BinaryOp.{BinaryOp}
 use Rattle.operators.specs.declared.BinaryOp.the-variants as B
 use Rattle.operators.specs.Tables.{binaryOps}
+use Rattle.totals.specs.declared.TotalOp.{TotalOp}
+use Rattle.totals.specs.declared.MatchOp.{MatchOp}
 use Rattle.tokens.specs.declared.Function.{Function}
-use Rattle.tokens.specs.declared.Function.the-variants.{Abs, ToReal, ToInt, Trunc, Round, Frac, Max, Min, If, TickMs, Since}
+use Rattle.tokens.specs.declared.Function.the-variants.{Abs, ToReal, ToInt, Trunc, Round, Frac, Max, Min, If, TickMs, Since, Total, Match}
 use Rattle.tokens.specs.declared.Token.{Token}
 use Rattle.tokens.specs.declared.Token.the-variants.{Number, Cell, Letter, Name, Symbol}
 use Rattle.grammar.specs.Tree.{Tree, unary, binary, logic, choice, since}
@@ -103,10 +106,12 @@ pub data Callee : Type 0 where
   of-choice : Callee
   of-since : Callee
 
--- what stands between a function's parentheses: values, or nothing
+-- what stands between a function's parentheses: values; nothing; a first cell and a count; or a value before these
 pub data Form : Type 0 where
   plain : Callee → Form
   clock : Form
+  ranged : TotalOp → Form
+  matched : MatchOp → Form
 
 abbrev pub formOf : Function → Form
 formOf Abs = plain (of-one U.Abs)
@@ -120,6 +125,8 @@ formOf Min = plain (of-two (B.Choice Choose.Min))
 formOf If = plain of-choice
 formOf TickMs = clock
 formOf Since = plain of-since
+formOf (Total o) = ranged o
+formOf (Match o) = matched o
 
 -- how many arguments after the first
 abbrev pub moreArguments : Callee → ℕ

@@ -3,6 +3,7 @@
 use mathlib.Core.Bool.{Bool, true, false, _&&_, _||_, cond}
 use Prim.Native.Nat.{ℕ}
 use lib.Dec.{eqb, ltb, leb}
+use lib.IntN.{ℤ}
 use Rattle.values.specs.declared.Kind.{Kind}
 use Rattle.values.specs.declared.Kind.the-variants as K
 use Rattle.values.specs.declared.Value.{Value}
@@ -12,8 +13,12 @@ use Rattle.operators.specs.declared.BinaryOp.{BinaryOp}
 use Rattle.operators.specs.Kinds.{isInt, join, unaryKind, unaryTakes, binaryKind, binaryTakes}
 use Rattle.memory.specs.declared.Bank.{Bank}
 use Rattle.memory.specs.Cells.{bankKind}
+use Rattle.totals.specs.declared.TotalOp.{TotalOp}
+use Rattle.totals.specs.declared.MatchOp.{MatchOp}
+use Rattle.totals.specs.Totals.{totalKind, matchKind, goodCount}
 
--- logic d: `&&` for d false, `||` for d true, the truth of the left side that decides; tick and since: TICKms() and SINCE (paper 02, Ask 13)
+-- logic d: `&&` for d false, `||` for d true, the truth of the left side that decides; tick and since: TICKms() and SINCE (paper 02, Ask 13);
+-- total and matching: a total over a run of cells (Ask 2), the place of the count, the first cell, and the count as it is typed
 pub data Tree : Type 0 where
   literal : ℕ → Value → Tree
   cell : Bank → ℕ → Tree
@@ -24,6 +29,8 @@ pub data Tree : Type 0 where
   choice : ℕ → Tree → Tree → Tree → Tree
   tick : Tree
   since : ℕ → Tree → Tree
+  total : ℕ → TotalOp → Bank → ℕ → ℤ → Tree
+  matching : ℕ → MatchOp → Tree → Bank → ℕ → ℤ → Tree
 
 -- "The kind is known from the text alone."
 unfoldable pub treeKind : Tree → Kind
@@ -36,6 +43,8 @@ treeKind (logic p d t u) = K.Int
 treeKind (choice p c t u) = join (treeKind t) (treeKind u)
 treeKind tick = K.Int
 treeKind (since p t) = K.Int
+treeKind (total p o b i n) = totalKind o b
+treeKind (matching p o t b i n) = matchKind o b
 
 -- what a tree shows to be wrong with its text: nothing, or a place and the answer that refuses the text there
 pub data Diagnostic : Type 0 where
@@ -59,6 +68,10 @@ unless false x = x
 abbrev pub wrongKindAt : ℕ → Diagnostic
 wrongKindAt p = at p 9
 
+-- answer 6 of a count: "a count below 1 or a range past the bank is 6 at the numeral; this 6 is looked for together with 9"
+abbrev pub wrongCountAt : ℕ → Diagnostic
+wrongCountAt p = at p 6
+
 unfoldable pub diagnosticOf : Tree → Diagnostic
 unfolding treeKind
 diagnosticOf (literal p v) = clear
@@ -70,3 +83,5 @@ diagnosticOf (logic p d t u) = earlier (diagnosticOf t) (diagnosticOf u)
 diagnosticOf (choice p c t u) = earlier (diagnosticOf c) (earlier (diagnosticOf t) (diagnosticOf u))
 diagnosticOf tick = clear
 diagnosticOf (since p t) = earlier (unless (isInt (treeKind t)) (wrongKindAt p)) (diagnosticOf t)
+diagnosticOf (total p o b i n) = unless (goodCount b i n) (wrongCountAt p)
+diagnosticOf (matching p o t b i n) = earlier (unless (goodCount b i n) (wrongCountAt p)) (diagnosticOf t)

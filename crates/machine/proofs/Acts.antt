@@ -14,11 +14,12 @@ use Rattle.values.specs.declared.Outcome.{Outcome}
 use Rattle.values.specs.declared.Outcome.the-variants as Outcome
 use Rattle.operators.specs.Operators.{unaryRule, sinceRule, binaryRule, truthRule}
 use Rattle.memory.specs.Environment.{Environment, indexedCell}
+use Rattle.totals.specs.Totals.{totalOver, matchOver}
 use Rattle.code.specs.declared.Instr.{Instr}
-use Rattle.code.specs.declared.Instr.the-variants.{PushInt, PushReal, Load, LoadIndexed, Unary, Binary, Jump, JumpIf, Tick, Since, Unknown}
+use Rattle.code.specs.declared.Instr.the-variants.{PushInt, PushReal, Load, LoadIndexed, Unary, Binary, Jump, JumpIf, Tick, Since, Total, Match, Unknown}
 use Rattle.words.specs.Laws.{Bytes}
 use Rattle.code.specs.Instructions.{decodeAt}
-use Rattle.code.specs.Encode.{Encodable, push-int, push-real, load, load-indexed, unary, binary, jump, jump-if, push-tick, since}
+use Rattle.code.specs.Encode.{Encodable, push-int, push-real, load, load-indexed, unary, binary, jump, jump-if, push-tick, since, total, matching}
 use Rattle.code.proofs.Laws.{decode-encodable}
 use Rattle.machine.specs.declared.Ended.the-variants.{Stopped, Stuck}
 use Rattle.machine.specs.declared.Step.{Step}
@@ -45,6 +46,8 @@ distance (Jump d) = d
 distance (JumpIf t d) = d
 distance Tick = 0
 distance Since = 0
+distance (Total o b i n) = 0
+distance (Match o b i n) = 0
 distance Unknown = 0
 
 near : {i : Instr} → Encodable i → distance i < 2 ^ 32
@@ -58,6 +61,8 @@ near (jump d t) = t
 near (jump-if t d h) = h
 near push-tick = lit< tt
 near since = lit< tt
+near (total o b i n g) = lit< tt
+near (matching o b i n g) = lit< tt
 
 pub decoded-near : (code : List ℕ) (p : ℕ) → Bytes code → distance (decodeAt code p) < 2 ^ 32
 decoded-near code p B = ⊎-elim near (λ e. rw e (lit< tt)) (decode-encodable code p B)
@@ -111,4 +116,7 @@ module _ (E : Environment) (s : List Value) where
   leads Tick h q = push-leads s h h _ (omega arith)
   leads Since zero q = stick
   leads Since (suc h) q = one-leads h (sinceRule (E .tick))
+  leads (Total o b i n) h q = given-leads s h h (totalOver E o b i n .result) (omega arith)
+  leads (Match o b i n) zero q = stick
+  leads (Match o b i n) (suc h) q = one-leads h (λ v. matchOver E o v b i n .result)
   leads Unknown h q = stick

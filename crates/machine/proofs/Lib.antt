@@ -1,8 +1,10 @@
 -- What other crates may cite, and the steps to the proof of run.
 pub mod Laws
+pub mod Bounds
 pub mod Properness
 mod Held
 mod Acts
 mod Rest
 mod Performs
+mod Visits
 mod Turn

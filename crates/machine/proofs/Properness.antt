@@ -16,10 +16,11 @@ use Rattle.operators.specs.Laws.{Proper, int, real, AllProper, done, stopped, w
 use Rattle.operators.proofs.Laws.{rule-laws}
 use Rattle.memory.specs.Environment.{memoryAt}
 use Rattle.memory.proofs.Laws.{memory-laws}
+use Rattle.totals.proofs.Laws.{total-laws}
 use Rattle.code.specs.declared.Instr.{Instr}
 use Rattle.code.specs.declared.Instr.the-variants.{Unknown}
 use Rattle.code.specs.Instructions.{decodeAt, decodeFrom}
-use Rattle.code.specs.Encode.{Encodable, push-int, push-real, load, load-indexed, unary, binary, jump, jump-if, push-tick, since}
+use Rattle.code.specs.Encode.{Encodable, push-int, push-real, load, load-indexed, unary, binary, jump, jump-if, push-tick, since, total, matching}
 use Rattle.code.proofs.Laws.{decode-encodable}
 use Rattle.machine.specs.declared.Ended.{Ended}
 use Rattle.machine.specs.declared.Ended.the-variants.{Done, Stopped, Stuck}
@@ -77,6 +78,9 @@ module _ (tick : ℕ) (m : List ℕ) (bytes : Bytes m) where
   acts push-tick s = pushes s (rule-laws .tick-proper tick)
   acts since none = end stuck
   acts since (more {v} p s) = gives s (rule-laws .since-proper tick v)
+  acts (total o b i n g) s = gives s (total-laws .total-proper (memoryAt tick m) o b i n g (λ j. memory-laws .read-proper m b j bytes))
+  acts (matching o b i n g) none = end stuck
+  acts (matching o b i n g) (more {v} p s) = gives s (total-laws .match-proper (memoryAt tick m) o v b i n (λ j. memory-laws .read-proper m b j bytes))
 
   decoded : (i : Instr) {st : List Value} → Encodable i ⊎ (i ≡ Unknown) → AllHeld st → ProperNext (act (memoryAt tick m) i st)
   decoded i (inl e) s = acts e s

@@ -19,7 +19,7 @@ use Rattle.machine.specs.declared.Ended.the-variants.{Stuck}
 use Rattle.machine.specs.declared.Ran.{Ran}
 use Rattle.machine.specs.Machine.{Next, goes, halts, act, cost, finish, counting, exec}
 use Rattle.machine.specs.private.Steps.{minimum, endedAt, stuckAt, finishOf, finishedAt}
-use Rattle.machine.proofs.Laws.{onward, exec-next, cost-is-one}
+use Rattle.machine.proofs.Laws.{onward, exec-next, cost-is}
 
 -- k counted before
 abbrev pub adding : ℕ → Ran → Ran
@@ -145,7 +145,8 @@ module _ {E : Environment} {code : List ℕ} {n p : ℕ} {st : List Value} {k : 
       beneath true e r =
           let more : p < n = ltb-true p n e in
           let none : decodeAt code p ≡ Unknown = decode-beyond code p (no-more n (length code / 8) p more q) in
-          stops more (S .within r) 1 (cost-is-one E (decodeAt code p) st) (rw none (unknown-stuck E st))
+          let one : cost E (decodeAt code p) st ≡ 1 = rw none (cost-is E Unknown st) in
+          stops more (S .within r) 1 one (rw none (unknown-stuck E st))
       beneath false e r = ends (ltb-false p n e) (S .within r) f
 
       over : (t : Bool) → ltb n p ≡ t → cond t (stuckAt k) (cond (ltb p n) (stuckAt (k + 1)) (endedAt k (finishOf h v))) ≡ wholeRun E code n

@@ -1,53 +1,102 @@
 -- One turn of the loop on the array of values: where each kind of step leads.
-use mathlib.Core.Path.{_≡_, refl, subst}
+use mathlib.Core.Path.{_≡_, refl, sym, ap, _∙_, subst}
 use mathlib.Core.Logic.{⊎-elim}
 use mathlib.Core.List.{List, [], _∷_}
-use Prim.Native.Nat.{ℕ, _+_, _-_, _^_, _≤_, _<_}
+use Prim.Native.Nat.{ℕ, suc, _+_, _-_, _^_, _≤_, _<_}
+use native.Mathlib.Nat.{add-zero}
 use native.Mathlib.Omega.{arith}
-use lib.Dec.{lit<}
+use lib.Dec.{T, lit<}
 use types.Run.{OneOf}
 use denote.Enum.Declared.{tagOf}
 use lib.ListN.{length, getD, set}
 use Rattle.values.specs.declared.Value.{Value}
 use Rattle.words.specs.Laws.{Bytes}
 use Rattle.memory.specs.Environment.{Environment}
-use Rattle.code.specs.Instructions.{decodeAt, fetched, instructionOf, opcodeOf}
+use Rattle.totals.specs.declared.Visited.{Visited}
+use Rattle.totals.specs.Numbers.{totalOf, matchOf}
+use Rattle.code.specs.Instructions.{decodeAt, fetched, instructionOf, opcodeOf, wordOf}
 use Rattle.code.specs.declared.Class.{Class}
-use Rattle.code.specs.private.Classes.{classOf, instrIn}
+use Rattle.code.specs.declared.Class.the-variants as Class
+use Rattle.code.specs.private.Classes.{classOf, numberOf, instrIn}
 use Rattle.code.proofs.Page.{number-class}
 use Rattle.code.proofs.Parts.{decode-fetched}
 use Rattle.machine.specs.declared.How.{How}
 use Rattle.machine.specs.declared.How.the-variants as How
 use Rattle.machine.specs.declared.Step.{Step}
-use Rattle.machine.specs.Machine.{maxHeight, Next, act}
-use Rattle.machine.specs.private.Steps.{stepOf, failedAt}
+use Rattle.machine.specs.Machine.{maxHeight, Next, act, cellsBegun, cost, maxCells}
+use Rattle.machine.specs.private.Steps.{outcomeStep, stepOf, totalVisit, matchVisit, onLast, failedAt}
 use Rattle.machine.proofs.How.{the-type}
 use Rattle.machine.proofs.Held.{none, held, held-push}
 use Rattle.machine.proofs.Acts.{Leads, push, skip, stop, stick, decoded-near, leads}
-use Rattle.machine.proofs.Laws.{cost-is-one}
+use Rattle.machine.proofs.Laws.{begun-most, cost-is}
+use Rattle.machine.proofs.Bounds.{isPlain, plain-none, decode-cells}
+use Rattle.machine.proofs.Visits.{total-step, total-cells, match-step, match-cells}
 use Rattle.machine.proofs.Rest.{wholeRun, Left, stops, Stands, advances}
 
--- at the place p, with h values of the array s held and k counted: the instruction leads to y, and makes the step x
-pub record Turn (E : Environment) (code : List ℕ) (n p h : ℕ) (s : List Value) (k : ℕ) (x : Step) : Type 0 where
+-- at the place p, with h values of the array s held and k counted: the instruction leads to y, makes the step x, and k′ are counted after it
+pub record Turn (E : Environment) (code : List ℕ) (n p h : ℕ) (s : List Value) (k k′ : ℕ) (x : Step) : Type 0 where
   pub in-code : p < n
   pub rest : Left E code n p (held h s) k
   pub made : Leads s h (act E (decodeAt code p) (held h s)) x
+  pub counted : k′ ≡ k + cost E (decodeAt code p) (held h s)
+
+-- the instruction of the number w was performed, and k′ are counted after k
+pub record Performed (E : Environment) (h : ℕ) (s : List Value) (w k k′ : ℕ) (x : Step) : Type 0 where
+  pub step : x ≡ stepOf E (instructionOf w) h (getD s (h - 2) none) (getD s (h - 1) none)
+  pub count : k′ ≡ k + cost E (instructionOf w) (held h s)
 
 -- c is the class of the number w, told to be d, and l and r are the places of the two values at the top
-pub performed : (E : Environment) (h : ℕ) (s : List Value) (w : ℕ) {l r : ℕ} {c d : Class} {x : Step} → c ≡ classOf (opcodeOf w) → c ≡ d → l ≡ h - 2 → r ≡ h - 1
+by-class : (E : Environment) (h : ℕ) (s : List Value) (w : ℕ) {l r : ℕ} {c d : Class} {x : Step} → c ≡ classOf (opcodeOf w) → c ≡ d → l ≡ h - 2 → r ≡ h - 1
     → x ≡ stepOf E (instrIn d w) h (getD s l none) (getD s r none) → x ≡ stepOf E (instructionOf w) h (getD s (h - 2) none) (getD s (h - 1) none)
-performed E h s w f g u v e = rw (number-class w, ← f, g, ← u, ← v) e
+by-class E h s w f g u v e = rw (number-class w, ← f, g, ← u, ← v) e
+
+-- an instruction that begins b cells
+counts : (E : Environment) (st : List Value) (w k : ℕ) {c d : Class} {b k′ : ℕ} → c ≡ classOf (opcodeOf w) → c ≡ d → b ≡ cellsBegun E (instrIn d w) st
+    → k′ ≡ k + 1 + b → k′ ≡ k + cost E (instructionOf w) st
+counts E st w k {b = b} f g e q =
+    let sum : k + 1 + b ≡ k + suc b = omega arith in
+    q ∙ sum ∙ ap (λ (m : ℕ). k + suc m) e ∙ rw (number-class w, ← f, g) (ap (λ (m : ℕ). k + m) (sym (cost-is E _ st)))
+
+-- a plain one begins none
+pub performed : (E : Environment) (h : ℕ) (s : List Value) (w : ℕ) {l r : ℕ} {c d : Class} {x : Step} {k k′ : ℕ} → c ≡ classOf (opcodeOf w) → c ≡ d → T (isPlain d)
+    → l ≡ h - 2 → r ≡ h - 1 → x ≡ stepOf E (instrIn d w) h (getD s l none) (getD s r none) → k′ ≡ k + 1 → Performed E h s w k k′ x
+performed E h s w {d = d} {k = k} f g t u v e q =
+    let none-begun : 0 ≡ cellsBegun E (instrIn d w) (held h s) =
+    omega (arith, begun-most E (instrIn d w) (held h s), plain-none d (numberOf w) (wordOf w) t) in
+    record { step = by-class E h s w f g u v e; count = counts E (held h s) w k f g none-begun (q ∙ sym (add-zero (k + 1))) }
+
+-- one over a range, which came to v
+module _ (E : Environment) (h : ℕ) (s : List Value) (w : ℕ) {c : Class} {x : Step} {v : Visited} {k k′ : ℕ} (f : c ≡ classOf (opcodeOf w)) where
+  pub totalled : c ≡ Class.Total → v ≡ totalVisit E (totalOf (numberOf w)) (wordOf w) → x ≡ outcomeStep h (v .result) → k′ ≡ k + 1 + v .cells
+      → Performed E h s w k k′ x
+  totalled g e y q =
+      let u = totalOf (numberOf w) in
+      record {
+        step = by-class E h s w f g refl refl (y ∙ rw e (total-step E h (getD s (h - 2) none) (getD s (h - 1) none) u (wordOf w)));
+        count = counts E (held h s) w k f g (rw e (total-cells E (held h s) u (wordOf w))) q;
+      }
+
+  pub matched : {r j : ℕ} → c ≡ Class.Match → r ≡ h - 1 → v ≡ onLast h (matchVisit E (matchOf (numberOf w)) (getD s r none) (wordOf w)) → j ≡ h - 1
+      → x ≡ outcomeStep j (v .result) → k′ ≡ k + 1 + v .cells → Performed E h s w k k′ x
+  matched g i e j y q =
+      let u = matchOf (numberOf w) in
+      let is = rw i at e in
+      record {
+        step = by-class E h s w f g refl refl (y ∙ rw (j, is) (match-step E (wordOf w) h (getD s (h - 2) none) (getD s (h - 1) none) u));
+        count = counts E (held h s) w k f g (rw is (match-cells E (wordOf w) s h u)) q;
+      }
 
 -- w is the number of the instruction
 pub turn :
-    {E : Environment} {code : List ℕ} {n p k w : ℕ} {x : Step} (h : ℕ) (s : List Value) → p < n → Stands E code n p (held h s) k → Bytes code → w ≡ fetched code p
-    → x ≡ stepOf E (instructionOf w) h (getD s (h - 2) none) (getD s (h - 1) none) → Turn E code n p h s k x
+    {E : Environment} {code : List ℕ} {n p k k′ w : ℕ} {x : Step} (h : ℕ) (s : List Value) → p < n → Stands E code n p (held h s) k → Bytes code → w ≡ fetched code p
+    → Performed E h s w k k′ x → Turn E code n p h s k k′ x
 turn {E} {code} {p = p} {w = w} h s c S B d e =
     let is : decodeAt code p ≡ instructionOf w = rw d (decode-fetched code p) in
     record {
       in-code = c;
       rest = S .within (omega arith);
-      made = rw (e, ← is) (leads E s (decodeAt code p) h (decoded-near code p B));
+      made = rw (e .step, ← is) (leads E s (decodeAt code p) h (decoded-near code p B));
+      counted = rw is (e .count);
     }
 
 module _ {s : List Value} {h : ℕ} where
@@ -63,34 +112,43 @@ module _ {s : List Value} {h : ℕ} where
   near (stop f) = lit< tt
   near stick = lit< tt
 
-module _ (E : Environment) (code : List ℕ) (n p : ℕ) (s : List Value) (k : ℕ) (x : Step) where
+module _ (E : Environment) (code : List ℕ) (n p : ℕ) (s : List Value) (k′ : ℕ) (x : Step) where
   -- what follows from how a step goes on
   abbrev pub Onward : How → Type 0
-  Onward How.Push = (x .height < maxHeight) × (length s ≡ maxHeight → Stands E code n (p + (1 + x .skip)) (held (x .height + 1) (set s (x .height) (x .value))) (k + 1))
-  Onward How.Skip = Stands E code n (p + (1 + x .skip)) (held (x .height) s) (k + 1)
-  Onward How.Stop = failedAt How.Stop (x .fault) (k + 1) ≡ wholeRun E code n
-  Onward How.Stuck = failedAt How.Stuck (x .fault) (k + 1) ≡ wholeRun E code n
+  Onward How.Push = (x .height < maxHeight) × (length s ≡ maxHeight → Stands E code n (p + (1 + x .skip)) (held (x .height + 1) (set s (x .height) (x .value))) k′)
+  Onward How.Skip = Stands E code n (p + (1 + x .skip)) (held (x .height) s) k′
+  Onward How.Stop = failedAt How.Stop (x .fault) k′ ≡ wholeRun E code n
+  Onward How.Stuck = failedAt How.Stuck (x .fault) k′ ≡ wholeRun E code n
 
   -- a step that ends the run, by the places of Stop and Stuck in the enum
-  over : (w : How) → OneOf (2 ∷ 3 ∷ []) (tagOf the-type w) → Onward w → failedAt w (x .fault) (k + 1) ≡ wholeRun E code n
+  over : (w : How) → OneOf (2 ∷ 3 ∷ []) (tagOf the-type w) → Onward w → failedAt w (x .fault) k′ ≡ wholeRun E code n
   over How.Push o q = absurd (⊎-elim (λ e. omega arith) (λ e. omega arith) o)
   over How.Skip o q = absurd (⊎-elim (λ e. omega arith) (λ e. omega arith) o)
   over How.Stop o q = q
   over How.Stuck o q = q
 
 module _ {E : Environment} {code : List ℕ} {n p h : ℕ} {s : List Value} {k : ℕ} where
-  leads-on : {y : Next} {x : Step} → p < n → Left E code n p (held h s) k → act E (decodeAt code p) (held h s) ≡ y → Leads s h y x → Onward E code n p s k x (x .how)
-  leads-on c L a (push m v q r) = (r, λ l. rw (held-push m s v (omega arith)) (advances c L 1 (cost-is-one E (decodeAt code p) (held h s)) a))
-  leads-on c L a (skip m d q r) = advances c L 1 (cost-is-one E (decodeAt code p) (held h s)) a
-  leads-on c L a (stop f) = stops c L 1 (cost-is-one E (decodeAt code p) (held h s)) a
-  leads-on c L a stick = stops c L 1 (cost-is-one E (decodeAt code p) (held h s)) a
+  leads-on : {y : Next} {x : Step} → p < n → Left E code n p (held h s) k → act E (decodeAt code p) (held h s) ≡ y → Leads s h y x
+      → Onward E code n p s (k + cost E (decodeAt code p) (held h s)) x (x .how)
+  leads-on c L a (push m v q r) = (r, λ l. rw (held-push m s v (omega arith)) (advances c L _ refl a))
+  leads-on c L a (skip m d q r) = advances c L _ refl a
+  leads-on c L a (stop f) = stops c L _ refl a
+  leads-on c L a stick = stops c L _ refl a
 
-  module _ {x : Step} (t : Turn E code n p h s k x) where
-    pub onward : {w : How} → x .how ≡ w → Onward E code n p s k x w
-    onward e = subst (Onward E code n p s k x) e (leads-on (t .in-code) (t .rest) refl (t .made))
+  module _ {k′ : ℕ} {x : Step} (t : Turn E code n p h s k k′ x) where
+    pub onward : {w : How} → x .how ≡ w → Onward E code n p s k′ x w
+    onward {w} e =
+        subst (λ j. Onward E code n p s j x w) (sym (t .counted))
+        (subst (Onward E code n p s (k + cost E (decodeAt code p) (held h s)) x) e (leads-on (t .in-code) (t .rest) refl (t .made)))
 
-    pub fails : OneOf (2 ∷ 3 ∷ []) (tagOf the-type (x .how)) → failedAt (x .how) (x .fault) (k + 1) ≡ wholeRun E code n
-    fails o = over E code n p s k x (x .how) o (onward refl)
+    pub fails : OneOf (2 ∷ 3 ∷ []) (tagOf the-type (x .how)) → failedAt (x .how) (x .fault) k′ ≡ wholeRun E code n
+    fails o = over E code n p s k′ x (x .how) o (onward refl)
+
+    -- one for the instruction, and no more than 256 for its cells
+    pub few : k′ ≤ k + (1 + maxCells)
+    few =
+        let i = decodeAt code p in
+        omega (arith, t .counted, cost-is E i (held h s), begun-most E i (held h s), decode-cells code p)
 
     pub lower : x .height ≤ h
     lower = low (t .made)

@@ -13,8 +13,9 @@ use Rattle.values.specs.declared.Outcome.the-variants as Outcome
 use Rattle.values.specs.Patterns.{signedOf}
 use Rattle.operators.specs.Operators.{unaryRule, sinceRule, binaryRule, truthRule}
 use Rattle.memory.specs.Environment.{Environment, indexedCell, memoryAt}
+use Rattle.totals.specs.Totals.{totalOver, matchOver}
 use Rattle.code.specs.declared.Instr.{Instr}
-use Rattle.code.specs.declared.Instr.the-variants.{PushInt, PushReal, Load, LoadIndexed, Unary, Binary, Jump, JumpIf, Tick, Since, Unknown}
+use Rattle.code.specs.declared.Instr.the-variants.{PushInt, PushReal, Load, LoadIndexed, Unary, Binary, Jump, JumpIf, Tick, Since, Total, Match, Unknown}
 use Rattle.code.specs.Instructions.{instructions}
 use Rattle.machine.specs.declared.Ended.{Ended}
 use Rattle.machine.specs.declared.Ended.the-variants.{Done, Stopped, Stuck}
@@ -54,19 +55,63 @@ act E (JumpIf t d) (v ∷ st) = cond (Bool·beq (truthRule v) t) (goes d st) (go
 act E Tick st = pushValue (Int (signedOf 32 (E .tick))) st
 act E Since [] = halts Stuck
 act E Since (v ∷ st) = pushOutcome (sinceRule (E .tick) v) st
+act E (Total o b i n) st = pushOutcome (totalOver E o b i n .result) st
+act E (Match o b i n) [] = halts Stuck
+act E (Match o b i n) (v ∷ st) = pushOutcome (matchOver E o v b i n .result) st
 act E Unknown st = halts Stuck
 
--- what an instruction that is begun adds to the count
+-- the cells that an instruction begins
+abbrev pub cellsBegun : Environment → Instr → List Value → ℕ
+cellsBegun E (PushInt z) st = 0
+cellsBegun E (PushReal x) st = 0
+cellsBegun E (Load b i) st = 0
+cellsBegun E (LoadIndexed b) st = 0
+cellsBegun E (Unary o) st = 0
+cellsBegun E (Binary o) st = 0
+cellsBegun E (Jump d) st = 0
+cellsBegun E (JumpIf t d) st = 0
+cellsBegun E Tick st = 0
+cellsBegun E Since st = 0
+cellsBegun E (Total o b i n) st = totalOver E o b i n .cells
+cellsBegun E (Match o b i n) [] = 0
+cellsBegun E (Match o b i n) (v ∷ st) = matchOver E o v b i n .cells
+cellsBegun E Unknown st = 0
+
+-- what an instruction that is begun adds to the count: "one for each instruction and each cell visited, a faulting one included" (paper 02, Ask 2)
 unfoldable pub cost : Environment → Instr → List Value → ℕ
-cost E i st = 1
+cost E i st = suc (cellsBegun E i st)
+
+-- the cells of an instruction's range
+abbrev pub rangeCells : Instr → ℕ
+rangeCells (PushInt z) = 0
+rangeCells (PushReal x) = 0
+rangeCells (Load b i) = 0
+rangeCells (LoadIndexed b) = 0
+rangeCells (Unary o) = 0
+rangeCells (Binary o) = 0
+rangeCells (Jump d) = 0
+rangeCells (JumpIf t d) = 0
+rangeCells Tick = 0
+rangeCells Since = 0
+rangeCells (Total o b i n) = n
+rangeCells (Match o b i n) = n
+rangeCells Unknown = 0
 
 -- the most that it adds, whatever the memory and the values held, and the most that the instructions of some code add
 abbrev pub costAtMost : Instr → ℕ
-costAtMost i = 1
+costAtMost i = suc (rangeCells i)
 
 abbrev pub costBound : List Instr → ℕ
 costBound [] = 0
 costBound (i ∷ c) = costAtMost i + costBound c
+
+-- "a checked code's length, plus 256 for each such call": no bank has more cells; and how many instructions of some code go over a range
+abbrev pub maxCells : ℕ
+maxCells = 256
+
+abbrev pub rangesOf : List Instr → ℕ
+rangesOf [] = 0
+rangesOf (i ∷ c) = cond (ltb 0 (rangeCells i)) 1 0 + rangesOf c
 
 -- how a run ends that gives an outcome
 abbrev pub endOf : Outcome → Ended

@@ -1,14 +1,17 @@
 // The machine: instructions run on values held, a memory that they only read, and the tick.
 // An instruction is performed from the number of its eight bytes, without being made an `Instr` first: enums pass through memory.
 ghost use mathlib.Core.Path.{_≡_};
-ghost use Prim.Native.Nat.{_-_, _≤_};
+ghost use Prim.Native.Nat.{_+_, _*_, _-_, _≤_};
 ghost use Rattle.memory.specs.Environment.{memoryOf};
 ghost use Rattle.code.specs.declared.Instr.the-variants.{JumpIf};
 ghost use Rattle.code.specs.declared.Class.the-variants.{PushInt, PushReal, Jump, Tick, Since, Load, LoadIndexed, Unary, Binary};
+ghost use Rattle.totals.specs.Totals.{totalOver, matchOver};
+ghost use Rattle.totals.specs.Numbers.{totalOf, matchOf};
 ghost use Rattle.code.specs.Instructions.{wordOf};
-ghost use Rattle.code.specs.private.Classes.{instrIn};
-ghost use Rattle.machine.specs.Machine.{runsAt};
+ghost use Rattle.code.specs.private.Classes.{numberOf, instrIn};
+ghost use Rattle.machine.specs.Machine.{maxCells, runsAt};
 ghost use Rattle.machine.specs.private.Steps.{minimum, pushOrStuck, skipStep, stopStep, stuckStep, outcomeStep, bankStep};
+ghost use Rattle.machine.specs.private.Steps.{noVisit, wordVisit, totalVisit, matchVisit, onLast, IsVisit};
 ghost use Rattle.machine.specs.private.Steps.{IsStep, IsStepOn, IsStepOnBoth, IsLoad, IsLoadOn, IsTick, IsTickOn, stuckAt, failedAt, finishedAt};
 use code::Class;
 use memory::Bank;
@@ -17,6 +20,11 @@ use memory::numbers::BankOf;
 use operators::tables;
 use operators::tables::BinaryOf;
 use operators::tables::UnaryOf;
+use totals::MatchOp;
+use totals::TotalOp;
+use totals::Visited;
+use totals::tables::MatchOf;
+use totals::tables::TotalOf;
 use values::Fault;
 use values::Outcome;
 use values::Value;
@@ -32,7 +40,7 @@ pub enum Ended {
     Stuck,
 }
 
-// count: the instructions begun.
+// count: the instructions begun, and the cells that they began.
 pub struct Ran {
     pub end: Ended,
     pub count: usize,
@@ -108,12 +116,16 @@ fn stop_step(fault: Fault) -> Step
     }
 }
 
-// An outcome, where the first values are kept, as many as height says.
+// An outcome, where the first values are kept, as many as height says. Its value is made anew, since a copy of the whole would keep the
+// value of every step in memory.
 fn outcome_step(height: usize, o: Outcome) -> Step
     ensures { λ r. ⌜ r ≡ outcomeStep height o ⌝ }
 {
     match o {
-        Outcome::Done(v) => push_step(height, v),
+        Outcome::Done(v) => match v {
+            Value::Int(z) => push_step(height, Value::Int(z)),
+            Value::Real(x) => push_step(height, Value::Real(x)),
+        },
         Outcome::Stopped(f) => stop_step(f),
         Outcome::WrongKind => stuck_step(),
     }
@@ -231,10 +243,14 @@ fn jump_if(w: u64, h: usize, v: Value, t: bool) -> Step
     skip_step(h - 1, 0)
 }
 
+// The height is tested here already: where the ways out of `push_step` join those of a load, every load takes longer.
 fn push_tick(w: u64, h: usize, tick: u32) -> Step
     ensures { λ x. ⌜ IsTick tick (instrIn Tick w) h x ⌝ }
 {
     if code::word_of(w) != 0 {
+        return stuck_step();
+    }
+    if 127 < h {
         return stuck_step();
     }
     push_step(h, Value::Int(values::patterns::from_pattern(tick)))
@@ -250,6 +266,72 @@ fn since(w: u64, h: usize, tick: u32, v: Value) -> Step
         return stuck_step();
     }
     outcome_step(h - 1, operators::since(tick, v))
+}
+
+// What bytes that are no instruction over a range come to: an outcome that leaves the run stuck.
+fn no_visit() -> Visited
+    ensures { λ r. ⌜ r ≡ noVisit ⌝ }
+{
+    let result = Outcome::WrongKind;
+    Visited { result, cells: 0 }
+}
+
+// Over the range of the word, which must lie within its bank.
+fn total_over(o: TotalOp, w: u64, image: &[u8]) -> Visited
+    ensures { λ x. ⌜ IsVisit (now (image .entry)) (λ E. wordVisit (totalOver E o) (wordOf w)) x ⌝ }
+{
+    let word = code::word_of(w);
+    let first = code::range_first(word);
+    let count = code::range_count(word);
+    match numbers::bank_numbered(code::range_bank(word)) {
+        BankOf::Is(b) => {
+            if totals::ranges::is_good(b, first, count) {
+                return totals::total(o, image, b, first, count);
+            }
+            no_visit()
+        }
+        BankOf::Nothing => no_visit(),
+    }
+}
+
+fn total(w: u64, image: &[u8]) -> Visited
+    ensures { λ x. ⌜ IsVisit (now (image .entry)) (λ E. totalVisit E (totalOf (numberOf w)) (wordOf w)) x ⌝ }
+{
+    match totals::tables::total_of(code::number_of(w)) {
+        TotalOf::Is(o) => total_over(o, w, image),
+        TotalOf::Nothing => no_visit(),
+    }
+}
+
+// As `total_over`, of cells compared with v.
+fn match_over(o: MatchOp, w: u64, image: &[u8], v: Value) -> Visited
+    ensures { λ x. ⌜ IsVisit (now (image .entry)) (λ E. wordVisit (matchOver E o v) (wordOf w)) x ⌝ }
+{
+    let word = code::word_of(w);
+    let first = code::range_first(word);
+    let count = code::range_count(word);
+    match numbers::bank_numbered(code::range_bank(word)) {
+        BankOf::Is(b) => {
+            if totals::ranges::is_good(b, first, count) {
+                return totals::matching(o, image, b, first, count, v);
+            }
+            no_visit()
+        }
+        BankOf::Nothing => no_visit(),
+    }
+}
+
+// Compared with v, the last of h values.
+fn matching(w: u64, image: &[u8], h: usize, v: Value) -> Visited
+    ensures { λ x. ⌜ IsVisit (now (image .entry)) (λ E. onLast h (matchVisit E (matchOf (numberOf w)) v (wordOf w))) x ⌝ }
+{
+    if h < 1 {
+        return no_visit();
+    }
+    match totals::tables::match_of(code::number_of(w)) {
+        MatchOf::Is(o) => match_over(o, w, image, v),
+        MatchOf::Nothing => no_visit(),
+    }
 }
 
 fn stuck(count: usize) -> Ran
@@ -290,7 +372,7 @@ fn min(a: usize, b: usize) -> usize
 // Past the instructions that the code has: at the end of n of them, beyond it after a jump, or before it where the code has fewer and
 // the next is none. h values are held, and the first of them is v.
 fn finished(n: usize, place: usize, h: usize, v: Value, count: usize) -> Ran
-    requires { ⌜ count ≤ place ⌝ }
+    requires { ⌜ (count ≤ (1 + maxCells) * place) × (n ≤ 2048) ⌝ }
     ensures { λ r. ⌜ r ≡ finishedAt n place h v count ⌝ }
 {
     if n < place {
@@ -307,9 +389,10 @@ fn finished(n: usize, place: usize, h: usize, v: Value, count: usize) -> Ran
     }
 }
 
-// The first n instructions of the code, from no values held. Bytes beyond the code are no instruction. A jump past the end leaves the
-// loop as the end does, and is told from it afterwards.
+// The first n instructions of the code, from no values held. They are no more than the check takes, so that the count fits. Bytes beyond
+// the code are no instruction. A jump past the end leaves the loop as the end does, and is told from it afterwards.
 pub fn run(code: &[u8], n: usize, image: &[u8], tick: u32) -> Ran
+    requires { ⌜ n ≤ 2048 ⌝ }
     ensures { λ r. ⌜ r ≡ runsAt tick (now (code .entry)) n (now (image .entry)) ⌝ }
 {
     let mut stack = [Value::Int(0); 128];
@@ -332,6 +415,18 @@ pub fn run(code: &[u8], n: usize, image: &[u8], tick: u32) -> Ran
             Class::LoadIndexed => load_indexed(w, image, h, stack[from_top(h, 1)]),
             Class::Unary => unary(w, h, stack[from_top(h, 1)]),
             Class::Binary => binary(w, h, stack[from_top(h, 2)], stack[from_top(h, 1)]),
+            Class::Total => {
+                let visited = total(w, image);
+                count += visited.cells as usize;
+                let result = visited.result;
+                outcome_step(h, result)
+            }
+            Class::Match => {
+                let visited = matching(w, image, h, stack[from_top(h, 1)]);
+                count += visited.cells as usize;
+                let result = visited.result;
+                outcome_step(from_top(h, 1), result)
+            }
             Class::Unknown => stuck_step(),
         };
         h = step.height;

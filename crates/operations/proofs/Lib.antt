@@ -1,13 +1,6 @@
--- Promises is what a reader wants; the others are the laws that it and the functions' proofs cite.
-pub mod Promises
-mod Order
-mod Keeping
-mod Texts
-mod Codes
-mod Running
-mod Finite
-mod Endings
-mod Numbers
-mod Verdicts
-mod Requests
-pub mod Sheet
+-- The laws of the operations' definitions, which the functions' proofs and the promises cite.
+pub mod Verdicts
+pub mod Requests
+pub mod Cells
+mod Following
+pub mod Giving

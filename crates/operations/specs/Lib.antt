@@ -1,4 +1,2 @@
 pub mod Operations
-pub mod Terms
-pub mod Promises
-pub mod Sheet
+pub mod private

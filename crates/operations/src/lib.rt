@@ -1,25 +1,36 @@
-// The four operations of paper 01: compile, check, run, and compile and run. None asks anything of its caller: a bad request is refused with its number, and then nothing is written.
+// The operations of paper 01 with the targets of paper 02: compile, compile a target, check, run, compile and run, and the two
+// halves of a run, evaluate and store. None asks anything of its caller: a bad request is refused with its number, and then nothing is written.
 ghost use mathlib.Core.Path.{_≡_};
+ghost use mathlib.Core.Bool.{true};
+ghost use Prim.Native.Nat.{_≤_};
 ghost use lib.ListN.{length};
-ghost use Rattle.memory.specs.Store.{storeImage};
+ghost use Rattle.memory.specs.Store.{isFinite, withFlag, storeImage};
+ghost use Rattle.text.specs.Targets.{targetOf};
 ghost use Rattle.compiler.specs.Compile.{compiling, codedBytes};
-ghost use Rattle.operations.specs.Operations.{reportOf, compileAnswer, checkAnswer, storedAnswer, finished, memoryAfter, runAnswer, runMemory};
-ghost use Rattle.operations.specs.Operations.{request, requestAnswer, requestMemory, requestCode};
+ghost use Rattle.targets.specs.Found.{foundOf, indexBytes};
+ghost use Rattle.operations.specs.Operations.{reportOf, compileAnswer, checkAnswer, compileTargetAnswer, compileTargetCode};
+ghost use Rattle.operations.specs.Operations.{storedAnswer, reached, arrivedAnswer, arrivedMemory, arrival, followAnswer, followMemory};
+ghost use Rattle.operations.specs.Operations.{finished, memoryAfter, indexPasses, runAnswer, runMemory};
+ghost use Rattle.operations.specs.Operations.{evaluateAnswer, givenValue, givenAnswer, givenMemory};
+ghost use Rattle.operations.specs.Operations.{request, requestAnswer, requestMemory, requestCode, requestIndex};
+ghost use Rattle.operations.specs.private.Bounds.{mostBegun, Few};
 use compiler::Coded;
 use machine::Ended;
 use machine::Ran;
 use memory::Bank;
-use memory::names;
-use memory::names::Named;
-use memory::store;
+use memory::cells;
 use memory::store::Stored;
+use operators::Position;
+use targets::Element;
+use targets::Found;
 use values::Fault;
 use values::Value;
 use verifier::Verdict;
 
-// Done with a value and the instructions executed; a fault and the instructions begun; or a refusal's number and place.
+// Done with a value, the instructions executed and the cell stored to; a fault and the instructions begun; or a refusal's number and
+// place.
 pub enum Answer {
-    Done(Value, usize),
+    Done(Value, usize, Bank, u32),
     Fault(Fault, usize),
     Refused(u32, usize),
 }
@@ -30,29 +41,37 @@ pub struct Report {
     pub place: usize,
     pub value: Value,
     pub count: usize,
+    pub bank: Bank,
+    pub element: u32,
 }
 
 pub fn reported(a: Answer) -> Report
     ensures { λ r. ⌜ r ≡ reportOf a ⌝ }
 {
     match a {
-        Answer::Done(value, count) => Report {
+        Answer::Done(value, count, bank, element) => Report {
             answer: 0,
             place: 0,
             value,
             count,
+            bank,
+            element,
         },
         Answer::Fault(f, count) => Report {
             answer: values::fault_number(f),
             place: 0,
             value: Value::Int(0),
             count,
+            bank: Bank::X,
+            element: 0,
         },
         Answer::Refused(answer, place) => Report {
             answer,
             place,
             value: Value::Int(0),
             count: 0,
+            bank: Bank::X,
+            element: 0,
         },
     }
 }
@@ -62,8 +81,25 @@ pub fn compile(text: &[u8], code: &mut [u8]) -> Answer
     ensures { λ r. ⌜ now (code .exit) ≡ codedBytes (now (code .entry)) (compiling (length (now (code .entry))) (now (text .entry))) ⌝ }
 {
     match compiler::compile(text, code) {
-        Coded::Done(count) => Answer::Done(Value::Int(0), count),
+        Coded::Done(count) => Answer::Done(Value::Int(0), count, Bank::X, 0),
         Coded::Refused(a, p) => Answer::Refused(a, p),
+    }
+}
+
+// The index of a target, so that a formula compiled once is run in every scan.
+pub fn compile_target(target: &[u8], index: &mut [u8]) -> Answer
+    ensures { λ r. ⌜ r ≡ compileTargetAnswer (now (index .entry)) (now (target .entry)) ⌝ }
+    ensures { λ r. ⌜ now (index .exit) ≡ compileTargetCode (now (index .entry)) (now (target .entry)) ⌝ }
+{
+    if index.len() < compiler::LEAST_CODE {
+        return Answer::Refused(10, 0);
+    }
+    match targets::compile(target, index) {
+        Found::In(bank, element) => match element {
+            Element::Is(i) => Answer::Done(Value::Int(0), 0, bank, i),
+            Element::By(n) => Answer::Done(Value::Int(0), n, bank, 0),
+        },
+        Found::Other => Answer::Refused(2, 0),
     }
 }
 
@@ -71,9 +107,16 @@ pub fn check(code: &[u8], n: usize) -> Answer
     ensures { λ r. ⌜ r ≡ checkAnswer (now (code .entry)) n ⌝ }
 {
     match verifier::check(code, n) {
-        Verdict::Accepted(_) => Answer::Done(Value::Int(0), 0),
+        Verdict::Accepted(_) => Answer::Done(Value::Int(0), 0, Bank::X, 0),
         Verdict::Refused => Answer::Refused(15, 0),
     }
+}
+
+fn flagged(memory: &mut [u8], f: Fault, count: usize) -> Answer
+    ensures { λ r. ⌜ (r ≡ Answer.Fault f count) × (now (memory .exit) ≡ withFlag (now (memory .entry)) f) ⌝ }
+{
+    memory::store::set_flag(memory, f);
+    Answer::Fault(f, count)
 }
 
 // The value that was worked out goes to its cell.
@@ -81,45 +124,207 @@ fn stored(memory: &mut [u8], bank: Bank, element: u32, v: Value, count: usize) -
     ensures { λ r. ⌜ r ≡ storedAnswer (now (memory .entry)) bank element v count ⌝ }
     ensures { λ r. ⌜ now (memory .exit) ≡ storeImage (now (memory .entry)) bank element v ⌝ }
 {
-    match store::store(memory, bank, element, v) {
-        Stored::Done => Answer::Done(v, count),
+    match memory::store::store(memory, bank, element, v) {
+        Stored::Done => Answer::Done(v, count, bank, element),
         Stored::Stopped(f) => Answer::Fault(f, count),
     }
 }
 
-// After a run: the store, or the fault's flag.
-fn finish(memory: &mut [u8], bank: Bank, element: u32, ran: Ran) -> Answer
-    ensures { λ r. ⌜ r ≡ finished (now (memory .entry)) bank element (ran .end) (ran .count) ⌝ }
-    ensures { λ r. ⌜ now (memory .exit) ≡ memoryAfter (now (memory .entry)) bank element (ran .end) ⌝ }
+// The index was worked out: its element, or its fault.
+fn arrived(memory: &mut [u8], bank: Bank, end: Ended, v: Value, count: usize) -> Answer
+    ensures { λ r. ⌜ r ≡ arrivedAnswer (now (memory .entry)) v count (reached bank end) ⌝ }
+    ensures { λ r. ⌜ now (memory .exit) ≡ arrivedMemory (now (memory .entry)) v (reached bank end) ⌝ }
 {
-    let count = ran.count;
-    let end = ran.end;
     match end {
-        Ended::Done(v) => stored(memory, bank, element, v, count),
-        Ended::Stopped(f) => {
-            store::set_flag(memory, f);
-            Answer::Fault(f, count)
-        }
+        Ended::Done(index) => match cells::position(bank, index) {
+            Position::At(i) => stored(memory, bank, i, v, count),
+            Position::Stopped(f) => flagged(memory, f, count),
+        },
+        Ended::Stopped(f) => flagged(memory, f, count),
         Ended::Stuck => Answer::Refused(15, 0),
     }
 }
 
-// The tick is the caller's, the same throughout.
-pub fn run(code: &[u8], n: usize, memory: &mut [u8], target: &[u8], tick: u32) -> Answer
-    ensures { λ r. ⌜ r ≡ runAnswer tick (now (code .entry)) n (now (target .entry)) (now (memory .entry)) ⌝ }
-    ensures { λ r. ⌜ now (memory .exit) ≡ runMemory tick (now (code .entry)) n (now (target .entry)) (now (memory .entry)) ⌝ }
+fn is_finite(v: Value) -> bool
+    ensures { λ r. ⌜ r ≡ isFinite v ⌝ }
+{
+    match v {
+        Value::Int(_) => true,
+        Value::Real(x) => values::singles::is_finite(x),
+    }
+}
+
+// What follows a value that so many instructions gave: 13 if it is infinite or NaN, then the index, then the store.
+fn follow(
+    memory: &mut [u8],
+    bank: Bank,
+    element: Element,
+    index: &[u8],
+    v: Value,
+    count: usize,
+    tick: u32,
+) -> Answer
+    requires { ⌜ Few element × (count ≤ mostBegun) ⌝ }
+    ensures { λ r. ⌜ r ≡ followAnswer (now (memory .entry)) v count (arrival tick (now (index .entry)) (now (memory .entry)) bank element) ⌝ }
+    ensures { λ r. ⌜ now (memory .exit) ≡ followMemory (now (memory .entry)) v (arrival tick (now (index .entry)) (now (memory .entry)) bank element) ⌝ }
+{
+    if !is_finite(v) {
+        return flagged(memory, Fault::OutOfRange, count);
+    }
+    match element {
+        Element::Is(i) => stored(memory, bank, i, v, count),
+        Element::By(k) => {
+            let ran = machine::run(index, k, memory, tick);
+            let end = ran.end;
+            arrived(memory, bank, end, v, count + ran.count)
+        }
+    }
+}
+
+// After a run: what follows its value, or its fault's flag.
+fn finish(
+    memory: &mut [u8],
+    bank: Bank,
+    element: Element,
+    index: &[u8],
+    ran: Ran,
+    tick: u32,
+) -> Answer
+    requires { ⌜ Few element × (ran .count ≤ mostBegun) ⌝ }
+    ensures { λ r. ⌜ r ≡ finished (now (memory .entry)) (arrival tick (now (index .entry)) (now (memory .entry)) bank element) (ran .end) (ran .count) ⌝ }
+    ensures { λ r. ⌜ now (memory .exit) ≡ memoryAfter (now (memory .entry)) (arrival tick (now (index .entry)) (now (memory .entry)) bank element) (ran .end) ⌝ }
+{
+    let count = ran.count;
+    let end = ran.end;
+    match end {
+        Ended::Done(v) => follow(memory, bank, element, index, v, count, tick),
+        Ended::Stopped(f) => flagged(memory, f, count),
+        Ended::Stuck => Answer::Refused(15, 0),
+    }
+}
+
+// A plain cell has no index code to check.
+fn index_passes(element: Element, index: &[u8]) -> bool
+    ensures { λ r. ⌜ r ≡ indexPasses (now (index .entry)) element ⌝ }
+{
+    match element {
+        Element::Is(_) => true,
+        Element::By(k) => match verifier::check(index, k) {
+            Verdict::Accepted(_) => true,
+            Verdict::Refused => false,
+        },
+    }
+}
+
+// The value that code works out. Nothing is written, no flag either.
+pub fn evaluate(code: &[u8], n: usize, memory: &[u8], tick: u32) -> Answer
+    ensures { λ r. ⌜ r ≡ evaluateAnswer tick (now (code .entry)) n (now (memory .entry)) ⌝ }
 {
     if memory.len() != memory::IMAGE_SIZE {
         return Answer::Refused(1, 0);
     }
-    let Named::Cell(bank, element) = names::target_of(target) else {
+    let Verdict::Accepted(_) = verifier::check(code, n) else {
+        return Answer::Refused(15, 0);
+    };
+    let ran = machine::run(code, n, memory, tick);
+    let count = ran.count;
+    let end = ran.end;
+    match end {
+        Ended::Done(v) => Answer::Done(v, count, Bank::X, 0),
+        Ended::Stopped(f) => Answer::Fault(f, count),
+        Ended::Stuck => Answer::Refused(15, 0),
+    }
+}
+
+// A value comes from a caller as a kind and a pattern; any kind but 0 is a real.
+fn is_finite_given(kind: u32, bits: u32) -> bool
+    ensures { λ r. ⌜ r ≡ isFinite (givenValue kind bits) ⌝ }
+{
+    if kind == 0 {
+        return true;
+    }
+    values::patterns::is_finite_single(bits)
+}
+
+fn given(kind: u32, bits: u32) -> Value
+    requires { ⌜ isFinite (givenValue kind bits) ≡ true ⌝ }
+    ensures { λ r. ⌜ r ≡ givenValue kind bits ⌝ }
+{
+    if kind == 0 {
+        return Value::Int(values::patterns::from_pattern(bits));
+    }
+    Value::Real(f32::from_bits(bits))
+}
+
+// A given value goes to a target of the form that run takes.
+pub fn store(
+    kind: u32,
+    bits: u32,
+    memory: &mut [u8],
+    target: &[u8],
+    index: &[u8],
+    k: usize,
+    tick: u32,
+) -> Answer
+    ensures { λ r. ⌜ r ≡ givenAnswer tick (givenValue kind bits) (now (target .entry)) (now (index .entry)) k (now (memory .entry)) ⌝ }
+    ensures { λ r. ⌜ now (memory .exit) ≡ givenMemory tick (givenValue kind bits) (now (target .entry)) (now (index .entry)) k (now (memory .entry)) ⌝ }
+{
+    if memory.len() != memory::IMAGE_SIZE {
+        return Answer::Refused(1, 0);
+    }
+    let Found::In(bank, element) = targets::to_run(target, k) else {
+        return Answer::Refused(2, 0);
+    };
+    if !index_passes(element, index) {
+        return Answer::Refused(15, 0);
+    }
+    if !is_finite_given(kind, bits) {
+        return flagged(memory, Fault::OutOfRange, 0);
+    }
+    follow(memory, bank, element, index, given(kind, bits), 0, tick)
+}
+
+// The target is a cell, or a bank letter alone whose element the first k instructions of the index code give. The tick is the caller's, the same throughout.
+pub fn run(
+    code: &[u8],
+    n: usize,
+    memory: &mut [u8],
+    target: &[u8],
+    index: &[u8],
+    k: usize,
+    tick: u32,
+) -> Answer
+    ensures { λ r. ⌜ r ≡ runAnswer tick (now (code .entry)) n (now (target .entry)) (now (index .entry)) k (now (memory .entry)) ⌝ }
+    ensures { λ r. ⌜ now (memory .exit) ≡ runMemory tick (now (code .entry)) n (now (target .entry)) (now (index .entry)) k (now (memory .entry)) ⌝ }
+{
+    if memory.len() != memory::IMAGE_SIZE {
+        return Answer::Refused(1, 0);
+    }
+    let Found::In(bank, element) = targets::to_run(target, k) else {
         return Answer::Refused(2, 0);
     };
     let Verdict::Accepted(_) = verifier::check(code, n) else {
         return Answer::Refused(15, 0);
     };
+    if !index_passes(element, index) {
+        return Answer::Refused(15, 0);
+    }
     let ran = machine::run(code, n, memory, tick);
-    finish(memory, bank, element, ran)
+    finish(memory, bank, element, index, ran, tick)
+}
+
+// The index's code, of a target that was found good; that of a plain cell keeps what it held.
+fn write_index(target: &[u8], element: Element, index: &mut [u8])
+    requires { ⌜ 16384 ≤ length (now index) ⌝ }
+    requires { ⌜ ((b : Bank) × (foundOf (targetOf (now target)) ≡ Found.In b element)) ⌝ }
+    ensures { λ r. ⌜ now (index .exit) ≡ indexBytes (now (index .entry)) (targetOf (now (target .entry))) ⌝ }
+{
+    match element {
+        Element::Is(_) => {}
+        Element::By(_) => {
+            targets::compile(target, index);
+        }
+    }
 }
 
 // Compiled code is accepted by the check, as is proved, so it is run without one.
@@ -128,11 +333,13 @@ pub fn compile_and_run(
     text: &[u8],
     memory: &mut [u8],
     code: &mut [u8],
+    index: &mut [u8],
     tick: u32,
 ) -> Answer
-    ensures { λ r. ⌜ r ≡ requestAnswer tick (now (memory .entry)) (request (now (target .entry)) (now (text .entry)) (now (memory .entry)) (now (code .entry))) ⌝ }
-    ensures { λ r. ⌜ now (memory .exit) ≡ requestMemory tick (now (memory .entry)) (request (now (target .entry)) (now (text .entry)) (now (memory .entry)) (now (code .entry))) ⌝ }
-    ensures { λ r. ⌜ now (code .exit) ≡ requestCode (now (code .entry)) (request (now (target .entry)) (now (text .entry)) (now (memory .entry)) (now (code .entry))) ⌝ }
+    ensures { λ r. ⌜ r ≡ requestAnswer tick (now (memory .entry)) (request (now (target .entry)) (now (text .entry)) (now (memory .entry)) (now (code .entry)) (now (index .entry))) ⌝ }
+    ensures { λ r. ⌜ now (memory .exit) ≡ requestMemory tick (now (memory .entry)) (request (now (target .entry)) (now (text .entry)) (now (memory .entry)) (now (code .entry)) (now (index .entry))) ⌝ }
+    ensures { λ r. ⌜ now (code .exit) ≡ requestCode (now (code .entry)) (request (now (target .entry)) (now (text .entry)) (now (memory .entry)) (now (code .entry)) (now (index .entry))) ⌝ }
+    ensures { λ r. ⌜ now (index .exit) ≡ requestIndex (now (index .entry)) (request (now (target .entry)) (now (text .entry)) (now (memory .entry)) (now (code .entry)) (now (index .entry))) ⌝ }
 {
     if memory.len() != memory::IMAGE_SIZE {
         return Answer::Refused(1, 0);
@@ -140,13 +347,17 @@ pub fn compile_and_run(
     if code.len() < compiler::LEAST_CODE {
         return Answer::Refused(10, 0);
     }
-    let Named::Cell(bank, element) = names::target_of(target) else {
+    if index.len() < compiler::LEAST_CODE {
+        return Answer::Refused(10, 0);
+    }
+    let Found::In(bank, element) = targets::judge(target) else {
         return Answer::Refused(2, 0);
     };
     match compiler::compile(text, code) {
         Coded::Done(count) => {
+            write_index(target, element, index);
             let ran = machine::run(code, count, memory, tick);
-            finish(memory, bank, element, ran)
+            finish(memory, bank, element, index, ran, tick)
         }
         Coded::Refused(a, p) => Answer::Refused(a, p),
     }

@@ -1,4 +1,4 @@
--- A word that names a cell, or a target: the image has the cell. Assumes nothing.
+-- A word that names a cell: the image has the cell. Assumes nothing.
 use mathlib.Core.Path.{_≡_, refl, subst}
 use mathlib.Core.Bool.{Bool, true, false, _&&_, cond}
 use mathlib.Core.List.{List, [], _∷_}
@@ -9,13 +9,12 @@ use lib.Ieee.Fits.{and-r}
 use lib.ListN.{length}
 use borrow.Author.Tests.{eq-eqb, lt-ltb}
 use Rattle.memory.specs.declared.Bank.{Bank}
-use Rattle.memory.specs.declared.Bank.the-variants.{X, C, «V», N, D, R}
 use Rattle.memory.specs.declared.names.Letter.{Letter}
 use Rattle.memory.specs.declared.names.Letter.the-variants as L
 use Rattle.memory.specs.declared.names.Named.{Named}
 use Rattle.memory.specs.declared.names.Named.the-variants.{Cell, Other}
 use Rattle.memory.specs.Layout.{layoutOf, hasCell}
-use Rattle.memory.specs.Names.{letterBank, noLeadingZero, allDigits, decimalValue, numberBelow, cellAfterLetter, namedRule, storable, targetRule}
+use Rattle.memory.specs.Names.{letterBank, noLeadingZero, allDigits, decimalValue, numberBelow, cellAfterLetter, namedRule}
 
 no-cell : (b : Bank) (i : ℕ) → Other ≡ Cell b i → ⊥
 no-cell b i e = let z : _≡_ {A = ℕ} 0 1 = cc in omega arith
@@ -40,16 +39,3 @@ element-below (c ∷ cs) e = of-letter cs (letterBank c) e
 
 pub has-named : (m w : List ℕ) {b : Bank} {i : ℕ} → length m ≡ 3204 → namedRule w ≡ Cell b i → T (hasCell m b i)
 has-named m w {b} {i} l e = rw (eq-eqb (length m) 3204 l, lt-ltb i (layoutOf b .elements) (element-below w e)) tt
-
--- ---- a target is such a name
-storable-named : (n : Named) {b : Bank} {i : ℕ} → storable n ≡ Cell b i → n ≡ Cell b i
-storable-named (Cell X j) {b} {i} e = absurd (no-cell b i e)
-storable-named (Cell C j) e = e
-storable-named (Cell «V» j) e = e
-storable-named (Cell N j) e = e
-storable-named (Cell D j) e = e
-storable-named (Cell R j) e = e
-storable-named Other {b} {i} e = absurd (no-cell b i e)
-
-pub has-target : (m w : List ℕ) {b : Bank} {i : ℕ} → length m ≡ 3204 → targetRule w ≡ Cell b i → T (hasCell m b i)
-has-target m w l e = has-named m w l (storable-named (namedRule w) e)

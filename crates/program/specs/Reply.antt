@@ -1,17 +1,15 @@
--- The program's reply to a case (paper 01, "Sheet of sums"): the answer, its place and, on answer 0, the target cell after the store. "A refusal or fault prints the first two
+-- The program's reply to a case (paper 01, "Sheet of sums"): the answer, its place and, on answer 0, the cell stored to, after the store (paper 02: "The program prints the cell stored to, as `D42=`."). "A refusal or fault prints the first two
 -- lines only." Each line ends with byte 10. No reply is longer than 64 bytes: that is part of the contract of `respond`.
 use mathlib.Core.Path.{_≡_}
 use mathlib.Core.Bool.{cond}
 use mathlib.Core.List.{List, [], _∷_, _++_}
-use Prim.Native.Nat.{ℕ, _≤_}
+use Prim.Native.Nat.{ℕ, _≤_, _<_}
 use lib.Dec.{ltb}
 use lib.ListN.{length, take}
 use lib.Seq.{sets}
+use Rattle.values.specs.declared.Value.{Value}
 use Rattle.memory.specs.declared.Bank.{Bank}
-use Rattle.memory.specs.declared.names.Named.{Named}
-use Rattle.memory.specs.declared.names.Named.the-variants as Named
-use Rattle.memory.specs.Layout.{bytewise}
-use Rattle.memory.specs.Names.{targetRule}
+use Rattle.memory.specs.Layout.{layoutOf, bytewise}
 use Rattle.operations.specs.declared.Answer.{Answer}
 use Rattle.operations.specs.declared.Answer.the-variants.{Done, Fault, Refused}
 use Rattle.operations.specs.declared.Report.{Report}
@@ -36,20 +34,19 @@ reportText r = answerKey ++ decimalText (r .answer) ++ placeKey ++ decimalText (
 abbrev pub cellLine : List ℕ → Bank → ℕ → List ℕ
 cellLine m b i = cellName b i ++ ascii "=" ++ cellText b (bytewise .get m b i) ++ ascii "\n"
 
--- the line of the cell that the target names
-abbrev pub targetLine : List ℕ → Named → List ℕ
-targetLine m (Named.Cell b i) = cellLine m b i
-targetLine m Named.Other = []
-
 -- the third line, in the memory after the store
-abbrev pub storedText : List ℕ → Named → Answer → List ℕ
-storedText m t (Done v n) = targetLine m t
-storedText m t (Fault f n) = []
-storedText m t (Refused a p) = []
+abbrev pub storedText : List ℕ → Answer → List ℕ
+storedText m (Done v n b i) = cellLine m b i
+storedText m (Fault f n) = []
+storedText m (Refused a p) = []
 
--- the lines of an answer, with the target's text and the memory that is left
-abbrev pub answerText : List ℕ → List ℕ → Answer → List ℕ
-answerText target m a = reportText (reportOf a) ++ storedText m (targetRule target) a
+-- the lines of an answer, with the memory that is left
+abbrev pub answerText : List ℕ → Answer → List ℕ
+answerText m a = reportText (reportOf a) ++ storedText m a
+
+-- the cell that an answer names is one of its bank
+pub record CellInside (a : Answer) : Type 0 where
+  pub inside : {v : Value} {n : ℕ} {b : Bank} {i : ℕ} → a ≡ Done v n b i → i < layoutOf b .elements
 
 -- paper 02: the tick is "0 in document 01's program"
 abbrev pub programTick : ℕ
@@ -57,11 +54,11 @@ programTick = 0
 
 -- what compile-and-run answers, and the memory that it leaves
 abbrev pub outcomeText : Case → Request → List ℕ
-outcomeText s q = answerText (s .target) (requestMemory programTick (s .memory) q) (requestAnswer programTick (s .memory) q)
+outcomeText s q = answerText (requestMemory programTick (s .memory) q) (requestAnswer programTick (s .memory) q)
 
--- the code buffer has 16,384 zero bytes
+-- the two code buffers have 16,384 zero bytes each
 abbrev pub replyTo : Case → List ℕ
-replyTo s = outcomeText s (request (s .target) (s .text) (s .memory) (zeros 16384))
+replyTo s = outcomeText s (request (s .target) (s .text) (s .memory) (zeros 16384) (zeros 16384))
 
 -- the reply to an input, which is one case
 unfoldable pub reply : List ℕ → List ℕ

@@ -14,10 +14,10 @@ use Rattle.program.specs.Cases.{Case, emptyCase, zeros, afterLine}
 use Rattle.program.specs.Reply.{replyTo, reply, writeText, writtenLength, HasPrefix}
 use Rattle.words.specs.Ascii.{byte}
 
--- how much of a line is kept: `expr=` and 1,025 bytes, by which an expression is known to be over 1,024. No line as long as that sets a cell or names a
--- target.
+-- how much of a line is kept: `target=` and 1,025 bytes, by which a target, and so an expression, is known to be over 1,024. No line as long as that sets a
+-- cell.
 abbrev pub keptBytes : ℕ
-keptBytes = 1030
+keptBytes = 1032
 
 -- what is kept: the case of the lines that have ended, and the line in progress
 pub record Progress : Type 0 where

@@ -4,12 +4,10 @@ ghost use Prim.Native.Nat.{_+_, _≤_};
 ghost use lib.Dec.{T};
 ghost use lib.ListN.{length};
 ghost use Rattle.memory.specs.Layout.{hasCell};
-ghost use Rattle.memory.specs.Names.{targetRule};
 ghost use Rattle.lines.specs.private.Steps.{Puts};
-ghost use Rattle.program.specs.Reply.{reportText, cellLine, targetLine, answerText, writeText, writtenLength, HasPrefix};
+ghost use Rattle.program.specs.Reply.{reportText, cellLine, answerText, CellInside, writeText, writtenLength, HasPrefix};
 use lines::printing;
 use memory::Bank;
-use memory::names::Named;
 use operations::Answer;
 use operations::Report;
 
@@ -41,29 +39,17 @@ fn put_cell(out: &mut [u8], at: usize, memory: &[u8], bank: Bank, element: u32) 
     printing::put_all(out, c, b"\n")
 }
 
-// The line of the cell that the target names.
-fn put_target(out: &mut [u8], at: usize, target: &[u8], memory: &[u8]) -> usize
-    requires { ⌜ length (now memory) ≡ 3204 ⌝ }
-    requires { ⌜ at + 17 ≤ length (now out) ⌝ }
-    ensures { λ r. ⌜ Puts (now (out .entry)) at (now (out .exit)) r (targetLine (now (memory .entry)) (targetRule (now (target .entry)))) ⌝ }
-    ensures { λ r. ⌜ r ≤ at + 17 ⌝ }
-{
-    match memory::names::target_of(target) {
-        Named::Cell(bank, element) => put_cell(out, at, memory, bank, element),
-        Named::Other => at,
-    }
-}
-
 // After answer 0 the cell is shown as it is after the store.
-pub fn put_reply(out: &mut [u8], answer: Answer, target: &[u8], memory: &[u8]) -> usize
+pub fn put_reply(out: &mut [u8], answer: Answer, memory: &[u8]) -> usize
     requires { ⌜ length (now memory) ≡ 3204 ⌝ }
+    requires { ⌜ CellInside answer ⌝ }
     requires { ⌜ 64 ≤ length (now out) ⌝ }
-    ensures { λ r. ⌜ Puts (now (out .entry)) 0 (now (out .exit)) r (answerText (now (target .entry)) (now (memory .entry)) answer) ⌝ }
+    ensures { λ r. ⌜ Puts (now (out .entry)) 0 (now (out .exit)) r (answerText (now (memory .entry)) answer) ⌝ }
     ensures { λ r. ⌜ r ≤ 64 ⌝ }
 {
     let at = put_report(out, operations::reported(answer));
     match answer {
-        Answer::Done(_, _) => put_target(out, at, target, memory),
+        Answer::Done(_, _, bank, element) => put_cell(out, at, memory, bank, element),
         Answer::Fault(_, _) => at,
         Answer::Refused(_, _) => at,
     }

@@ -9,7 +9,7 @@ use crate::case::Lengths;
 use crate::reply;
 
 // How much of a line is kept.
-pub const KEPT_BYTES: usize = 1030;
+pub const KEPT_BYTES: usize = 1032;
 
 // The program's runs have no clock.
 const PROGRAM_TICK: u32 = 0;
@@ -132,14 +132,16 @@ pub fn finish(
     let a = last.target;
     let b = last.text;
     let mut code = blank_code();
+    let mut index = blank_code();
     let answer = operations::compile_and_run(
         &target[..a],
         &text[..b],
         memory,
         &mut code,
+        &mut index,
         PROGRAM_TICK,
     );
     let mut bytes = [0u8; 64];
-    let m = reply::put_reply(&mut bytes, answer, &target[..a], memory);
+    let m = reply::put_reply(&mut bytes, answer, memory);
     reply::write_text(&bytes[..m], output)
 }

@@ -5,16 +5,19 @@ use mathlib.Core.List.{List, [], _∷_, _++_}
 use Prim.Native.Nat.{ℕ, zero, suc, _≤_, _<_}
 use native.Mathlib.Omega.{arith}
 use lib.Dec.{ltb}
+use lib.IntN.{ℤ}
 use lib.ListN.{length}
 use Rattle.operators.specs.declared.UnaryOp.{UnaryOp}
 use Rattle.operators.specs.declared.BinaryOp.{BinaryOp}
 use Rattle.operators.specs.Kinds.{isInt, unaryTakes, binaryTakes}
+use Rattle.memory.specs.declared.Bank.{Bank}
+use Rattle.totals.specs.Totals.{goodCount}
 use Rattle.tokens.specs.Scan.{Tok}
 use Rattle.tokens.proofs.Tests.{choose}
 use Rattle.tokens.proofs.Places.{Below, nothing, more, tokens-inside, wrong-inside}
-use Rattle.grammar.specs.Tree.{Tree, unary, binary, logic, choice, since, Diagnostic, clear, at, precedes, earlier, unless, wrongKindAt, treeKind, diagnosticOf}
+use Rattle.grammar.specs.Tree.{Tree, unary, binary, logic, choice, since, Diagnostic, clear, at, precedes, earlier, unless, wrongKindAt, wrongCountAt, treeKind, diagnosticOf}
 use Rattle.grammar.specs.Symbols.{infixTree, Callee, of-one, of-two, of-choice, of-since, Arguments, one, more as further, argument, callTree}
-use Rattle.grammar.specs.Grammar.{Derives, number, name, index, parenthesis, call, clocked, prefixed, up, infixed, last, next}
+use Rattle.grammar.specs.Grammar.{Range, range, Derives, number, name, index, parenthesis, call, clocked, totalled, tested, prefixed, up, infixed, last, next}
 use Rattle.text.specs.Judge.{refused}
 use Rattle.text.specs.Theorems.{Sized, HasJudgementFrom, wrong-size, wrong-token, wrong-end, wrong-next, too-deep, diagnosed}
 
@@ -88,6 +91,10 @@ module _ {n : ℕ} where
   low-call of-choice p ts l h = low-choice p _ _ _ (low-argument 0 h) (low-argument 1 h) (low-argument 2 h)
   low-call of-since p ts l h = low-since _ l (low-argument 0 h)
 
+  -- the count is one of the tokens
+  low-count : {b : Bank} {i : ℕ} {m : ℤ} {u : ℕ} {w : List Tok} → Range b i m u w → Below n w → u < n
+  low-count (range o q p r) h = head (tail (tail h))
+
   low : {l : ℕ} {w : List Tok} {t : Tree} → Derives l w t → Below n w → Low n (diagnosticOf t)
   unfolding diagnosticOf
   low d = elim d as (λ l w t d. Below n w → Low n (diagnosticOf t)) (λ m w ts a. Below n w → AllLow n ts) [
@@ -97,6 +104,10 @@ module _ {n : ℕ} where
     | parenthesis q (d → f) ↦ λ h. f (left _ _ (tail h))
     | call {c = c} {p} {ts = ts} e (a → g) ↦ λ h. low-call c p ts (head h) (g (tail (tail h)))
     | clocked r e ↦ λ h. none
+    | totalled {u = u} {b = b} {i = i} {n = m} e g ↦ λ h. low-unless (goodCount b i m) (wrongCountAt u) (some (low-count g (tail (tail h))))
+    | tested {u = u} r {b = b} {i = i} {n = m} {w = w} e (d → f) g ↦ λ h.
+        let k = tail (tail h) in
+        low-earlier (low-unless (goodCount b i m) (wrongCountAt u) (some (low-count g (tail (right w _ k))))) (f (left w _ k))
     | prefixed {o = o} {t = t} e (d → f) ↦ λ h. low-unary o t (head h) (f (tail h))
     | up (d → f) ↦ f
     | infixed o p {w} {v} {t} {u} e (d → f) (d′ → g) ↦ λ h. let r = right w _ h in low-infix o p t u (head r) (f (left w _ h)) (g (tail r))

@@ -33,7 +33,8 @@ pub record AcceptedFrom (d : ℕ) (s : List ℕ) (t : Tree) : Type 0 where
 abbrev pub AcceptedFormula : List ℕ → Tree → Type 0
 AcceptedFormula s t = AcceptedFrom 0 s t
 
--- "Order .. 3 .. then 4, 5, 6 over the whole text, the smallest place first; then 7 and 8, smallest place first, 7 on a tie; then 9, smallest place"
+-- "Order .. 3 .. then 4, 5, 6 over the whole text, the smallest place first; then 7 and 8, smallest place first, 7 on a tie; then 9, smallest place"; and the 6
+-- of a count "is looked for together with 9, after 7 and 8, smallest place first" (paper 02, Ask 2)
 pub data HasJudgementFrom (d : ℕ) (s : List ℕ) : Judgement → Type 0 where
   wrong-size : (Sized s → ⊥) → HasJudgementFrom d s (refused 3 0)
   wrong-token : {a p : ℕ} → Sized s → scan s ≡ wrong a p → HasJudgementFrom d s (refused a p)
@@ -44,7 +45,7 @@ pub data HasJudgementFrom (d : ℕ) (s : List ℕ) : Judgement → Type 0 where
   -- 8: "the first opener met with eight still open"
   too-deep : (p : List Tok) (x : Tok) (ys : List Tok) → ScansTo s (p ++ x ∷ ys) → Viable (p ++ x ∷ []) → Shallow d p → isOpener x ≡ true → mostOpen ≤ openAfter d p
       → HasJudgementFrom d s (refused 8 (x .place))
-  -- 9: "an operand of the wrong kind"
+  -- 9: "an operand of the wrong kind"; 6: "a count below 1 or a range past the bank"
   diagnosed : {p a : ℕ} (w : List Tok) (t : Tree) → ScansTo s w → Formula w t → Shallow d w → diagnosticOf t ≡ at p a → HasJudgementFrom d s (refused a p)
   formula : {t : Tree} → AcceptedFrom d s t → HasJudgementFrom d s (accepted t)
 

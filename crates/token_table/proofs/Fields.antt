@@ -1,30 +1,29 @@
 -- What the fields of a word hold, for `pack` and for the law that it is undone.
 use mathlib.Core.Path.{_≡_, refl}
-use mathlib.Core.Bool.{not}
 use Prim.Native.Nat.{ℕ, _<_}
 use native.Mathlib.Omega.{arith}
 use lib.Dec.{T, lit<}
-use lib.Ieee.{Float, nan, inf, fin, isNan}
+use lib.Ieee.{Float, nan, inf, fin}
 use lib.Ieee.Scale.{finite}
 use Rattle.values.specs.declared.Value.the-variants.{Real}
+use Rattle.values.specs.declared.ChoiceOp.the-variants as Choose
+use Rattle.values.specs.declared.CompareOp.the-variants as Compare
 use Rattle.operators.specs.Laws.{Proper}
 use Rattle.memory.specs.declared.Bank.{Bank}
 use Rattle.memory.specs.declared.Bank.the-variants.{X, C, «V», N, D, R}
 use Rattle.memory.specs.declared.numbers.BankOf.the-variants as BankOf
 use Rattle.memory.specs.Cells.{finiteOrFault}
 use Rattle.memory.specs.Numbers.{bankNumbered, bankNumber}
-use Rattle.values.proofs.patterns.Exponents.{finite-number}
+use Rattle.totals.specs.declared.TotalOp.the-variants as T'
+use Rattle.totals.specs.declared.MatchOp.the-variants as M'
 use Rattle.tokens.specs.declared.Function.{Function}
-use Rattle.tokens.specs.declared.Function.the-variants.{Abs, ToReal, ToInt, Trunc, Round, Frac, Max, Min, If, TickMs, Since}
+use Rattle.tokens.specs.declared.Function.the-variants.{Abs, ToReal, ToInt, Trunc, Round, Frac, Max, Min, If, TickMs, Since, Total, Match}
 use Rattle.tokens.specs.declared.Token.{Token}
 use Rattle.tokens.specs.declared.Token.the-variants.{Number}
 use Rattle.tokens.proofs.Known.{Known}
 use Rattle.token_table.specs.private.Table.{Entry, FunctionOf, functionNumber, functionNumbered, packFields, wordClass, wordOperand, wordNumber, wordPlace, realEntry, Sound}
 
 -- ---- sound tokens
-pub has-pattern : {x : Float} → Sound (Number (Real x)) → T (not (isNan x))
-has-pattern (Sound.real x S) = finite-number x (S .real)
-
 -- a token of a text is sound
 pub known-sound : {t : Token} → Known t → Sound t
 known-sound (Known.number _ (Proper.int z h)) = Sound.int z h
@@ -65,6 +64,22 @@ function Min = (lit< tt, refl)
 function If = (lit< tt, refl)
 function TickMs = (lit< tt, refl)
 function Since = (lit< tt, refl)
+function (Total T'.Sum) = (lit< tt, refl)
+function (Total T'.Average) = (lit< tt, refl)
+function (Total (T'.Choice Choose.Max)) = (lit< tt, refl)
+function (Total (T'.Choice Choose.Min)) = (lit< tt, refl)
+function (Match (M'.Count Compare.Eq)) = (lit< tt, refl)
+function (Match (M'.Count Compare.Ne)) = (lit< tt, refl)
+function (Match (M'.Count Compare.Ge)) = (lit< tt, refl)
+function (Match (M'.Count Compare.Gt)) = (lit< tt, refl)
+function (Match (M'.Count Compare.Le)) = (lit< tt, refl)
+function (Match (M'.Count Compare.Lt)) = (lit< tt, refl)
+function (Match (M'.Sum Compare.Eq)) = (lit< tt, refl)
+function (Match (M'.Sum Compare.Ne)) = (lit< tt, refl)
+function (Match (M'.Sum Compare.Ge)) = (lit< tt, refl)
+function (Match (M'.Sum Compare.Gt)) = (lit< tt, refl)
+function (Match (M'.Sum Compare.Le)) = (lit< tt, refl)
+function (Match (M'.Sum Compare.Lt)) = (lit< tt, refl)
 
 pub finite-real : (x : Float) (p : ℕ) → T (finite x) → realEntry (finiteOrFault x) p ≡ Entry.Is (Number (Real x)) p
 finite-real nan p h = absurd h

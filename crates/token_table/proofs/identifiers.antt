@@ -1,2 +1,3 @@
 -- What the proofs of the module share.
 mod Cells
+mod Words

@@ -1,11 +1,11 @@
 // Words: what has a digit in the second place can only be a cell, and is read in one go.
 ghost use mathlib.Core.Path.{_≡_};
 ghost use mathlib.Core.Bool.{true, false};
-ghost use Prim.Native.Nat.{_+_, _<_, _≤_};
+ghost use Prim.Native.Nat.{_+_, _<_};
 ghost use lib.ListN.{length, getD, drop};
 ghost use Rattle.memory.specs.declared.names.Letter.the-variants.{Of};
 ghost use Rattle.memory.specs.Names.{isDigit, letterBank};
-ghost use Rattle.tokens.specs.Bytes.{isLetter, isWord};
+ghost use Rattle.tokens.specs.Bytes.{isLetter, isWord, runLen};
 ghost use Rattle.tokens.specs.Words.{wordToken};
 ghost use Rattle.tokens.specs.Scan.{runLexeme};
 ghost use Rattle.token_table.specs.private.Lexing.{Lexes};
@@ -17,15 +17,37 @@ use memory::names;
 use memory::names::Letter;
 use tokens::bytes;
 use tokens::bytes::ByteClass;
+use tokens::functions;
 
-// A word without a digit in the second place: it is judged as a whole.
+// A letter alone.
+fn letter_at(text: &[u8], at: usize) -> Lex
+    requires { ⌜ (at < length (now text)) × (at + 1 ≡ at + runLen isWord (drop at (now text))) ⌝ }
+    ensures { λ r. ⌜ Lexes (runLexeme isWord wordToken (drop at (now (text .entry))) at) (r .word) (r .end) ⌝ }
+{
+    match names::bank_of(text[at]) {
+        Letter::Of(bank) => Lex {
+            word: packing::word(classes::LETTER, memory::numbers::bank_number(bank), 0),
+            end: at + 1,
+        },
+        Letter::Other => crate::refused(6),
+    }
+}
+
+// A word without a digit in the second place: a bank's letter, or a function's name.
 fn judged(text: &[u8], at: usize) -> Lex
-    requires { ⌜ (at ≤ length (now text)) × (isDigit (getD (now text) (at + 1) 0) ≡ false) ⌝ }
+    requires { ⌜ (at < length (now text)) × (isDigit (getD (now text) (at + 1) 0) ≡ false) ⌝ }
     ensures { λ r. ⌜ Lexes (runLexeme isWord wordToken (drop at (now (text .entry))) at) (r .word) (r .end) ⌝ }
 {
     let end = bytes::run_end(text, at, ByteClass::Word);
+    if end == at + 1 {
+        return letter_at(text, at);
+    }
+    let f = tokens::identifiers::function(&text[at..end]);
+    if functions::COUNT <= f {
+        return crate::refused(6);
+    }
     Lex {
-        word: packing::pack_scanned(tokens::identifiers::word(&text[at..end])),
+        word: packing::word(classes::NAME, f, 0),
         end,
     }
 }

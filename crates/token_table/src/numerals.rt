@@ -37,7 +37,7 @@ fn judged(text: &[u8], at: usize) -> Lex
 {
     let end = bytes::run_end(text, at, ByteClass::Numeral);
     Lex {
-        word: packing::pack_scanned(tokens::numerals::other_numeral(&text[at..end])),
+        word: packing::hexadecimal(tokens::numerals::other_numeral(&text[at..end])),
         end,
     }
 }

@@ -1,6 +1,6 @@
 -- What holds of every token that is found, for the code's check: its value is proper, its cell in its bank, its symbol in the table.
 use mathlib.Core.Path.{_≡_, refl, sym, subst}
-use mathlib.Core.Bool.{true, _&&_, cond}
+use mathlib.Core.Bool.{true, _&&_}
 use mathlib.Core.List.{List, [], _∷_, _++_}
 use Prim.Native.Nat.{ℕ, zero, suc, _+_, _^_, _≤_, _<_}
 use native.Mathlib.Omega.{arith}
@@ -130,20 +130,6 @@ a-name (f ∷ fs) cs o j =
 a-word : (cs : List ℕ) → Judged (wordToken cs)
 unfolding wordToken
 a-word cs = a-name functions cs (otherWord cs) (another cs)
-
-of-good : {t : Token} (r : Scanned) → Judged r → r ≡ Good t → Known t
-of-good {t} r (good u k) m = let x : u ≡ t = cc in subst Known x k
-of-good r (bad a) m = let z : _≡_ {A = ℕ} 0 1 = cc in absurd (omega arith)
-
--- what is neither decimal nor real
-a-rest : (cs : List ℕ) → Judged (cond (isHexRun cs) (hexOf (drop 2 cs)) (Bad 4))
-a-rest cs = choose Judged (isHexRun cs) _ _ (λ _. a-hex (drop 2 cs)) (λ _. bad 4)
-
-pub known-rest : (cs : List ℕ) {t : Token} → cond (isHexRun cs) (hexOf (drop 2 cs)) (Bad 4) ≡ Good t → Known t
-known-rest cs m = of-good _ (a-rest cs) m
-
-pub known-word : (cs : List ℕ) {t : Token} → wordToken cs ≡ Good t → Known t
-known-word cs m = of-good (wordToken cs) (a-word cs) m
 
 -- ---- lexemes
 data Told : Lexeme → Type 0 where

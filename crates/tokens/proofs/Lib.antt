@@ -4,6 +4,7 @@ pub mod Places
 pub mod Laws
 pub mod Known
 pub mod Tests
+pub mod Below
 pub mod Runs
 pub mod Readings
 mod Same

@@ -5,10 +5,14 @@ use lib.IntN.{pos, negsuc}
 use lib.Ieee as Ieee
 use lib.Ieee.{binary32}
 use Rattle.values.specs.declared.Value.the-variants.{Int, Real}
+use Rattle.values.specs.declared.ChoiceOp.the-variants.{Min}
+use Rattle.values.specs.declared.CompareOp.the-variants.{Eq}
 use Rattle.literals.specs.Literals.{nearestDecimal}
 use Rattle.memory.specs.declared.Bank.the-variants.{D}
 use Rattle.memory.specs.Names.{letterBank, namedRule}
-use Rattle.tokens.specs.declared.Function.the-variants.{Max, TickMs, Since}
+use Rattle.totals.specs.declared.TotalOp.the-variants.{Choice}
+use Rattle.totals.specs.declared.MatchOp.the-variants.{Count}
+use Rattle.tokens.specs.declared.Function.the-variants.{Max, TickMs, Since, Total, Match}
 use Rattle.tokens.specs.declared.Token.the-variants.{Number, Cell, Letter, Name, Symbol}
 use Rattle.tokens.specs.declared.Scanned.the-variants.{Good, Bad}
 use Rattle.words.specs.Ascii.{ascii}
@@ -130,6 +134,19 @@ upper-tick = refl
 since : wordToken (ascii "SINCE") ≡ Good (Name Since)
 unfolding wordToken
 since = refl
+
+-- `COUNTIF` alone, `COUNTIFEQ`, `MINR`
+family : wordToken (ascii "COUNTIF") ≡ Bad 6
+unfolding wordToken otherWord namedRule letterBank
+family = refl
+
+count-equal : wordToken (ascii "COUNTIFEQ") ≡ Good (Name (Match (Count Eq)))
+unfolding wordToken
+count-equal = refl
+
+least-of-run : wordToken (ascii "MINR") ≡ Good (Name (Total (Choice Min)))
+unfolding wordToken
+least-of-run = refl
 
 longer : wordToken (65 ∷ 66 ∷ 83 ∷ 50 ∷ []) ≡ Bad 6
 unfolding wordToken otherWord namedRule letterBank

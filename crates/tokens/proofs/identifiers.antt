@@ -1,3 +1,3 @@
--- What the proofs of the module share.
+-- What the proofs of the module share; token_table cites Names.
 mod Rows
-mod Names
+pub mod Names

@@ -1,8 +1,11 @@
 // Tokens of a formula's text (paper 01, "Tokens"), and what the bytes of a whole numeral or word are.
 use memory::Bank;
+use totals::MatchOp;
+use totals::TotalOp;
 use values::Value;
 
 pub mod bytes;
+pub mod functions;
 pub mod identifiers;
 pub mod numerals;
 pub mod symbols;
@@ -19,6 +22,8 @@ pub enum Function {
     If,
     TickMs,
     Since,
+    Total(TotalOp),
+    Match(MatchOp),
 }
 
 // Symbol: an operator, a bracket or the comma, by its number in the table of symbols.

@@ -6,6 +6,7 @@ ghost use lib.ListN.{drop};
 ghost use Rattle.tokens.specs.declared.Scanned.the-variants.{Bad};
 ghost use Rattle.tokens.specs.Bytes.{isHex, all};
 ghost use Rattle.tokens.specs.Numerals.{nonEmpty, hexDigit, hexFrom, hexOf, isHexRun};
+ghost use Rattle.tokens.specs.private.Patterns.{patternToken};
 use crate::Scanned;
 use crate::Token;
 use crate::bytes;
@@ -50,17 +51,36 @@ fn hex_value(run: &[u8]) -> u32
     n
 }
 
-// The digits after 0x, as a pattern of 32 bits.
+// What was read of a hexadecimal numeral: the answer that refuses it, or 0 and its pattern of 32 bits.
+pub struct Pattern {
+    pub answer: u32,
+    pub bits: u32,
+}
+
+// The digits after 0x.
+fn hex_pattern(run: &[u8]) -> Pattern
+    ensures { λ r. ⌜ patternToken r ≡ hexOf (now (run .entry)) ⌝ }
+{
+    if !all_hex(run) {
+        return Pattern { answer: 4, bits: 0 };
+    }
+    if 8 < run.len() {
+        return Pattern { answer: 5, bits: 0 };
+    }
+    Pattern {
+        answer: 0,
+        bits: hex_value(run),
+    }
+}
+
 pub fn hexadecimal(run: &[u8]) -> Scanned
     ensures { λ r. ⌜ r ≡ hexOf (now (run .entry)) ⌝ }
 {
-    if !all_hex(run) {
-        return Scanned::Bad(4);
+    let p = hex_pattern(run);
+    if p.answer != 0 {
+        return Scanned::Bad(p.answer);
     }
-    if 8 < run.len() {
-        return Scanned::Bad(5);
-    }
-    Scanned::Good(Token::Number(Value::Int(values::patterns::from_pattern(hex_value(run)))))
+    Scanned::Good(Token::Number(Value::Int(values::patterns::from_pattern(p.bits))))
 }
 
 fn is_hex_run(run: &[u8]) -> bool
@@ -73,11 +93,11 @@ fn is_hex_run(run: &[u8]) -> bool
 }
 
 // A run that is neither decimal nor a real literal.
-pub fn other_numeral(run: &[u8]) -> Scanned
-    ensures { λ r. ⌜ r ≡ cond (isHexRun (now (run .entry))) (hexOf (drop 2 (now (run .entry)))) (Bad 4) ⌝ }
+pub fn other_numeral(run: &[u8]) -> Pattern
+    ensures { λ r. ⌜ patternToken r ≡ cond (isHexRun (now (run .entry))) (hexOf (drop 2 (now (run .entry)))) (Bad 4) ⌝ }
 {
     if is_hex_run(run) {
-        return hexadecimal(&run[2..]);
+        return hex_pattern(&run[2..]);
     }
-    Scanned::Bad(4)
+    Pattern { answer: 4, bits: 0 }
 }

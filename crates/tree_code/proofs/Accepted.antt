@@ -13,13 +13,14 @@ use Rattle.values.specs.declared.Value.the-variants.{Int, Real}
 use Rattle.values.specs.Values.{kindOf}
 use Rattle.operators.specs.Kinds.{join, unaryKind, binaryKind}
 use Rattle.memory.specs.Cells.{bankKind}
+use Rattle.totals.specs.Totals.{totalKind, matchKind}
 use Rattle.code.specs.declared.Instr.{Instr}
 use Rattle.machine.specs.Machine.{maxHeight}
-use Rattle.grammar.specs.Tree.{Tree, literal, cell, indexed, unary, binary, logic, choice, tick, since, treeKind}
+use Rattle.grammar.specs.Tree.{Tree, literal, cell, indexed, unary, binary, logic, choice, tick, since, total, matching, treeKind}
 use Rattle.verifier.specs.Typing.{Shape, Move, next, pushKind, moveOf}
 use Rattle.verifier.specs.Accepts.{Accepts}
 use Rattle.tree_code.specs.Code.{push, pushBool, truthTail, branchTail, branchTailSkip, codeOf}
-use Rattle.tree_code.proofs.Well.{Well, on-literal, on-cell, on-indexed, on-unary, on-binary, on-logic, on-choice, on-tick, on-since}
+use Rattle.tree_code.proofs.Well.{Well, on-literal, on-cell, on-indexed, on-unary, on-binary, on-logic, on-choice, on-tick, on-since, on-total, on-matching}
 use Rattle.tree_code.proofs.Need.{need, need-some}
 use Rattle.tree_code.proofs.Flow.{At, here, there, Fits, fits-next, fits-leap, fits-fork, Flow, none, some, flow-append, at-past, accepts}
 
@@ -40,6 +41,8 @@ after (logic p d t u) s l = after t s (s ∷ after u s (s ∷ (K.Int ∷ s) ∷ 
 after (choice p c t u) s l = after c s (s ∷ after t s (s ∷ after u s (afterTail (treeKind t) (treeKind u) s l)))
 after tick s l = (K.Int ∷ s) ∷ l
 after (since p t) s l = after t s ((K.Int ∷ s) ∷ l)
+after (total p o b i n) s l = (totalKind o b ∷ s) ∷ l
+after (matching p o t b i n) s l = after t s ((matchKind o b ∷ s) ∷ l)
 
 -- an instruction that goes on
 goes : {i : Instr} {c : List Instr} {s r : Shape} {ss l : List Shape} → moveOf i s ≡ next r → Flow c (r ∷ ss) l → Flow (i ∷ c) (s ∷ r ∷ ss) l
@@ -102,6 +105,8 @@ tree-flow (on-choice {t = t} {u = u} w x y) s l h =
     (flow-append g (tail-flow j k s l)))))
 tree-flow on-tick s l h = goes (pushing-next s (omega arith) K.Int) none
 tree-flow (on-since q w) s l h = flow-append (tree-flow w s _ h) (goes (rw q) none)
+tree-flow (on-total {o = o} {b = b}) s l h = goes (pushing-next s (omega arith) (totalKind o b)) none
+tree-flow (on-matching w) s l h = flow-append (tree-flow w s _ h) (goes refl none)
 
 pub accepted : {t : Tree} → Well t → need t ≤ maxHeight → 0 < length (codeOf t) → length (codeOf t) ≤ 2048 → Accepts (codeOf t) (treeKind t)
 accepted w h = accepts (tree-flow w [] [] (omega arith))

@@ -16,14 +16,15 @@ use Rattle.operators.specs.Operators.{asReal, unaryRule, sinceRule, binaryRule,
 use Rattle.operators.specs.Laws.{OfKind}
 use Rattle.operators.specs.declared.UnaryOp.the-variants.{ToReal}
 use Rattle.memory.specs.Environment.{Environment, indexedCell}
+use Rattle.totals.specs.Totals.{then, matchOver, spanOf}
 use Rattle.code.specs.declared.Instr.{Instr}
-use Rattle.code.specs.declared.Instr.the-variants.{LoadIndexed, Unary, Binary, Jump, JumpIf, Since}
+use Rattle.code.specs.declared.Instr.the-variants.{LoadIndexed, Unary, Binary, Jump, JumpIf, Since, Match}
 use Rattle.machine.specs.Machine.{maxHeight, act, exec, endOf}
 use Rattle.grammar.specs.Tree.{Tree, treeKind}
-use Rattle.grammar.specs.Eval.{then, shortCircuit, eval}
+use Rattle.grammar.specs.Eval.{shortCircuit, eval}
 use Rattle.verifier.specs.Safety.{Kinded}
 use Rattle.tree_code.specs.Code.{push, pushBool, truthTail, branchTail, branchTailSkip, codeOf}
-use Rattle.tree_code.proofs.Well.{Well, on-literal, on-cell, on-indexed, on-unary, on-binary, on-logic, on-choice, on-tick, on-since, worth-kind, done-kind}
+use Rattle.tree_code.proofs.Well.{Well, on-literal, on-cell, on-indexed, on-unary, on-binary, on-logic, on-choice, on-tick, on-since, on-total, on-matching, worth-kind, done-kind}
 use Rattle.tree_code.proofs.Need.{need, need-some}
 use Rattle.tree_code.proofs.Gives.{ends, into, Gives, acts, seq, past, held, jumps, forks}
 
@@ -106,6 +107,9 @@ module _ (E : Environment) (kinded : Kinded E) where
       (λ v e. chosen E st (omega (arith, need-some c)) (treeKind t) (treeKind u) v (correct x st (omega arith)) (correct y st (omega arith)) (worth-kind E kinded x) (worth-kind E kinded y))
   correct on-tick st h = acts refl (omega arith)
   correct (on-since {t = t} q w) st h = seq (Since ∷ []) (λ v. sinceRule (E .tick) v) (correct w st h) (λ v e. acts refl (omega (arith, need-some t)))
+  correct on-total st h = acts refl (omega arith)
+  correct (on-matching {o = o} {t = t} {b = b} {i = i} {n = n} w) st h =
+      seq (Match o b i (spanOf b i n) ∷ []) (λ v. matchOver E o v b i (spanOf b i n) .result) (correct w st h) (λ v e. acts refl (omega (arith, need-some t)))
 
   pub whole : {t : Tree} → Well t → need t ≤ maxHeight → exec E (codeOf t) 0 [] .end ≡ endOf (eval E t)
   unfolding exec

@@ -8,7 +8,7 @@ use Rattle.grammar.specs.Tree.{Tree, treeKind, clear, diagnosticOf}
 use Rattle.grammar.specs.Grammar.{Formula}
 use Rattle.grammar.specs.Theorems.{Shallow}
 use Rattle.machine.specs.Machine.{maxHeight}
-use Rattle.machine.proofs.Laws.{count-most, bound-length}
+use Rattle.machine.proofs.Laws.{count-most}
 use Rattle.verifier.specs.Accepts.{Accepts}
 use Rattle.verifier.proofs.Safe.{safe}
 use Rattle.tree_code.specs.Code.{codeOf}
@@ -18,6 +18,7 @@ use Rattle.tree_code.proofs.Need.{need}
 use Rattle.tree_code.proofs.Correct.{whole}
 use Rattle.tree_code.proofs.Accepted.{accepted}
 use Rattle.tree_code.proofs.Laws.{code-some, worth-of-kind}
+use Rattle.tree_code.proofs.Bound.{bound}
 use Rattle.tree_code.proofs.Size.{small}
 use Rattle.tree_code.proofs.Height.{height}
 
@@ -31,7 +32,7 @@ compiled w t n formula shallow right long short =
       accepted = taken;
       stack = λ E kinded. safe .stack E (codeOf t) (treeKind t) kinded taken;
       short = omega (arith, small formula);
-      quick = λ E. omega (arith, small formula, count-most E (codeOf t) 0 [], bound-length (codeOf t));
+      quick = λ E. omega (arith, small formula, count-most E (codeOf t) 0 [], bound t);
     }
 
 pub demand : Demand

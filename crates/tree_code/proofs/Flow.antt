@@ -9,7 +9,7 @@ use lib.ListN.{length, drop}
 use borrow.Author.Tests.{le-leb, ltb-true, ltb-false}
 use Rattle.values.specs.declared.Kind.{Kind}
 use Rattle.code.specs.declared.Instr.{Instr}
-use Rattle.code.specs.declared.Instr.the-variants.{PushInt, PushReal, Load, LoadIndexed, Unary, Binary, Jump, JumpIf, Tick, Since, Unknown}
+use Rattle.code.specs.declared.Instr.the-variants.{PushInt, PushReal, Load, LoadIndexed, Unary, Binary, Jump, JumpIf, Tick, Since, Total, Match, Unknown}
 use Rattle.verifier.specs.Typing.{Shape, Move, illTyped, next, jump, fork, moveOf, wellFormed}
 use Rattle.verifier.specs.Accepts.{MovesTo, next-place, jump-target, not-taken, taken, instrAt, Reached, start, onward, Accepts}
 
@@ -112,6 +112,8 @@ fits-stands (JumpIf t d) [] l n e f = absurd (not-refused f refl)
 fits-stands (JumpIf t d) (k ∷ s) l n e f = le-leb d n (omega (arith, fork-inside f))
 fits-stands Tick s l n e f = refl
 fits-stands Since s l n e f = refl
+fits-stands (Total o b i m) s l n e f = refl
+fits-stands (Match o b i m) s l n e f = refl
 fits-stands Unknown s l n e f = absurd (not-refused f refl)
 
 all-stand : {c : List Instr} {ss l : List Shape} → Flow c ss l → length l ≡ 1 → (p : ℕ) → p < length c → wellFormed (length c - suc p) (instrAt c p) ≡ true

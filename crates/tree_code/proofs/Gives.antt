@@ -11,13 +11,13 @@ use Rattle.values.specs.declared.Outcome.{Outcome}
 use Rattle.values.specs.declared.Outcome.the-variants.{Done, Stopped, WrongKind}
 use Rattle.operators.specs.Operators.{truthRule}
 use Rattle.memory.specs.Environment.{Environment}
+use Rattle.totals.specs.Totals.{then}
 use Rattle.code.specs.declared.Instr.{Instr}
 use Rattle.code.specs.declared.Instr.the-variants.{Jump, JumpIf}
 use Rattle.machine.specs.declared.Ended.{Ended}
 use Rattle.machine.specs.declared.Ended.the-variants as Ended
 use Rattle.machine.specs.Machine.{maxHeight, Next, goes, halts, pushOutcome, act, cost, exec}
 use Rattle.machine.proofs.Laws.{onward}
-use Rattle.grammar.specs.Eval.{then}
 
 -- how a run of c ends that skips k instructions and holds the values st
 abbrev pub ends : Environment → List Instr → ℕ → List Value → Ended

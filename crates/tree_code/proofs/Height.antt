@@ -5,12 +5,14 @@ use mathlib.Core.List.{List, [], _∷_, _++_, append-assoc, append-nil}
 use Prim.Native.Nat.{ℕ, zero, suc, _+_, _-_, _*_, _≤_, _<_}
 use native.Mathlib.Omega.{arith}
 use lib.Dec.{eqb}
+use lib.IntN.{ℤ}
 use borrow.Author.Tests.{ne-eqb}
+use Rattle.memory.specs.declared.Bank.{Bank}
 use Rattle.tokens.specs.declared.Token.the-variants.{Symbol}
 use Rattle.tokens.specs.Scan.{Tok}
 use Rattle.grammar.specs.Tree.{Tree}
 use Rattle.grammar.specs.Symbols.{openParen, closeParen, openIndex, closeIndex, loosest, Callee, of-one, of-two, of-choice, of-since, moreArguments, callTree, Arguments, argument}
-use Rattle.grammar.specs.Grammar.{tok, Derives, number, name, index, parenthesis, call, clocked, prefixed, up, infixed, last, next, Formula}
+use Rattle.grammar.specs.Grammar.{tok, Range, range, Derives, number, name, index, parenthesis, call, clocked, totalled, tested, prefixed, up, infixed, last, next, Formula}
 use Rattle.grammar.specs.Parse.{mostOpen}
 use Rattle.grammar.specs.Theorems.{isOpener, isCloser, Shallow, opens, goes-on}
 use Rattle.tree_code.proofs.Need.{need}
@@ -61,6 +63,10 @@ unfolding need
 infix-need n (of-values o) h g = omega arith
 infix-need n (of-truths d) h g = omega arith
 
+-- a first cell, a count and the parenthesis that closes them
+over-range : (o : ℕ) {b : Bank} {i : ℕ} {n : ℤ} {u : ℕ} {w : List Tok} → Range b i n u w → (v : List Tok) → Shallow (suc o) (w ++ v) → Shallow o v
+over-range o (range _ _ _ _) v s = closed o refl refl (passed refl (passed refl (passed refl s)))
+
 low : {l : ℕ} {w : List Tok} {t : Tree} → Derives l w t → Low l w t
 unfolding need
 low d = elim d as (λ l w t d. Low l w t) (λ m w ts a. Lows m w ts) [
@@ -81,6 +87,13 @@ low d = elim d as (λ l w t d. Low l w t) (λ m w ts a. Lows m w ts) [
   | clocked r e ↦ λ o v s.
       let a = opened refl (passed refl s) in
       (omega arith, closed o refl refl (a .1))
+  | totalled e g ↦ λ o v s.
+      let a = opened refl (passed refl s) in
+      (omega arith, over-range o g v (a .1))
+  | tested r {w = w} {v = x} {t = t} e (d → h) g ↦ λ o v s.
+      let a = opened refl (passed refl s) in
+      let b = within w t h o _ x v (a .0) (a .1) in
+      (omega (arith, b .0), over-range o g v (passed refl (b .1)))
   | prefixed {n} {p} {o = u} {w} e (d → h) ↦ λ o v s. h o v (over-plain n p o (w ++ v) (prefix-plain n u e .low) s)
   | up (d → h) ↦ λ o v s. let a = h o v s in (omega (arith, a .0), a .1)
   | infixed {l} n p {v = x} {t = t} {u = u} e (d → h) (d′ → h′) ↦ λ o v s.

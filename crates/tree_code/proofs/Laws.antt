@@ -3,6 +3,7 @@ use mathlib.Core.Path.{_≡_, refl}
 use mathlib.Core.Bool.{Bool}
 use Prim.Native.Nat.{ℕ, _+_, _≤_, _<_}
 use native.Mathlib.Omega.{arith}
+use lib.IntN.{ℤ}
 use lib.ListN.{length, length-append}
 use Rattle.values.specs.declared.Kind.{Kind}
 use Rattle.values.specs.declared.Kind.the-variants as K
@@ -12,7 +13,9 @@ use Rattle.operators.specs.declared.BinaryOp.{BinaryOp}
 use Rattle.operators.specs.Laws.{OfKind}
 use Rattle.memory.specs.declared.Bank.{Bank}
 use Rattle.memory.specs.Environment.{Environment}
-use Rattle.grammar.specs.Tree.{Tree, literal, cell, indexed, unary, binary, logic, choice, tick, since, treeKind, clear, diagnosticOf}
+use Rattle.totals.specs.declared.TotalOp.{TotalOp}
+use Rattle.totals.specs.declared.MatchOp.{MatchOp}
+use Rattle.grammar.specs.Tree.{Tree, literal, cell, indexed, unary, binary, logic, choice, tick, since, total, matching, treeKind, clear, diagnosticOf}
 use Rattle.grammar.specs.Eval.{eval}
 use Rattle.verifier.specs.Safety.{Kinded}
 use Rattle.tree_code.specs.Code.{branchTail, codeOf}
@@ -54,6 +57,14 @@ pub length-since : (p : ℕ) (t : Tree) → length (codeOf (since p t)) ≡ leng
 unfolding codeOf
 length-since p t = simp length-append
 
+pub length-total : (p : ℕ) (o : TotalOp) (b : Bank) (i : ℕ) (n : ℤ) → length (codeOf (total p o b i n)) ≡ 1
+unfolding codeOf
+length-total p o b i n = refl
+
+pub length-matching : (p : ℕ) (o : MatchOp) (t : Tree) (b : Bank) (i : ℕ) (n : ℤ) → length (codeOf (matching p o t b i n)) ≡ length (codeOf t) + 1
+unfolding codeOf
+length-matching p o t b i n = simp length-append
+
 pub tail-short : (j k : Kind) → length (branchTail j k) ≤ 2
 tail-short K.Int K.Int = omega arith
 tail-short K.Int K.Real = omega arith
@@ -70,6 +81,8 @@ code-some (logic p d t u) = omega (arith, length-logic p d t u)
 code-some (choice p c t u) = omega (arith, length-choice p c t u)
 code-some tick = omega (arith, length-tick)
 code-some (since p t) = omega (arith, length-since p t)
+code-some (total p o b i n) = omega (arith, length-total p o b i n)
+code-some (matching p o t b i n) = omega (arith, length-matching p o t b i n)
 
 pub worth-of-kind : (E : Environment) → Kinded E → (t : Tree) → diagnosticOf t ≡ clear → OfKind (treeKind t) (eval E t)
 worth-of-kind E kinded t e = worth-kind E kinded (well t e)

@@ -8,6 +8,7 @@ mod Gives
 mod Correct
 mod Flow
 mod Accepted
+mod Bound
 mod Size
 mod Height
 mod Samples

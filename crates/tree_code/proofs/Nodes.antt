@@ -1,7 +1,7 @@
 -- What an operator makes of its operands, by class, and what kind of symbol it is.
 use mathlib.Core.Path.{_≡_, refl, sym}
 use mathlib.Core.Bool.{Bool, true, false, cond, _&&_, _||_, false≢true}
-use Prim.Native.Nat.{ℕ, zero, suc, _≤_, _<_}
+use Prim.Native.Nat.{ℕ, suc, _≤_, _<_}
 use native.Mathlib.Omega.{arith}
 use lib.Dec.{eqb, ltb, leb}
 use lib.ListN.{length, getD, List·getD-eq-default}
@@ -12,8 +12,10 @@ use Rattle.operators.specs.declared.BinaryOp.{BinaryOp}
 use Rattle.operators.specs.declared.BinaryOp.the-variants as B
 use Rattle.operators.specs.Tables.{binaryOps}
 use Rattle.tokens.specs.Symbols.{symbolCount, symbolBytes}
+use Rattle.tokens.proofs.Tests.{both}
 use Rattle.grammar.specs.Tree.{Tree, binary, logic}
 use Rattle.grammar.specs.Symbols.{minus, tilde, bang, openParen, groups, groupNumber, prefixSymbol, is, none, infixTree}
+use Rattle.tokens.proofs.Below.{below, below-at}
 
 -- the node of an operator whose symbol has so many bytes at the least
 pub data Infix (p : ℕ) (t u : Tree) : ℕ → Tree → Type 0 where
@@ -36,23 +38,6 @@ pub record Plain (n k : ℕ) : Type 0 where
   pub long : k ≤ length (symbolBytes n)
 
 -- ---- operators, by computing the table of symbols
-both : (a b : Bool) → (a && b) ≡ true → (a ≡ true) × (b ≡ true)
-both true b e = (refl, e)
-both false b e = absurd (false≢true e)
-
-below : ℕ → (ℕ → Bool) → Bool
-below zero test = true
-below (suc m) test = test m && below m test
-
-below-at : (test : ℕ → Bool) (m n : ℕ) → below m test ≡ true → n < m → test n ≡ true
-unfolding below
-below-at test zero n e h = absurd (omega arith)
-below-at test (suc m) n e h = let b = both (test m) _ e in go (ltb n m) refl (b .0) (λ l. below-at test m n (b .1) l)
-  where
-    go : (x : Bool) → ltb n m ≡ x → test m ≡ true → (n < m → test n ≡ true) → test n ≡ true
-    go true q a k = k (ltb-true n m q)
-    go false q a k = let z : m ≡ n = omega (arith, ltb-false n m q) in rw (← z) a
-
 entry : ℕ → Bool
 entry n = eqb (groupNumber n) 0 || (ltb n openParen && leb (width n) (length (symbolBytes n)))
 

@@ -3,6 +3,7 @@ use mathlib.Core.Path.{_≡_, refl, sym, ap, _∙_}
 use mathlib.Core.Bool.{Bool, true, false, cond, Bool·beq}
 use Prim.Native.Nat.{ℕ}
 use native.Mathlib.Omega.{arith}
+use lib.IntN.{ℤ}
 use Rattle.values.specs.declared.Kind.{Kind}
 use Rattle.values.specs.declared.Kind.the-variants as K
 use Rattle.values.specs.declared.Value.{Value}
@@ -17,8 +18,12 @@ use Rattle.operators.specs.Laws.{OfKind, done, stopped}
 use Rattle.operators.proofs.Laws.{rule-laws}
 use Rattle.memory.specs.declared.Bank.{Bank}
 use Rattle.memory.specs.Environment.{Environment}
-use Rattle.grammar.specs.Tree.{Tree, literal, cell, indexed, unary, binary, logic, choice, tick, since, treeKind, Diagnostic, clear, at, precedes, earlier, unless, wrongKindAt, diagnosticOf}
-use Rattle.grammar.specs.Eval.{then, shortCircuit, eval}
+use Rattle.totals.specs.declared.TotalOp.{TotalOp}
+use Rattle.totals.specs.declared.MatchOp.{MatchOp}
+use Rattle.totals.specs.Totals.{then, goodCount, spanOf}
+use Rattle.totals.proofs.Laws.{total-laws}
+use Rattle.grammar.specs.Tree.{Tree, literal, cell, indexed, unary, binary, logic, choice, tick, since, total, matching, treeKind, Diagnostic, clear, at, precedes, earlier, unless, wrongKindAt, wrongCountAt, diagnosticOf}
+use Rattle.grammar.specs.Eval.{shortCircuit, eval}
 use Rattle.verifier.specs.Safety.{Kinded}
 use Rattle.verifier.proofs.Safe.{indexed-kind}
 
@@ -33,6 +38,8 @@ pub data Well : Tree → Type 0 where
   on-choice : {p : ℕ} {c t u : Tree} → Well c → Well t → Well u → Well (choice p c t u)
   on-tick : Well tick
   on-since : {p : ℕ} {t : Tree} → isInt (treeKind t) ≡ true → Well t → Well (since p t)
+  on-total : {p : ℕ} {o : TotalOp} {b : Bank} {i : ℕ} {n : ℤ} → Well (total p o b i n)
+  on-matching : {p : ℕ} {o : MatchOp} {t : Tree} {b : Bank} {i : ℕ} {n : ℤ} → Well t → Well (matching p o t b i n)
 
 -- ---- a tree without a diagnostic
 neither : (x y : Diagnostic) → earlier x y ≡ clear → (x ≡ clear) × (y ≡ clear)
@@ -65,6 +72,8 @@ well (choice p c t u) e =
     on-choice (well c (h .0)) (well t (k .0)) (well u (k .1))
 well tick e = on-tick
 well (since p t) e = let h = neither _ _ e in on-since (taken _ p (h .0)) (well t (h .1))
+well (total p o b i n) e = on-total
+well (matching p o t b i n) e = on-matching (well t (neither (unless (goodCount b i n) (wrongCountAt p)) _ e .1))
 
 -- ---- kinds of outcomes
 then-kind : {j k : Kind} {r : Outcome} (f : Value → Outcome) → OfKind j r → ((v : Value) → kindOf v ≡ j → OfKind k (f v)) → OfKind k (then r f)
@@ -105,6 +114,8 @@ module _ (E : Environment) (kinded : Kinded E) where
       (λ v e. cond-kind (truthRule v) (branch-of (treeKind u) (worth-kind x)) (rw (join-comm (treeKind t) (treeKind u)) (branch-of (treeKind t) (worth-kind y))))
   worth-kind on-tick = done _ refl
   worth-kind (on-since q w) = then-kind _ (worth-kind w) (λ v e. rule-laws .since-kind (E .tick) v (rw (e, q) tt))
+  worth-kind (on-total {o = o} {b = b} {i = i} {n = n}) = total-laws .total-kind E o b i (spanOf b i n) (kinded .cell b)
+  worth-kind (on-matching {o = o} {b = b} {i = i} {n = n} w) = then-kind _ (worth-kind w) (λ v e. total-laws .match-kind E o v b i (spanOf b i n) (kinded .cell b))
 
 pub done-kind : {k : Kind} {r : Outcome} (v : Value) → OfKind k r → r ≡ Done v → kindOf v ≡ k
 done-kind v (done w e) q = let h : w ≡ v = cc in ap kindOf (sym h) ∙ e

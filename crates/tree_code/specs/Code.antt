@@ -9,9 +9,10 @@ use Rattle.values.specs.declared.Kind.the-variants as K
 use Rattle.values.specs.declared.Value.{Value}
 use Rattle.values.specs.declared.Value.the-variants as V'
 use Rattle.operators.specs.declared.UnaryOp.the-variants.{ToReal}
+use Rattle.totals.specs.Totals.{spanOf}
 use Rattle.code.specs.declared.Instr.{Instr}
-use Rattle.code.specs.declared.Instr.the-variants.{PushInt, PushReal, Load, LoadIndexed, Unary, Binary, Jump, JumpIf, Tick, Since}
-use Rattle.grammar.specs.Tree.{Tree, literal, cell, indexed, unary, binary, logic, choice, tick, since, treeKind}
+use Rattle.code.specs.declared.Instr.the-variants.{PushInt, PushReal, Load, LoadIndexed, Unary, Binary, Jump, JumpIf, Tick, Since, Total, Match}
+use Rattle.grammar.specs.Tree.{Tree, literal, cell, indexed, unary, binary, logic, choice, tick, since, total, matching, treeKind}
 
 abbrev pub push : Value → Instr
 push (V'.Int z) = PushInt z
@@ -50,3 +51,5 @@ codeOf (choice p c t u) =
     codeOf c ++ JumpIf false (length (codeOf t) + 1) ∷ (codeOf t ++ Jump (length (codeOf u) + branchTailSkip (treeKind t) (treeKind u)) ∷ (codeOf u ++ branchTail (treeKind t) (treeKind u)))
 codeOf tick = Tick ∷ []
 codeOf (since p t) = codeOf t ++ Since ∷ []
+codeOf (total p o b i n) = Total o b i (spanOf b i n) ∷ []
+codeOf (matching p o t b i n) = codeOf t ++ Match o b i (spanOf b i n) ∷ []

@@ -19,11 +19,15 @@ use Rattle.operators.specs.Tables.{unaryOf, binaryOf}
 use Rattle.memory.specs.declared.numbers.BankOf.{BankOf}
 use Rattle.memory.specs.declared.numbers.BankOf.the-variants as BankOf
 use Rattle.memory.specs.Numbers.{bankNumbered}
+use Rattle.totals.specs.declared.tables.MatchOf.{MatchOf}
+use Rattle.totals.specs.declared.tables.MatchOf.the-variants as MatchOf
+use Rattle.totals.specs.Totals.{goodRange}
+use Rattle.totals.specs.Numbers.{matchOf}
 use Rattle.code.specs.declared.Instr.{Instr}
-use Rattle.code.specs.declared.Instr.the-variants.{LoadIndexed, Unary, Binary, Since, Unknown}
+use Rattle.code.specs.declared.Instr.the-variants.{LoadIndexed, Unary, Binary, Since, Match, Unknown}
 use Rattle.code.specs.declared.Class.the-variants as Class
-use Rattle.code.specs.Instructions.{loadIndexed, applySince, wordOf}
-use Rattle.code.specs.private.Classes.{numberOf, ofBank, ofUnary, ofBinary, instrIn}
+use Rattle.code.specs.Instructions.{loadIndexed, applySince, rangeBank, rangeFirst, rangeCount, overRange, wordOf}
+use Rattle.code.specs.private.Classes.{numberOf, ofBank, ofUnary, ofBinary, ofMatch, instrIn}
 use Rattle.verifier.specs.declared.packing.Held.{Held}
 use Rattle.verifier.specs.declared.typing.Flow.{Flow}
 use Rattle.verifier.specs.Typing.{Shape, Move, illTyped, moveOf}
@@ -166,6 +170,15 @@ module _ (w : ℕ) where
   unfolding moveOf
   since-empty = none-word (eqb w 0) Since [] refl
 
+  match-empty : (u : MatchOf) → moveOf (ofMatch u w) [] ≡ illTyped
+  unfolding moveOf
+  match-empty (MatchOf.Is o) = by (bankNumbered (rangeBank w))
+    where
+      by : (b : BankOf) → moveOf (overRange (Match o) b (rangeFirst w) (rangeCount w)) [] ≡ illTyped
+      by (BankOf.Is b) = none-word (goodRange b (rangeFirst w) (rangeCount w)) (Match o b (rangeFirst w) (rangeCount w)) [] refl
+      by BankOf.Nothing = refl
+  match-empty MatchOf.Nothing = refl
+
   binary-few : (o : BinaryOf) (h v : ℕ) → h < 2 → moveOf (ofBinary o w) (bitKinds h v) ≡ illTyped
   unfolding moveOf
   binary-few (BinaryOf.Is o) zero v l = none-word (eqb w 0) (Binary o) [] refl
@@ -185,6 +198,9 @@ module _ (w : Held) (n : ℕ) where
 
   pub since-short : w .height < 1 → moveOf (instrIn Class.Since n) (kindsOf w) ≡ illTyped
   since-short l = empty _ l (since-empty (wordOf n))
+
+  pub match-short : w .height < 1 → moveOf (instrIn Class.Match n) (kindsOf w) ≡ illTyped
+  match-short l = empty _ l (match-empty (wordOf n) (matchOf (numberOf n)))
 
   pub binary-short : w .height < 2 → moveOf (instrIn Class.Binary n) (kindsOf w) ≡ illTyped
   binary-short l = binary-few (wordOf n) (binaryOf (numberOf n)) (w .height) (word w) l

@@ -11,7 +11,7 @@ use borrow.Author.Tests.{leb-true, eqb-true, eqb-false}
 use Rattle.values.specs.declared.Kind.{Kind}
 use Rattle.operators.specs.Kinds.{isInt, unaryTakes, binaryTakes}
 use Rattle.code.specs.declared.Instr.{Instr}
-use Rattle.code.specs.declared.Instr.the-variants.{PushInt, PushReal, Load, LoadIndexed, Unary, Binary, Jump, JumpIf, Tick, Since, Unknown}
+use Rattle.code.specs.declared.Instr.the-variants.{PushInt, PushReal, Load, LoadIndexed, Unary, Binary, Jump, JumpIf, Tick, Since, Total, Match, Unknown}
 use Rattle.machine.specs.Machine.{maxHeight}
 use Rattle.verifier.specs.Typing.{Shape, Move, illTyped, next, jump, fork, hasRoom, pushKind, moveOf, wellFormed}
 use Rattle.verifier.specs.Accepts.{MovesTo, next-place, jump-target, not-taken, taken, instrAt}
@@ -88,6 +88,9 @@ spanned (JumpIf t d) (x ∷ s) k e = leb-true d k e
 spanned Tick s k e = flat (hasRoom s) _ k
 spanned Since [] k e = omega arith
 spanned Since (x ∷ s) k e = flat (isInt x) _ k
+spanned (Total o b i n) s k e = flat (hasRoom s) _ k
+spanned (Match o b i n) [] k e = omega arith
+spanned (Match o b i n) (x ∷ s) k e = omega arith
 spanned Unknown s k e = omega arith
 
 -- an instruction that goes on to the next is known
@@ -104,6 +107,8 @@ goes-known (JumpIf t d) [] k e = let z : _≡_ {A = ℕ} 0 1 = cc in absurd (ome
 goes-known (JumpIf t d) (x ∷ s) k e = let z : _≡_ {A = ℕ} 0 1 = cc in absurd (omega arith)
 goes-known Tick s k e = refl
 goes-known Since s k e = refl
+goes-known (Total o b i n) s k e = refl
+goes-known (Match o b i n) s k e = refl
 goes-known Unknown s k e = let z : _≡_ {A = ℕ} 0 1 = cc in absurd (omega arith)
 
 pub within : (i : Instr) (s : Shape) {n p q : ℕ} {r : Shape} → p < n → wellFormed (n - suc p) i ≡ true → MovesTo p (moveOf i s) q r → q ≤ n

@@ -4,7 +4,7 @@ use mathlib.Core.Path.{_≡_, refl, sym, ap, _∙_, subst}
 use mathlib.Core.Bool.{Bool, true, false, cond, Bool·beq}
 use mathlib.Core.List.{List, [], _∷_, map}
 use Prim.Native.Nat.{ℕ, zero, suc, _+_, _≤_, _<_}
-use native.Mathlib.Nat.{add-zero}
+use native.Mathlib.Nat.{add-zero, le-trans}
 use native.Mathlib.Omega.{arith}
 use lib.Dec.{T, ltb}
 use lib.ListN.{length, drop, length-drop, length-map}
@@ -23,15 +23,18 @@ use Rattle.memory.specs.Cells.{bankKind, positionRule}
 use Rattle.memory.specs.Environment.{Environment, indexedCell, memoryOf}
 use Rattle.memory.proofs.Laws.{memory-laws}
 use Rattle.memory.proofs.Positions.{position-has}
+use Rattle.totals.proofs.Laws.{total-laws}
 use Rattle.code.specs.declared.Instr.{Instr}
-use Rattle.code.specs.declared.Instr.the-variants.{PushInt, PushReal, Load, LoadIndexed, Unary, Binary, Jump, JumpIf, Tick, Since, Unknown}
+use Rattle.code.specs.declared.Instr.the-variants.{PushInt, PushReal, Load, LoadIndexed, Unary, Binary, Jump, JumpIf, Tick, Since, Total, Match, Unknown}
+use Rattle.code.specs.Instructions.{instructions}
 use Rattle.machine.specs.declared.Ended.the-variants.{Stopped}
 use Rattle.machine.specs.Machine.{maxHeight, Next, goes, halts, pushValue, pushOutcome, act, cost, finish, exec}
 use Rattle.machine.specs.Configurations.{Configuration, first, skip, step, Finishes}
 use Rattle.machine.proofs.Laws.{onward as after, count-most}
+use Rattle.machine.proofs.Bounds.{bound-code}
 use Rattle.verifier.specs.Typing.{Shape, Move, illTyped, next, fork, pushKind, moveOf}
 use Rattle.verifier.specs.Accepts.{MovesTo, next-place, jump-target, not-taken, taken, instrAt, Reached, start, onward, Accepts}
-use Rattle.verifier.specs.Stack.{HasOperands, push-int, push-real, load, load-indexed, unary, binary, jump-always, jump-if, push-tick, since, StackSafe}
+use Rattle.verifier.specs.Stack.{HasOperands, push-int, push-real, load, load-indexed, unary, binary, jump-always, jump-if, push-tick, since, total, matching, StackSafe}
 use Rattle.verifier.specs.Safety.{Kinded, EndsWell, value, fault, Safe}
 use Rattle.verifier.proofs.Moves.{allowed, has-room, Split, split, within}
 
@@ -97,6 +100,9 @@ module _ (E : Environment) (K : Kinded E) where
   follows p Tick st h n = fits p st (done _ refl) n
   follows p Since [] h n = absurd (n refl)
   follows p Since (v ∷ st) h n = takes p st (isInt (kindOf v)) (rule-laws .since-kind (E .tick) v) h n
+  follows p (Total o b i n′) st h n = fits p st (total-laws .total-kind E o b i n′ (K .cell b)) n
+  follows p (Match o b i n′) [] h n = absurd (n refl)
+  follows p (Match o b i n′) (v ∷ st) h n = gives p st (total-laws .match-kind E o v b i n′ (K .cell b)) h
   follows p Unknown st h n = absurd (n refl)
 
 -- ---- what an instruction takes
@@ -119,6 +125,9 @@ operands (JumpIf t d) (k ∷ s) n = jump-if
 operands Tick s n = push-tick
 operands Since [] n = absurd (n refl)
 operands Since (k ∷ s) n = since (allowed (isInt k) _ n)
+operands (Total o b i m) s n = total
+operands (Match o b i m) [] n = absurd (n refl)
+operands (Match o b i m) (k ∷ s) n = matching
 operands Unknown s n = absurd (n refl)
 
 -- ---- a run
@@ -216,6 +225,7 @@ pub safe : Safe
 safe = record {
   ends = λ E c k K acc. runs E K c k acc c 0 [] first;
   counts = λ E c. count-most E c 0 [];
+  counts-code = λ E code n. le-trans (count-most E (instructions code n) 0 []) (bound-code code n);
   stack = λ E c k K acc. stack E K c k acc;
 }
 

@@ -15,8 +15,10 @@ use Rattle.operators.specs.declared.BinaryOp.{BinaryOp}
 use Rattle.operators.specs.Kinds.{isInt, unaryTakes, binaryTakes}
 use Rattle.memory.specs.declared.Bank.{Bank}
 use Rattle.memory.specs.Environment.{Environment}
+use Rattle.totals.specs.declared.TotalOp.{TotalOp}
+use Rattle.totals.specs.declared.MatchOp.{MatchOp}
 use Rattle.code.specs.declared.Instr.{Instr}
-use Rattle.code.specs.declared.Instr.the-variants.{PushInt, PushReal, Load, LoadIndexed, Unary, Binary, Jump, JumpIf, Tick, Since}
+use Rattle.code.specs.declared.Instr.the-variants.{PushInt, PushReal, Load, LoadIndexed, Unary, Binary, Jump, JumpIf, Tick, Since, Total, Match}
 use Rattle.machine.specs.Machine.{maxHeight}
 use Rattle.machine.specs.Configurations.{Configuration, Begins, Finishes}
 use Rattle.verifier.specs.Typing.{Shape}
@@ -34,6 +36,8 @@ pub data HasOperands : Instr → Shape → Type 0 where
   jump-if : {t : Bool} {d : ℕ} {k : Kind} {s : Shape} → HasOperands (JumpIf t d) (k ∷ s)
   push-tick : {s : Shape} → HasOperands Tick s
   since : {k : Kind} {s : Shape} → T (isInt k) → HasOperands Since (k ∷ s)
+  total : {o : TotalOp} {b : Bank} {i n : ℕ} {s : Shape} → HasOperands (Total o b i n) s
+  matching : {o : MatchOp} {b : Bank} {i n : ℕ} {k : Kind} {s : Shape} → HasOperands (Match o b i n) (k ∷ s)
 
 -- what the run of c in E holds, where the end has a value of the kind k
 pub record StackSafe (E : Environment) (c : List Instr) (k : Kind) : Type 0 where

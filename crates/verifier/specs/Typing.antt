@@ -8,8 +8,9 @@ use Rattle.values.specs.declared.Kind.{Kind}
 use Rattle.values.specs.declared.Kind.the-variants.{Int, Real}
 use Rattle.operators.specs.Kinds.{isInt, unaryKind, unaryTakes, binaryKind, binaryTakes}
 use Rattle.memory.specs.Cells.{bankKind}
+use Rattle.totals.specs.Totals.{totalKind, matchKind}
 use Rattle.code.specs.declared.Instr.{Instr}
-use Rattle.code.specs.declared.Instr.the-variants.{PushInt, PushReal, Load, LoadIndexed, Unary, Binary, Jump, JumpIf, Tick, Since, Unknown}
+use Rattle.code.specs.declared.Instr.the-variants.{PushInt, PushReal, Load, LoadIndexed, Unary, Binary, Jump, JumpIf, Tick, Since, Total, Match, Unknown}
 use Rattle.machine.specs.Machine.{maxHeight}
 
 -- the kinds of the values held, the last pushed first
@@ -47,6 +48,9 @@ moveOf (JumpIf t d) (k ∷ s) = fork d s
 moveOf Tick s = pushKind Int s
 moveOf Since [] = illTyped
 moveOf Since (k ∷ s) = cond (isInt k) (next (Int ∷ s)) illTyped
+moveOf (Total o b i n) s = pushKind (totalKind o b) s
+moveOf (Match o b i n) [] = illTyped
+moveOf (Match o b i n) (k ∷ s) = next (matchKind o b ∷ s)
 moveOf Unknown s = illTyped
 
 -- "every one is known ..., jumps go forward and stay within the code or at its end": m instructions follow
@@ -61,4 +65,6 @@ wellFormed m (Jump d) = leb d m
 wellFormed m (JumpIf t d) = leb d m
 wellFormed m Tick = true
 wellFormed m Since = true
+wellFormed m (Total o b i n) = true
+wellFormed m (Match o b i n) = true
 wellFormed m Unknown = false

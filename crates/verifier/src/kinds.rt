@@ -4,14 +4,16 @@ ghost use mathlib.Core.Path.{_≡_};
 ghost use Prim.Native.Nat.{ℕ};
 ghost use lib.Dec.{leb};
 ghost use Rattle.memory.specs.Numbers.{bankNumbered};
-ghost use Rattle.code.specs.declared.Class.the-variants.{PushReal, Tick, Since, Load, LoadIndexed, Unary, Binary};
+ghost use Rattle.code.specs.declared.Class.the-variants.{PushReal, Tick, Since, Load, LoadIndexed, Unary, Binary, Total, Match};
 ghost use Rattle.code.specs.Instructions.{wordOf, instructionOf};
 ghost use Rattle.code.specs.private.Classes.{instrIn};
 ghost use Rattle.verifier.specs.Typing.{wellFormed};
-ghost use Rattle.verifier.specs.private.Shapes.{elementTyped, LeavesKind, ReplacesKind, ReplacesTwo};
+ghost use Rattle.verifier.specs.private.Shapes.{elementTyped, withinBank, LeavesKind, ReplacesKind, ReplacesTwo};
 use code::Class;
 use memory::numbers;
 use operators::kinds;
+use totals::ranges;
+use totals::tables;
 use values::patterns;
 
 // An infinity or a NaN is not pushed.
@@ -94,6 +96,42 @@ pub fn binary_kind(w: u64, left: u8, right: u8) -> u8
     }
 }
 
+// Whether the range of an instruction's word lies within its bank.
+fn in_bank(w: u64) -> bool
+    ensures { λ r. ⌜ r ≡ withinBank (wordOf w) ⌝ }
+{
+    let word = code::word_of(w);
+    let elements = numbers::bank_elements(code::range_bank(word) as u32);
+    ranges::is_within(elements, code::range_first(word), code::range_count(word))
+}
+
+pub fn total_kind(w: u64) -> u8
+    ensures { λ r. ⌜ LeavesKind (instrIn Total w) r ⌝ }
+{
+    if in_bank(w) {
+        tables::total_kind(
+            code::number_of(w) as u32,
+            code::range_bank(code::word_of(w)) as u32,
+        )
+    } else {
+        kinds::NOT_TAKEN
+    }
+}
+
+// Whatever the expression.
+pub fn match_kind(w: u64) -> u8
+    ensures { λ r. ⌜ ((k : ℕ) → ReplacesKind (instrIn Match w) k r) ⌝ }
+{
+    if in_bank(w) {
+        tables::match_kind(
+            code::number_of(w) as u32,
+            code::range_bank(code::word_of(w)) as u32,
+        )
+    } else {
+        kinds::NOT_TAKEN
+    }
+}
+
 // A jump stays within the code or goes to its end: so many instructions follow it.
 pub fn stays(w: u64, left: usize) -> bool
     ensures { λ r. ⌜ r ≡ leb (wordOf w) left ⌝ }
@@ -117,6 +155,8 @@ pub fn known(w: u64, left: usize) -> bool
         Class::LoadIndexed => indexed_kind(w) < kinds::NOT_TAKEN,
         Class::Unary => unary_kind(w, kinds::INT) < kinds::NOT_TAKEN,
         Class::Binary => binary_kind(w, kinds::INT, kinds::INT) < kinds::NOT_TAKEN,
+        Class::Total => total_kind(w) < kinds::NOT_TAKEN,
+        Class::Match => match_kind(w) < kinds::NOT_TAKEN,
         Class::Unknown => false,
     }
 }

@@ -167,6 +167,8 @@ fn step(
         Class::LoadIndexed => typing::indexed(kinds, held, w),
         Class::Unary => typing::unary(kinds, held, w),
         Class::Binary => typing::binary(kinds, held, w),
+        Class::Total => typing::push(kinds, held, kinds::total_kind(w)),
+        Class::Match => typing::matching(kinds, held, w),
         Class::Unknown => Flow { reach: 0, held },
     }
 }

@@ -1,7 +1,7 @@
 // What an instruction makes of the kinds of the values held. An array has them, and so have the bits of `Held`.
 ghost use mathlib.Core.Path.{_≡_};
 ghost use Prim.Native.Nat.{_<_};
-ghost use Rattle.code.specs.declared.Class.the-variants.{Since, LoadIndexed, Unary, Binary};
+ghost use Rattle.code.specs.declared.Class.the-variants.{Since, LoadIndexed, Unary, Binary, Match};
 ghost use Rattle.code.specs.private.Classes.{instrIn};
 ghost use Rattle.verifier.specs.Typing.{moveOf};
 ghost use Rattle.verifier.specs.private.Shapes.{numberKind, kindsOf, below, leaving, pushNumber, ArrayHolds, Leaves};
@@ -105,4 +105,14 @@ pub fn binary(kinds: &mut [u8; 128], held: Held, w: u64) -> Flow
     }
     let k = kinds::binary_kind(w, kinds[h - 2], kinds[h - 1]);
     replace(kinds, packing::popped(held), k)
+}
+
+pub fn matching(kinds: &mut [u8; 128], held: Held, w: u64) -> Flow
+    requires { ⌜ ArrayHolds (now kinds) held ⌝ }
+    ensures { λ r. ⌜ Leaves (now (kinds .exit)) r (moveOf (instrIn Match w) (kindsOf held)) ⌝ }
+{
+    if held.height < 1 {
+        return Flow { reach: 0, held };
+    }
+    replace(kinds, held, kinds::match_kind(w))
 }

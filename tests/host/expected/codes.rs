@@ -3,11 +3,14 @@
 use super::shown_end;
 use crate::reference::check::check;
 use crate::reference::code::Instruction::{self, *};
-use crate::reference::code::{bytes, encode, BINARY, INSTRUCTION_BYTES, LOAD, LOAD_INDEXED, PUSH_REAL, SINCE, TICK, UNARY};
+use crate::reference::code::{
+    bytes, encode, BINARY, INSTRUCTION_BYTES, INSTRUCTION_LIMIT, LOAD, LOAD_INDEXED, MATCH, PUSH_REAL, SINCE, TICK, TOTAL, UNARY,
+};
 use crate::reference::machine::run;
-use crate::reference::memory::{offset, Bank, MEMORY_BYTES};
+use crate::reference::memory::{offset, Bank, BANKS, MEMORY_BYTES};
 use crate::reference::operators::Binary::*;
 use crate::reference::operators::Unary as Prefix;
+use crate::reference::totals::{Matching, Range, Total as Of};
 use crate::reference::value::{Kind, Value};
 
 // The program runs every code at this tick: below zero as an integer, and far from the least one.
@@ -15,7 +18,7 @@ const TICK_OF_RUNS: u32 = 0x8000_0005;
 
 #[derive(Clone)]
 struct Case {
-    name: &'static str,
+    name: String,
     code: Vec<u8>,
     instructions: usize,
 }
@@ -24,7 +27,7 @@ struct Case {
 pub fn files() -> (String, String) {
     let (mut input, mut printed) = (String::new(), String::new());
     let memory = image();
-    for Case { name, code, instructions } in [accepted(), faults(), unknown(), refused()].concat() {
+    for Case { name, code, instructions } in [accepted(), faults(), unknown(), refused(), totals(), ranges()].concat() {
         let digits: String = code.iter().map(|byte| format!("{byte:02X}")).collect();
         input += &format!("{name} {instructions} {digits}\n");
         let verdict = match check(&code, instructions) {
@@ -32,33 +35,51 @@ pub fn files() -> (String, String) {
             Some(Kind::Real) => "r",
             None => "15",
         };
+        if instructions > INSTRUCTION_LIMIT {
+            // The machine takes no more.
+            printed += &format!("{name} {verdict} -\n");
+            continue;
+        }
         let (end, count) = run(&code, instructions, &memory, TICK_OF_RUNS);
         printed += &format!("{name} {verdict} {} {count}\n", shown_end(end));
     }
     (input, printed)
 }
 
-// D0 = 5, D1 = -1, R0 = 1.5 and a NaN in R1; every other cell is 0.
+const NAN: u32 = 0x7FC0_0000;
+const MINUS_ZERO: u32 = 0x8000_0000;
+// 2 ^ 127: two of them add up to an infinity.
+const LARGE: u32 = 0x7F00_0000;
+
+// The image of the program; every other cell is 0.
 fn image() -> Vec<u8> {
     let mut memory = vec![0; MEMORY_BYTES];
-    let mut put = |bank, element, word: u32| {
+    let mut put = |bank, element, bytes: &[u8]| {
         let at = offset(bank, element);
-        memory[at..at + 4].copy_from_slice(&word.to_le_bytes());
+        memory[at..at + bytes.len()].copy_from_slice(bytes);
     };
-    put(Bank::D, 0, 5);
-    put(Bank::D, 1, -1i32 as u32);
-    put(Bank::R, 0, 1.5f32.to_bits());
-    put(Bank::R, 1, 0x7FC0_0000);
+    for (element, integer) in [(0, 5), (1, -1), (4, i32::MAX), (5, 1), (6, -2)] {
+        put(Bank::D, element, &integer.to_le_bytes());
+    }
+    let singles = [(0, 1.5f32.to_bits()), (1, NAN), (2, MINUS_ZERO), (4, MINUS_ZERO), (10, LARGE), (11, LARGE), (12, NAN)];
+    for (element, pattern) in singles {
+        put(Bank::R, element, &pattern.to_le_bytes());
+    }
+    put(Bank::X, 0, &[1]);
+    put(Bank::X, 3, &[255]);
+    put(Bank::C, 63, &[2]);
+    put(Bank::V, 255, &[255, 255]);
+    put(Bank::N, 0, &[255, 255]);
     memory
 }
 
 type Eight = [u8; INSTRUCTION_BYTES];
 
-fn raw(name: &'static str, code: &[Eight]) -> Case {
-    Case { name, code: code.concat(), instructions: code.len() }
+fn raw(name: &str, code: &[Eight]) -> Case {
+    Case { name: name.into(), code: code.concat(), instructions: code.len() }
 }
 
-fn case(name: &'static str, code: &[Instruction]) -> Case {
+fn case(name: &str, code: &[Instruction]) -> Case {
     let code: Vec<Eight> = code.iter().map(|instruction| encode(*instruction)).collect();
     raw(name, &code)
 }
@@ -128,7 +149,7 @@ fn unknown() -> Vec<Case> {
         case("long_2049", &negations(2048)),
         raw("opcode_0", &[bytes(0, 0, 0)]),
         raw("opcode_8", &[bytes(8, 0, 0)]),
-        raw("opcode_160", &[one, one, bytes(160, 0, 0)]),
+        raw("opcode_224", &[one, one, bytes(224, 0, 0)]),
         raw("unary_operator_8", &[one, bytes(UNARY, 8, 0)]),
         raw("binary_operator_20", &[one, one, bytes(BINARY, 20, 0)]),
         raw("bank_6", &[bytes(LOAD, 6, 0)]),
@@ -171,4 +192,94 @@ fn refused() -> Vec<Case> {
         case("two_at_the_end", &[int(1), int(2)]),
         case("none_at_the_end", &[int(1), JumpIf(true, 0)]),
     ]
+}
+
+// Runs over the image's cells: results, faults, and the cells counted.
+fn totals() -> Vec<Case> {
+    let range = |bank, first, count| Range { bank, first, count };
+    let total = |name, op, bank, first, count| case(name, &[Total(op, range(bank, first, count))]);
+    let matching = |name, value, op, test, bank, first, count| case(name, &[value, Match(op, test, range(bank, first, count))]);
+    let (bank_r, bank_d) = (Bank::R, Bank::D);
+    vec![
+        total("sum_of_one", Of::Sum, bank_d, 0, 1),
+        total("sum_of_two", Of::Sum, bank_d, 0, 2),
+        total("sum_of_minus_zero", Of::Sum, bank_r, 2, 1),
+        total("average_of_minus_zero", Of::Average, bank_r, 4, 1),
+        total("greatest_of_minus_zero_and_zero", Of::Greatest, bank_r, 2, 2),
+        total("greatest_of_zero_and_minus_zero", Of::Greatest, bank_r, 3, 2),
+        total("least_of_minus_zero_and_zero", Of::Least, bank_r, 2, 2),
+        total("least_of_zero_and_minus_zero", Of::Least, bank_r, 3, 2),
+        total("sum_leaves_32_bits", Of::Sum, bank_d, 4, 3),
+        total("sum_leaves_32_bits_later", Of::Sum, bank_d, 0, 256),
+        total("sum_goes_to_the_end", Of::Sum, bank_d, 4, 1),
+        total("greatest_needs_no_sum", Of::Greatest, bank_d, 4, 3),
+        total("average_of_integers", Of::Average, bank_d, 4, 3),
+        total("infinite_before_nan", Of::Sum, bank_r, 10, 3),
+        total("average_infinite_before_nan", Of::Average, bank_r, 10, 3),
+        total("nan_under_greatest", Of::Greatest, bank_r, 10, 3),
+        total("nan_under_least", Of::Least, bank_r, 9, 256 - 9),
+        total("greatest_of_large", Of::Greatest, bank_r, 10, 2),
+        total("nan_first", Of::Sum, bank_r, 1, 3),
+        total("inputs", Of::Sum, Bank::X, 0, 64),
+        total("input_average", Of::Average, Bank::X, 0, 4),
+        total("all_of_v", Of::Sum, Bank::V, 0, 256),
+        total("last_of_v", Of::Greatest, Bank::V, 255, 1),
+        total("least_of_n", Of::Least, Bank::N, 0, 256),
+        total("average_of_n", Of::Average, Bank::N, 0, 256),
+        matching("count_equal", int(1), Matching::Count, Equal, Bank::C, 0, 64),
+        matching("count_not_equal", int(1), Matching::Count, NotEqual, Bank::C, 0, 64),
+        matching("count_of_all", int(0), Matching::Count, GreaterEqual, Bank::V, 0, 256),
+        matching("count_strict", int(5), Matching::Count, Greater, bank_d, 0, 3),
+        matching("count_not_strict", int(5), Matching::Count, GreaterEqual, bank_d, 0, 3),
+        matching("count_cell_on_the_left", int(0), Matching::Count, Less, bank_d, 0, 3),
+        matching("count_by_a_real", real(0.5), Matching::Count, LessEqual, bank_d, 0, 3),
+        matching("count_zeros", real(-0.0), Matching::Count, Equal, bank_r, 2, 3),
+        matching("count_stops_at_nan", int(9), Matching::Count, Less, bank_r, 10, 3),
+        matching("sum_where_above", int(0), Matching::Sum, Greater, bank_d, 0, 3),
+        matching("sum_where_not_above", int(0), Matching::Sum, LessEqual, bank_d, 0, 3),
+        matching("sum_of_no_integer", int(9), Matching::Sum, Greater, bank_d, 0, 3),
+        matching("sum_of_no_real", int(9), Matching::Sum, Greater, bank_r, 2, 3),
+        matching("sum_where_leaves_32_bits", int(0), Matching::Sum, Greater, bank_d, 3, 4),
+        matching("sum_where_keeps_32_bits", int(1), Matching::Sum, NotEqual, bank_d, 4, 3),
+        matching("sum_where_infinite", int(0), Matching::Sum, Greater, bank_r, 8, 5),
+        matching("sum_where_nan_does_not_match", int(0), Matching::Sum, Less, bank_r, 10, 3),
+        case("total_after_a_fault", &[int(1), int(0), Binary(Divide), Match(Matching::Count, Equal, range(bank_d, 0, 9))]),
+        case("count_is_an_integer", &[int(1), Match(Matching::Count, Equal, range(bank_r, 2, 3)), Unary(Prefix::Invert)]),
+        case("sum_is_a_real", &[int(1), Match(Matching::Sum, Equal, range(bank_r, 2, 3)), Unary(Prefix::Invert)]),
+        case("average_is_a_real", &[Total(Of::Average, range(bank_d, 0, 1)), Since]),
+        case("count_of_nothing", &[Match(Matching::Count, Equal, range(bank_d, 0, 1))]),
+    ]
+}
+
+fn range_word(bank: u32, first: usize, count: usize) -> u32 {
+    bank | (first as u32) << 8 | (count as u32) << 16
+}
+
+// Ranges within each bank and one past it, counts of none and too many, and numbers that no bank or operator has.
+fn ranges() -> Vec<Case> {
+    let of_bank = |(number, bank): (u32, Bank)| {
+        let cells = bank.cells();
+        let spans = [(0, 0), (0, cells), (0, cells + 1), (cells - 1, 1), (cells - 1, 2), (1, cells)];
+        spans.map(|(first, count)| {
+            let name = format!("{count}_from_{}{first}", char::from(bank.letter()));
+            raw(&name, &[bytes(TOTAL, Of::Greatest as u8, range_word(number, first, count))])
+        })
+    };
+    let mut all: Vec<Case> = (0..).zip(BANKS).flat_map(of_bank).collect();
+    let one = encode(int(1));
+    let good = range_word(Bank::V as u32, 0, 1);
+    all.extend([
+        raw("1_from_X64", &[bytes(TOTAL, 0, range_word(Bank::X as u32, 64, 1))]),
+        raw("1_from_C255", &[bytes(TOTAL, 0, range_word(Bank::C as u32, 255, 1))]),
+        raw("range_of_bank_6", &[bytes(TOTAL, 0, range_word(6, 0, 1))]),
+        raw("range_of_65535", &[bytes(TOTAL, 0, range_word(Bank::V as u32, 0, 65535))]),
+        raw("total_operator_4", &[bytes(TOTAL, 4, good)]),
+        raw("match_operator_11", &[one, bytes(MATCH, 11, good)]),
+        raw("match_operator_12", &[one, bytes(MATCH, 12, good)]),
+        raw("match_of_no_cell", &[one, bytes(MATCH, 0, range_word(Bank::V as u32, 0, 0))]),
+        raw("match_of_257", &[one, bytes(MATCH, 0, range_word(Bank::V as u32, 0, 257))]),
+        raw("match_past_x", &[one, bytes(MATCH, 6, range_word(Bank::X as u32, 63, 2))]),
+        raw("match_word_0", &[one, bytes(MATCH, 0, 0)]),
+    ]);
+    all
 }

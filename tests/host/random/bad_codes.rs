@@ -1,16 +1,30 @@
 //! Random code of one instruction, damaged code, and any bytes.
 
-use super::codes::bytes_of;
+use super::codes::{bytes_of, range};
 use super::Random;
 use crate::reference::code::*;
 use crate::reference::memory::BANKS;
 use crate::reference::operators::{binary_kind, unary_kind, BINARIES, UNARIES};
+use crate::reference::totals::{MATCHINGS, TESTS, TOTALS};
 use crate::reference::value::{Kind, Value};
 
 /// Code of one operator on values pushed: the cheapest way to try many operands. Few are of a wrong kind.
 pub fn one_operator(random: &mut Random) -> Vec<u8> {
-    let code = if random.one_in(3) { one_unary(random) } else { one_binary(random) };
+    let code = match random.below(10) {
+        0 => one_total(random),
+        1..=3 => one_unary(random),
+        _ => one_binary(random),
+    };
     bytes_of(&code)
+}
+
+fn one_total(random: &mut Random) -> Vec<Instruction> {
+    let (operand, range) = (operand(random, true), range(random));
+    if random.one_in(2) {
+        vec![Instruction::Total(*random.pick(&TOTALS), range)]
+    } else {
+        vec![operand, Instruction::Match(*random.pick(&MATCHINGS), *random.pick(&TESTS), range)]
+    }
 }
 
 fn one_unary(random: &mut Random) -> Vec<Instruction> {
@@ -73,6 +87,15 @@ const WORDS: [u32; 14] = [
     0, 1, 2, 63, 64, 255, 256, 0x7F7F_FFFF, 0x7F80_0000, 0xFF80_0000, 0x7FC0_0000, 0x7F80_0001, 0x8000_0000, u32::MAX,
 ];
 
+// The word of a range at a border: bank, first element and count.
+fn range_word(random: &mut Random) -> u32 {
+    let bank = random.below(7) as u32;
+    let cells = BANKS.get(bank as usize).map_or(256, |bank| bank.cells()) as u32;
+    let first = [0, 1, 63, 64, 255, random.word() % 256][random.below(6)];
+    let count = cells.wrapping_sub(first).wrapping_add(random.between(-1, 1) as u32);
+    bank | first << 8 | *random.pick(&[0, 1, 2, 256, 257, count]) << 16
+}
+
 // An opcode, with an operand that it has or not.
 fn likely_head(random: &mut Random) -> [u8; 2] {
     let operand = [0, random.below(8), random.below(22)][random.below(3)];
@@ -90,7 +113,10 @@ fn damage(random: &mut Random, code: &mut Vec<u8>) {
         0 => code[at + random.below(INSTRUCTION_BYTES)] ^= 1 << random.below(8),
         1 => code[at + random.below(INSTRUCTION_BYTES)] = random.byte(),
         2 => code[at..at + 2].copy_from_slice(&likely_head(random)),
-        3 => code[at + 4..at + 8].copy_from_slice(&random.pick(&WORDS).to_le_bytes()),
+        3 => {
+            let word = if random.one_in(4) { range_word(random) } else { *random.pick(&WORDS) };
+            code[at + 4..at + 8].copy_from_slice(&word.to_le_bytes());
+        }
         // Distances and elements one off.
         4 => code[at + 4] = code[at + 4].wrapping_add(random.between(-1, 1) as u8),
         5 => drop(code.drain(at..at + INSTRUCTION_BYTES)),
@@ -106,17 +132,19 @@ fn damage(random: &mut Random, code: &mut Vec<u8>) {
 pub fn one_instruction(random: &mut Random) -> Vec<u8> {
     let opcode = *random.pick(&OPCODES);
     let pushes = match opcode {
-        PUSH_INT | PUSH_REAL | LOAD | TICK => 0,
-        LOAD_INDEXED | UNARY | JUMP | SINCE => 1,
+        PUSH_INT | PUSH_REAL | LOAD | TICK | TOTAL => 0,
+        LOAD_INDEXED | UNARY | JUMP | SINCE | MATCH => 1,
         _ => 2,
     };
     let mut code = bytes_of(&vec![Instruction::Push(Value::Int(1)); pushes]);
     let operand = match (opcode, random.below(8)) {
         (_, 0) | (UNARY | BINARY, _) => random.below(22),
         (LOAD | LOAD_INDEXED, _) => random.below(6),
+        (TOTAL | MATCH, _) => random.below(13),
         _ => 0,
     };
     let word = match (opcode, random.below(8)) {
+        (TOTAL | MATCH, _) => range_word(random),
         (_, 0) | (PUSH_INT | PUSH_REAL | LOAD, _) => *random.pick(&WORDS),
         _ => 0,
     };

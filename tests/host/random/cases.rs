@@ -3,9 +3,10 @@
 use super::images::memory;
 use super::{bad_codes, codes, formulas, texts, Random};
 use crate::reference::check::check as check_code;
-use crate::reference::code::INSTRUCTION_BYTES;
+use crate::reference::code::{at, Instruction, INSTRUCTION_BYTES};
 use crate::reference::memory::BANKS;
-use crate::reference::operations::{compile, CODE_BYTES};
+use crate::reference::operations::{compile, compile_target, CODE_BYTES};
+use crate::reference::text::{tokens, Function, Token};
 
 #[derive(Clone, Copy, PartialEq, Debug)]
 pub enum Operation {
@@ -13,11 +14,12 @@ pub enum Operation {
     Check,
     Run,
     CompileAndRun,
+    CompileTarget,
 }
 
 use Operation::*;
 
-pub const OPERATIONS: [Operation; 4] = [Compile, Check, Run, CompileAndRun];
+pub const OPERATIONS: [Operation; 5] = [Compile, Check, Run, CompileAndRun, CompileTarget];
 
 /// One call. An operation looks only at what it has inputs for.
 #[derive(Clone)]
@@ -28,6 +30,8 @@ pub struct Request {
     pub memory: Vec<u8>,
     pub code: Vec<u8>,
     pub instructions: usize,
+    pub index_code: Vec<u8>,
+    pub index_instructions: usize,
     pub tick: u32,
     pub alignment: usize,
 }
@@ -98,33 +102,69 @@ fn request(random: &mut Random, operation: Operation) -> Request {
         memory: Vec::new(),
         code: Vec::new(),
         instructions: 0,
+        index_code: Vec::new(),
+        index_instructions: 0,
         tick: random.tick(),
         alignment: random.below(8),
     }
 }
 
-// What the code buffer holds before: compiling must leave what lies beyond the code.
+// What a code buffer holds before: compiling must leave what lies beyond the code.
 fn buffer(random: &mut Random, length: usize) -> Vec<u8> {
     vec![random.byte(); length]
 }
 
-// All four operations on a text, check and run only if it is accepted.
+fn large_buffer(random: &mut Random) -> Vec<u8> {
+    let length = CODE_BYTES + if random.one_in(10) { random.below(100) } else { 0 };
+    buffer(random, length)
+}
+
+// All operations on a text and a target, check and run only if the text is accepted.
 fn text_case(random: &mut Random, text: fn(&mut Random) -> Vec<u8>) -> Vec<Request> {
     let expr = text(random);
     let memory = memory(random);
-    let length = CODE_BYTES + if random.one_in(10) { random.below(100) } else { 0 };
-    let code = buffer(random, length);
-    let base = Request { expr, memory, code, ..request(random, Compile) };
+    let (code, index_code) = (large_buffer(random), large_buffer(random));
+    let base = Request { expr, memory, code, index_code, ..request(random, Compile) };
     let both = Request { operation: CompileAndRun, ..base.clone() };
+    let target = Request { operation: CompileTarget, ..base.clone() };
     let code = compiled(&base.expr);
-    let mut requests = vec![base, both];
+    let mut requests = vec![base, both, target];
     if !code.is_empty() {
         let instructions = code.len() / INSTRUCTION_BYTES;
         let run = Request { operation: Run, code, instructions, ..requests[1].clone() };
         requests.push(Request { operation: Check, ..run.clone() });
-        requests.push(run);
+        requests.push(as_run(run));
     }
     requests
+}
+
+// The request of a run for a target as compile-and-run takes it: an indexed one becomes its bank's letter and its code.
+fn as_run(mut request: Request) -> Request {
+    request.index_code = vec![0; CODE_BYTES];
+    let report = compile_target(&request.target, &mut request.index_code);
+    request.index_instructions = report.count as usize;
+    request.index_code.truncate(request.index_instructions * INSTRUCTION_BYTES);
+    if report.answer == 0 && report.count > 0 {
+        request.target.truncate(1);
+    }
+    request
+}
+
+// The target of a run: a cell, or a bank's letter with code of any kind for its index. With a cell that code is not looked at.
+fn with_index_code(random: &mut Random, request: Request) -> Request {
+    if random.one_in(2) {
+        return as_run(request);
+    }
+    let index_code = match random.below(6) {
+        0 => bad_codes::noise(random),
+        1 => codes::accepted(random),
+        2 => damaged_code(random),
+        3 => bad_codes::one_operator(random),
+        _ => compiled(&formulas::index(random)),
+    };
+    let index_instructions = number(random, index_code.len() / INSTRUCTION_BYTES);
+    let target = if random.one_in(4) { request.target } else { vec![random.pick(&BANKS).letter()] };
+    Request { target, index_code, index_instructions, ..request }
 }
 
 // Check and run of code, most often with the number of instructions that it has.
@@ -138,7 +178,7 @@ fn code_case(random: &mut Random, code: fn(&mut Random) -> Vec<u8>) -> Vec<Reque
     let memory = memory(random);
     let check = Request { code, memory, instructions, ..request(random, Check) };
     let run = Request { operation: Run, ..check.clone() };
-    vec![check, run]
+    vec![check, with_index_code(random, run)]
 }
 
 fn number(random: &mut Random, instructions: usize) -> usize {
@@ -174,7 +214,12 @@ fn sizes_case(random: &mut Random) -> Vec<Request> {
             code.truncate(code.len() - random.below(9).min(code.len()));
         }
     }
-    let mut request = Request { expr, memory, code, instructions, ..request(random, operation) };
+    let length = *random.pick(&[16384, 16384, 16385, 16383, 16376, 0, 7, 20000]);
+    let index_code = buffer(random, length);
+    let mut request = Request { expr, memory, code, instructions, index_code, ..request(random, operation) };
+    if operation == Run {
+        request = with_index_code(random, request);
+    }
     if random.one_in(3) {
         request.target = bad_target(random);
     }
@@ -182,18 +227,35 @@ fn sizes_case(random: &mut Random) -> Vec<Request> {
 }
 
 #[rustfmt::skip]
-const BAD_TARGETS: [&str; 26] = [
+const BAD_TARGETS: [&str; 43] = [
     "", "D", "X0", "X63", "C64", "V256", "N256", "D256", "R256", "D01", "D00", "d0", "D0 ", " D0", "D 0", "D[0]",
-    "(D0)", "D0\0", "D0\n", "-D0", "D-1", "D99999999999999999999", "D4294967296", "E0", "ABS", "0",
+    "D [0]", " D[0]", "D[0] ", "D[]", "X[0]", "D[0]+D[1]", "D[0][1]", "D[1.5 & 1]", "D[((((((((0))))))))]", "D[0", "D0]", "[0]", "d[0]",
+    "DD[0]", "D[ ]", "D[(]", "D[1,2]", "(D0)", "D0\0", "D0\n", "-D0", "D-1", "D99999999999999999999", "D4294967296", "E0", "ABS", "0",
 ];
 
 fn target(random: &mut Random) -> Vec<u8> {
-    if random.one_in(16) {
-        bad_target(random)
-    } else {
-        let bank = *random.pick(&BANKS[1..]);
-        format!("{}{}", bank.letter() as char, random.below(bank.cells())).into_bytes()
+    let bank = *random.pick(&BANKS[1..]);
+    match random.below(16) {
+        0 => bad_target(random),
+        1..=5 => indexed_target(bank.letter(), &formulas::index(random)),
+        6 => {
+            let index = formulas::index(random);
+            indexed_target(bank.letter(), &texts::damaged(random, &index))
+        }
+        7 if random.one_in(8) => long_target(random, bank.letter()),
+        _ => format!("{}{}", bank.letter() as char, random.below(bank.cells())).into_bytes(),
     }
+}
+
+fn indexed_target(letter: u8, index: &[u8]) -> Vec<u8> {
+    [&[letter, b'['], index, b"]"].concat()
+}
+
+// About as long as a target may be.
+fn long_target(random: &mut Random, letter: u8) -> Vec<u8> {
+    let mut index = formulas::index(random);
+    index.resize(random.between(1019, 1024) as usize, b' ');
+    indexed_target(letter, &index)
 }
 
 // Some of them are good by chance.
@@ -203,6 +265,31 @@ fn bad_target(random: &mut Random) -> Vec<u8> {
         1 => (0..random.below(5)).map(|_| *random.pick(b"XCVNDR0123456789 ")).collect(),
         _ => (0..random.below(5)).map(|_| random.byte()).collect(),
     }
+}
+
+/// The promise on the count of a run that was begun: two a byte of the texts, or the lengths of the codes given, and 256 for
+/// each call over a range.
+pub fn counted_as_promised(request: &Request, count: u32) -> bool {
+    let Request { expr, target, code, instructions, index_code, index_instructions, .. } = request;
+    let most = match request.operation {
+        CompileAndRun => most_of_text(expr) + most_of_text(target),
+        Run => most_of_code(code, *instructions) + most_of_code(index_code, *index_instructions),
+        Compile | Check | CompileTarget => return true,
+    };
+    count as usize <= most
+}
+
+const MOST_CELLS: usize = 256;
+
+fn most_of_text(text: &[u8]) -> usize {
+    let ranged = |token: Token| matches!(token, Token::Function(Function::Total(_) | Function::Matching(..)));
+    2 * text.len() + MOST_CELLS * tokens(text).unwrap_or_default().iter().filter(|t| ranged(t.token)).count()
+}
+
+fn most_of_code(code: &[u8], instructions: usize) -> usize {
+    let ranged = |place: &usize| matches!(at(code, *place), Some(Instruction::Total(..) | Instruction::Match(..)));
+    let instructions = instructions.min(code.len() / INSTRUCTION_BYTES);
+    instructions + MOST_CELLS * (0..instructions).filter(ranged).count()
 }
 
 /// The promises that hold of a compiled formula whatever its value: the check accepts it, and it has at most two

@@ -4,10 +4,20 @@ use super::Random;
 use crate::reference::code::{encode, Instruction, HEIGHT_LIMIT, INSTRUCTION_LIMIT};
 use crate::reference::memory::BANKS;
 use crate::reference::operators::{binary_kind, since_kind, unary_kind, BINARIES, UNARIES};
+use crate::reference::totals::{matching_kind, total_kind, Range, MATCHINGS, TESTS, TOTALS};
 use crate::reference::value::{Kind, Value};
 
 pub fn bytes_of(code: &[Instruction]) -> Vec<u8> {
     code.iter().flat_map(|i| encode(*i)).collect()
+}
+
+/// Any good range; a short one more often.
+pub fn range(random: &mut Random) -> Range {
+    let bank = *random.pick(&BANKS);
+    let first = [0, random.below(bank.cells()), bank.cells() - 1][random.below(3)];
+    let left = bank.cells() - first;
+    let count = [1, 1 + random.below(left.min(8)), 1 + random.below(left), left][random.below(4)];
+    Range { bank, first, count }
 }
 
 struct Builder<'a> {
@@ -156,11 +166,12 @@ impl Builder<'_> {
     }
 
     fn push(&mut self) {
-        let instruction = match self.random.below(9) {
+        let instruction = match self.random.below(10) {
             0 | 1 => Instruction::Push(Value::Int(self.random.below(9) as i32)),
             2 | 3 => Instruction::Push(Value::Int(self.random.integer())),
             4 | 5 => Instruction::Push(Value::Real(self.random.real())),
             6 => Instruction::Tick,
+            7 => Instruction::Total(*self.random.pick(&TOTALS), range(self.random)),
             _ => {
                 let bank = *self.random.pick(&BANKS);
                 Instruction::Load(bank, self.random.below(bank.cells()))
@@ -170,6 +181,7 @@ impl Builder<'_> {
             Instruction::Push(v) => v.kind(),
             Instruction::Load(bank, _) => bank.kind(),
             Instruction::Tick => Kind::Int,
+            Instruction::Total(op, range) => total_kind(op, range.bank),
             _ => unreachable!(),
         });
         self.code.push(instruction);
@@ -199,13 +211,15 @@ impl Builder<'_> {
         *self.held.last_mut().unwrap() = bank.kind();
     }
 
-    // SINCE stands among the operators of one value.
+    // SINCE and the tests of cells stand among the operators of one value.
     fn unary(&mut self) {
-        let op = self.random.below(UNARIES.len() + 1);
+        let op = self.random.below(UNARIES.len() + 2);
+        let (matching, test, range) = (*self.random.pick(&MATCHINGS), *self.random.pick(&TESTS), range(self.random));
         let operand = self.held.last_mut().unwrap();
         let (instruction, kinds) = match UNARIES.get(op) {
             Some(op) => (Instruction::Unary(*op), unary_kind(*op, *operand)),
-            None => (Instruction::Since, since_kind(*operand)),
+            None if op == UNARIES.len() => (Instruction::Since, since_kind(*operand)),
+            None => (Instruction::Match(matching, test, range), (matching_kind(matching, range.bank), true)),
         };
         if let (kind, true) = kinds {
             *operand = kind;

@@ -1,7 +1,7 @@
 //! Random formulas that follow the grammar.
 
 use super::Random;
-use crate::reference::memory::BANKS;
+use crate::reference::memory::{Bank, BANKS};
 use crate::reference::value::Kind;
 
 const TEXT_LIMIT: usize = 1024;
@@ -21,6 +21,7 @@ const LEVELS: [&[&str]; 11] = [
     &["||"],
 ];
 const LOOSEST_REAL: usize = 2;
+const TESTS: [&str; 6] = ["EQ", "NE", "GE", "GT", "LE", "LT"];
 
 #[derive(Clone, Copy)]
 enum Shape {
@@ -65,6 +66,27 @@ pub fn formula(random: &mut Random) -> Vec<u8> {
             return text;
         }
         operands = operands / 2 + 1;
+    }
+}
+
+/// A short formula for an index; many give the number of a cell.
+pub fn index(random: &mut Random) -> Vec<u8> {
+    let most = *random.pick(&[1, 1, 2, 6]);
+    let mut operands = 1 + random.below(most);
+    if operands == 1 && random.one_in(2) {
+        let text = random.pick(&["0", "63", "64", "255", "256", "1.9", "-0.0", "V0", "X1 ", " D2", "V1 + 2", "-1", "D0"]);
+        return text.as_bytes().to_vec();
+    }
+    let brackets = if random.one_in(20) { 8 } else { 7 };
+    loop {
+        let mut writer = Writer { random, text: Vec::new(), brackets, shape: Shape::Any, blanks: 2, careless: false };
+        let kind = writer.either();
+        writer.expression(kind, LEVELS.len(), operands);
+        let text = writer.text;
+        if text.len() <= TEXT_LIMIT {
+            return text;
+        }
+        operands -= 1;
     }
 }
 
@@ -200,7 +222,7 @@ impl Writer<'_> {
 
     fn call(&mut self, kind: Kind, operands: usize) {
         let any = self.either();
-        match self.random.below(5) {
+        match self.random.below(6) {
             0 => self.arguments("ABS", &[kind], operands),
             1 if kind == Kind::Real => {
                 let name = *self.random.pick(&["TOREAL", "FRAC"]);
@@ -219,6 +241,7 @@ impl Writer<'_> {
                 true => self.arguments("TICKms", &[], operands),
                 false => self.arguments("SINCE", &[Kind::Int], operands),
             },
+            4 => self.range_call(kind, operands),
             _ => {
                 let (first, second) = self.at_least_one(kind);
                 self.arguments("IF", &[any, first, second], operands);
@@ -237,6 +260,49 @@ impl Writer<'_> {
             self.inside(*kind, operands / kinds.len());
         }
         self.write(")");
+    }
+
+    fn range_call(&mut self, kind: Kind, operands: usize) {
+        let bank = *self.random.pick(&BANKS);
+        let name = match (kind, bank.kind()) {
+            (Kind::Real, Kind::Int) => "AVGR".to_string(),
+            (Kind::Int, Kind::Real) => format!("COUNTIF{}", self.random.pick(&TESTS)),
+            _ if self.random.one_in(2) => self.random.pick(&["SUMR", "MAXR", "MINR"]).to_string(),
+            _ => format!("SUMIF{}", self.random.pick(&TESTS)),
+        };
+        self.write(&name);
+        self.blank();
+        self.write("(");
+        if name.contains("IF") {
+            let any = self.either();
+            self.inside(any, operands);
+            self.write(",");
+        }
+        self.range(bank);
+        self.write(")");
+    }
+
+    // A first cell and a count, few of them past the bank or below 1.
+    fn range(&mut self, bank: Bank) {
+        let first = [0, 1, self.random.below(bank.cells()), bank.cells() - 1][self.random.below(4)];
+        let left = bank.cells() - first;
+        let count = match self.random.below(12) {
+            0 => left,
+            1 if self.careless => *self.random.pick(&[0, left + 1, 257, 0xFFFF_FFFF]),
+            _ => 1 + self.random.below(left.min(12)),
+        };
+        self.blank();
+        self.write(&format!("{}{first}", bank.letter() as char));
+        self.blank();
+        self.write(",");
+        self.blank();
+        let text = match self.random.below(8) {
+            0 => format!("0x{count:X}"),
+            1 => format!("00{}", count.min(999)),
+            _ => count.min(999).to_string(),
+        };
+        self.write(&text);
+        self.blank();
     }
 
     fn leaf(&mut self, kind: Kind) {

@@ -7,9 +7,10 @@ use crate::reference::text::tokens;
 
 // Pieces that texts are damaged with: every symbol and name, and forms of numerals and words that are refused.
 #[rustfmt::skip]
-const PIECES: [&str; 90] = [
+const PIECES: [&str; 102] = [
     "-", "~", "!", "**", "*", "/", "%", "+", "<<", ">>", ">>>", "<", ">", "<=", ">=", "==", "!=", "&", "^", "|", "&&",
-    "||", "(", ")", "[", "]", ",", "TICKms", "SINCE", "TICKMS", "TICKms()", "ABS", "TOREAL", "TOINT", "TRUNC", "ROUND", "FRAC", "MAX", "MIN", "IF", "X", "C",
+    "||", "(", ")", "[", "]", ",", "TICKms", "SINCE", "TICKMS", "TICKms()", "SUMR", "AVGR", "MAXR",
+    "MINR", "COUNTIFGE", "SUMIFLT", "COUNTIF", "SUMIFEQ(", "SUMR(D0", ",D0,2)", "MAXR(R250,9)", "COUNTIFNE(1.5,V0,0)", "ABS", "TOREAL", "TOINT", "TRUNC", "ROUND", "FRAC", "MAX", "MIN", "IF", "X", "C",
     "V", "N", "D", "R", "D0", "R1", "X63", "C64", "V255", "D256", "D01", "d0", "abs", "T0", "E", "0", "7", "1.5",
     "0x1F", "0xFFFFFFFFF", "0x", "0X1", "1.", "1..2", "1.2.3", "2147483648", "2147483647", "12345678.", "1234567.8",
     "0.000001", "1e5", "1E5", "1E", "1.5E+2", "2E-3", "1E21", "1E-20", "123456789.0", "1234567890E0", "3MAX", "=", ".", "$", ":R", " ", "\t", "\r", "_",
@@ -93,11 +94,12 @@ pub fn one_word(random: &mut Random) -> Vec<u8> {
 
 // Six to eleven openers, then pieces: answers 7 and 8 close to each other.
 fn openers(random: &mut Random) -> Vec<u8> {
-    const OPENERS: [&str; 11] = ["(", "(", "D[", "-(", "MAX(", "MAX(1,", "1+(", "IF(1,(2),", "ABS(", "SINCE(", "TICKms()+("];
+    const OPENERS: [&str; 12] =
+        ["(", "(", "D[", "-(", "MAX(", "MAX(1,", "1+(", "IF(1,(2),", "ABS(", "SINCE(", "TICKms()+(", "SUMIFEQ("];
     let number = 6 + random.below(6);
     let mut text: Vec<u8> = (0..number).flat_map(|_| random.pick(&OPENERS).bytes()).collect();
     for _ in 0..random.below(4) {
-        text.extend(random.pick(&["1", ")", "(", "D", "ABS", "TICKms(", "[", "]", ",", "+", " "]).as_bytes());
+        text.extend(random.pick(&["1", ")", "(", "D", "ABS", "TICKms(", "SUMR(D0,3", "D0", "[", "]", ",", "+", " "]).as_bytes());
     }
     text
 }
@@ -115,9 +117,9 @@ pub fn noise(random: &mut Random) -> Vec<u8> {
 
 // What long texts are made of.
 #[rustfmt::skip]
-const UNITS: [&str; 18] = [
+const UNITS: [&str; 20] = [
     "1+", "1&&", "1||", "-", "!", "0", " ", "(", "D0**", "R1*", "1<", "IF(1,1,1)+", "D[0]-", "1.5,", "~", "IF(1,2,R1)+",
-    "MAX(1,", "TICKms()-",
+    "MAX(1,", "TICKms()-", "SUMR(R0,256)+", "COUNTIFLT(1,X0,64)-",
 ];
 
 // A value waits at every level in every bracket: the most values that a formula can hold.

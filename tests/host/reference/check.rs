@@ -3,6 +3,7 @@
 use super::code::Instruction::{self, *};
 use super::code::{at, HEIGHT_LIMIT, INSTRUCTION_LIMIT};
 use super::operators::{binary_kind, since_kind, unary_kind};
+use super::totals::{matching_kind, total_kind};
 use super::value::Kind;
 
 /// The kind of the one value at the end, if the check accepts so many instructions.
@@ -73,6 +74,11 @@ fn step(instruction: Instruction, held: &mut Vec<Kind>) -> Option<()> {
         JumpIf(..) => return held.pop().map(|_| ()),
         Tick => Kind::Int,
         Since => taken(since_kind(held.pop()?))?,
+        Total(op, range) => total_kind(op, range.bank),
+        Match(op, _, range) => {
+            held.pop()?;
+            matching_kind(op, range.bank)
+        }
     };
     held.push(left);
     (held.len() <= HEIGHT_LIMIT).then_some(())

@@ -2,6 +2,7 @@
 
 use super::memory::{Bank, BANKS};
 use super::operators::{Binary, Unary, BINARIES, UNARIES};
+use super::totals::{Matching, Range, Total, MATCHINGS, TESTS, TOTALS};
 use super::value::Value;
 
 pub const INSTRUCTION_BYTES: usize = 8;
@@ -21,11 +22,13 @@ pub enum Instruction {
     JumpIf(bool, u32),
     Tick,
     Since,
+    Total(Total, Range),
+    Match(Matching, Binary, Range),
 }
 
 use Instruction::*;
 
-// The page of opcodes. Each of the last four is the first of a class: the operand, a bank or an operator, is added to it.
+// The page of opcodes. Each of the last six is the first of a class: the operand, a bank or an operator, is added to it.
 pub const PUSH_INT: u8 = 1;
 pub const PUSH_REAL: u8 = 2;
 pub const JUMP: u8 = 3;
@@ -37,10 +40,13 @@ pub const LOAD: u8 = 32;
 pub const LOAD_INDEXED: u8 = 64;
 pub const UNARY: u8 = 96;
 pub const BINARY: u8 = 128;
+pub const TOTAL: u8 = 160;
+pub const MATCH: u8 = 192;
 
 #[rustfmt::skip]
-pub const OPCODES: [u8; 11] =
-    [PUSH_INT, PUSH_REAL, JUMP, JUMP_IF_FALSE, JUMP_IF_TRUE, TICK, SINCE, LOAD, LOAD_INDEXED, UNARY, BINARY];
+pub const OPCODES: [u8; 13] = [
+    PUSH_INT, PUSH_REAL, JUMP, JUMP_IF_FALSE, JUMP_IF_TRUE, TICK, SINCE, LOAD, LOAD_INDEXED, UNARY, BINARY, TOTAL, MATCH,
+];
 
 // So many opcodes has a class.
 const CLASS: u8 = 32;
@@ -62,6 +68,21 @@ pub fn bytes(opcode: u8, operand: u8, word: u32) -> [u8; INSTRUCTION_BYTES] {
     [a, b, 0, 0, w[0], w[1], w[2], w[3]]
 }
 
+// The word of a range, and the range of a word: the bank, the first element and the count in 8, 8 and 16 bits.
+fn range_word(range: Range) -> u32 {
+    range.bank as u32 | (range.first as u32) << 8 | (range.count as u32) << 16
+}
+
+fn range_of(word: u32) -> Option<Range> {
+    let [bank, first, ..] = word.to_le_bytes();
+    Range::new(*BANKS.get(usize::from(bank))?, usize::from(first), i64::from(word >> 16))
+}
+
+fn match_operand(op: Matching, test: Binary) -> u8 {
+    let test = TESTS.iter().position(|t| *t == test).expect("a comparison");
+    (op as usize * TESTS.len() + test) as u8
+}
+
 pub fn encode(instruction: Instruction) -> [u8; INSTRUCTION_BYTES] {
     match instruction {
         Push(Value::Int(i)) => bytes(PUSH_INT, 0, i as u32),
@@ -75,6 +96,8 @@ pub fn encode(instruction: Instruction) -> [u8; INSTRUCTION_BYTES] {
         JumpIf(true, distance) => bytes(JUMP_IF_TRUE, 0, distance),
         Tick => bytes(TICK, 0, 0),
         Since => bytes(SINCE, 0, 0),
+        Total(op, range) => bytes(TOTAL, op as u8, range_word(range)),
+        Match(op, test, range) => bytes(MATCH, match_operand(op, test), range_word(range)),
     }
 }
 
@@ -99,6 +122,11 @@ pub fn decode(bytes: &[u8]) -> Option<Instruction> {
         (JUMP_IF_TRUE, 0, _) => Some(JumpIf(true, word)),
         (TICK, 0, 0) => Some(Tick),
         (SINCE, 0, 0) => Some(Since),
+        (TOTAL, ..) => Some(Total(*TOTALS.get(operand)?, range_of(word)?)),
+        (MATCH, ..) => {
+            let op = *MATCHINGS.get(operand / TESTS.len())?;
+            Some(Match(op, TESTS[operand % TESTS.len()], range_of(word)?))
+        }
         _ => None,
     }
 }

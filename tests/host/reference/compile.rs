@@ -2,6 +2,7 @@
 
 use super::code::Instruction::{self, *};
 use super::operators::{binary_kind, since_kind, unary_kind, Unary};
+use super::totals::{matching_kind, total_kind};
 use super::tree::Tree;
 use super::value::{Kind, Value};
 
@@ -42,6 +43,15 @@ pub fn compile(tree: &Tree, code: &mut Vec<Instruction>) -> Kind {
             let operand = compile(t, code);
             code.push(Since);
             since_kind(operand).0
+        }
+        Tree::Total(op, span) => {
+            code.push(Total(*op, span.range()));
+            total_kind(*op, span.bank)
+        }
+        Tree::Matching(op, test, t, span) => {
+            compile(t, code);
+            code.push(Match(*op, *test, span.range()));
+            matching_kind(*op, span.bank)
         }
     }
 }

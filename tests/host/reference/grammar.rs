@@ -1,4 +1,4 @@
-//! Tokens to a tree: answers 7 and 8, then 9.
+//! Tokens to a tree: answers 7 and 8, then 9 and the late 6.
 //!
 //! A shift-reduce parser with two stacks: finished trees, and what waits for a tree. It stops at the first token that
 //! no formula has there (7), or at an opener that a formula could have there but that is the ninth open one (8). So
@@ -7,7 +7,8 @@
 use super::memory::Bank;
 use super::operators::{Binary, Unary};
 use super::text::{tokens, Function, Refusal, Token};
-use super::tree::{kind, Tree};
+use super::tree::{kind, Span, Tree};
+use super::value::Value;
 
 const OPEN_LIMIT: usize = 8;
 
@@ -63,7 +64,15 @@ enum Expect {
     /// After a bank letter or a function name.
     Opener(Opener),
     Operator,
-    /// After `(` of a function that takes nothing.
+    Part(Part),
+}
+
+/// What must come next in a call where no expression can stand.
+#[derive(Clone, Copy)]
+enum Part {
+    First,
+    Comma(Bank, usize),
+    Count(Bank, usize),
     Closer,
 }
 
@@ -72,30 +81,40 @@ struct Parser {
     waiting: Vec<Waiting>,
     open: usize,
     expect: Expect,
+    /// Of the call that is about to be closed.
+    span: Option<Span>,
 }
 
 /// The tree of a text of 1 to 1,024 bytes, or its refusal, 4 to 9.
 pub fn parse(text: &[u8]) -> Result<Tree, Refusal> {
-    let mut parser = Parser { trees: Vec::new(), waiting: Vec::new(), open: 0, expect: Expect::Operand };
+    parse_within(text, 0)
+}
+
+/// The same with so many brackets open before the text.
+pub fn parse_within(text: &[u8], open: usize) -> Result<Tree, Refusal> {
+    let mut parser = Parser { trees: Vec::new(), waiting: Vec::new(), open, expect: Expect::Operand, span: None };
     for token in tokens(text)? {
         parser.take(token.token, token.place).map_err(|answer| Refusal { answer, place: token.place })?;
     }
     let tree = parser.finish().ok_or(Refusal { answer: 7, place: text.len() })?;
     let mut wrong = None;
     kind(&tree, &mut wrong);
-    match wrong {
-        Some(place) => Err(Refusal { answer: 9, place }),
-        None => Ok(tree),
-    }
+    wrong.map_or(Ok(tree), Err)
 }
 
+// How many expressions a call has.
 fn arguments(function: Function) -> usize {
     match function {
-        Function::Tick => 0,
-        Function::One(_) | Function::Since => 1,
+        Function::Tick | Function::Total(_) => 0,
+        Function::One(_) | Function::Since | Function::Matching(..) => 1,
         Function::Two(_) => 2,
         Function::If => 3,
     }
+}
+
+// Whether a first cell and a count end the call.
+fn ranged(function: Function) -> bool {
+    matches!(function, Function::Total(_) | Function::Matching(..))
 }
 
 fn joint(symbol: &str) -> Option<(Joint, usize)> {
@@ -123,13 +142,24 @@ impl Parser {
                 _ => Err(7),
             },
             (Expect::Operator, Token::Symbol(symbol)) => self.operator(symbol, place),
-            (Expect::Closer, Token::Symbol(")")) => {
-                self.close();
-                self.operand_done(Tree::Tick);
-                Ok(())
-            }
+            (Expect::Part(part), token) => self.part(*part, token, place),
             _ => Err(7),
         }
+    }
+
+    fn part(&mut self, part: Part, token: Token, place: usize) -> Result<(), u32> {
+        let next = match (part, token) {
+            (Part::First, Token::Cell(bank, first)) => Part::Comma(bank, first),
+            (Part::Comma(bank, first), Token::Symbol(",")) => Part::Count(bank, first),
+            (Part::Count(bank, first), Token::Literal(Value::Int(count))) => {
+                self.span = Some(Span { bank, first, count, place });
+                Part::Closer
+            }
+            (Part::Closer, Token::Symbol(")")) => return self.operator(")", place),
+            _ => return Err(7),
+        };
+        self.expect = Expect::Part(next);
+        Ok(())
     }
 
     fn operand(&mut self, token: Token, place: usize) -> Result<(), u32> {
@@ -156,7 +186,8 @@ impl Parser {
         self.open += 1;
         self.waiting.push(Waiting::Open(opener));
         self.expect = match opener {
-            Opener::Call(f, ..) if arguments(f) == 0 => Expect::Closer,
+            Opener::Call(f, ..) if ranged(f) && arguments(f) == 0 => Expect::Part(Part::First),
+            Opener::Call(f, ..) if arguments(f) == 0 => Expect::Part(Part::Closer),
             _ => Expect::Operand,
         };
         Ok(())
@@ -181,10 +212,11 @@ impl Parser {
                 let index = self.pop();
                 self.operand_done(Tree::Indexed(bank, index));
             }
-            (")", Opener::Call(f, place, done)) if done + 1 == arguments(f) => {
+            (")", Opener::Call(f, place, done)) if self.all_there(f, done) => {
                 self.close();
                 self.call(f, place);
             }
+            (",", Opener::Call(f, _, 0)) if ranged(f) => self.expect = Expect::Part(Part::First),
             (",", Opener::Call(f, place, done)) if done + 1 < arguments(f) => {
                 self.waiting.pop();
                 self.waiting.push(Waiting::Open(Opener::Call(f, place, done + 1)));
@@ -200,17 +232,27 @@ impl Parser {
         self.open -= 1;
     }
 
+    // Whether a call may be closed after so many finished arguments and the one that has just ended, if it has any.
+    fn all_there(&self, f: Function, done: usize) -> bool {
+        match arguments(f) {
+            _ if ranged(f) => self.span.is_some(),
+            0 => true,
+            arguments => done + 1 == arguments,
+        }
+    }
+
     fn call(&mut self, f: Function, place: usize) {
-        let last = self.pop();
+        let mut trees = self.trees.split_off(self.trees.len() - arguments(f)).into_iter().map(Box::new);
+        let mut next = || trees.next().expect("every argument left a tree");
+        let mut span = || self.span.take().expect("a range has been read");
         let tree = match f {
-            Function::One(op) => Tree::Unary(op, place, last),
-            Function::Two(op) => Tree::Binary(op, place, self.pop(), last),
-            Function::If => {
-                let middle = self.pop();
-                Tree::If(self.pop(), middle, last)
-            }
-            Function::Since => Tree::Since(place, last),
-            Function::Tick => unreachable!("it has no argument"),
+            Function::One(op) => Tree::Unary(op, place, next()),
+            Function::Two(op) => Tree::Binary(op, place, next(), next()),
+            Function::If => Tree::If(next(), next(), next()),
+            Function::Tick => Tree::Tick,
+            Function::Since => Tree::Since(place, next()),
+            Function::Total(op) => Tree::Total(op, span()),
+            Function::Matching(op, test) => Tree::Matching(op, test, next(), span()),
         };
         self.operand_done(tree);
     }

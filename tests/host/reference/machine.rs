@@ -4,6 +4,7 @@ use super::code::Instruction::{self, *};
 use super::code::{at, HEIGHT_LIMIT};
 use super::memory::{read, read_indexed};
 use super::operators::{binary, binary_kind, since, since_kind, unary, unary_kind};
+use super::totals::{matching, total, Visited};
 use super::value::{Fault, Value};
 
 /// Why a run has no value: a fault, or code that no check accepts.
@@ -21,7 +22,7 @@ impl From<Fault> for Stop {
     }
 }
 
-/// What so many instructions give on a memory at a tick, and how many were begun.
+/// What so many instructions give on a memory at a tick; and the count, one for each instruction begun and each cell visited.
 pub fn run(code: &[u8], number: usize, memory: &[u8], tick: u32) -> (Result<Value, Stop>, u32) {
     let mut count = 0;
     let result = run_counted(code, number, memory, tick, &mut count);
@@ -34,7 +35,7 @@ fn run_counted(code: &[u8], number: usize, memory: &[u8], tick: u32, count: &mut
     while place < number {
         *count += 1;
         let instruction = at(code, place).ok_or(Stuck)?;
-        place += 1 + execute(instruction, &mut held, memory, tick)? as usize;
+        place += 1 + execute(instruction, &mut held, memory, tick, count)? as usize;
     }
     match held[..] {
         [value] if place == number => Ok(value),
@@ -43,7 +44,11 @@ fn run_counted(code: &[u8], number: usize, memory: &[u8], tick: u32, count: &mut
 }
 
 // Does one instruction and says how many to skip.
-fn execute(instruction: Instruction, held: &mut Vec<Value>, memory: &[u8], tick: u32) -> Result<u32, Stop> {
+fn execute(instruction: Instruction, held: &mut Vec<Value>, memory: &[u8], tick: u32, count: &mut u32) -> Result<u32, Stop> {
+    let mut counted = |(result, cells): Visited| {
+        *count += cells;
+        result
+    };
     let value = match instruction {
         Push(v) => v,
         Load(bank, element) => read(memory, bank, element)?,
@@ -66,6 +71,8 @@ fn execute(instruction: Instruction, held: &mut Vec<Value>, memory: &[u8], tick:
             taken(since_kind(operand.kind()).1)?;
             since(tick, operand)
         }
+        Total(op, range) => counted(total(op, range, memory))?,
+        Match(op, test, range) => counted(matching(op, test, pop(held)?, range, memory))?,
     };
     if held.len() == HEIGHT_LIMIT {
         return Err(Stuck);

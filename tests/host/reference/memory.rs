@@ -64,12 +64,15 @@ pub fn cell_name(word: &[u8]) -> Option<(Bank, Option<usize>)> {
     (element < bank.cells()).then_some((bank, Some(element)))
 }
 
-/// The cell that a target names: any but an X cell.
+/// A cell's name or a bank's letter that can be stored to: any but X.
+pub fn target_name(text: &[u8]) -> Option<(Bank, Option<usize>)> {
+    cell_name(text).filter(|(bank, _)| *bank != Bank::X)
+}
+
+/// The cell that a target names.
 pub fn target_cell(text: &[u8]) -> Option<(Bank, usize)> {
-    match cell_name(text)? {
-        (Bank::X, _) | (_, None) => None,
-        (bank, Some(element)) => Some((bank, element)),
-    }
+    let (bank, element) = target_name(text)?;
+    Some((bank, element?))
 }
 
 fn word(memory: &[u8], at: usize) -> u32 {

@@ -11,6 +11,8 @@ pub mod memory;
 pub mod operations;
 pub mod operators;
 pub mod program;
+pub mod target;
 pub mod text;
+pub mod totals;
 pub mod tree;
 pub mod value;

@@ -1,11 +1,11 @@
-//! The program of the requirements: lines of key=value in, answer, place and the target's cell out.
+//! The program of the requirements: lines of key=value in, answer, place and the cell stored to out.
 
-use super::memory::{cell_name, offset, read, store, target_cell, Bank, MEMORY_BYTES};
+use super::memory::{cell_name, offset, read, store, Bank, BANKS, MEMORY_BYTES};
 use super::operations::{Report, CODE_BYTES};
 use super::value::Value;
 
-/// An implementation of compile-and-run: target, expression, memory, code buffer, tick.
-pub type Operation = fn(&[u8], &[u8], &mut [u8], &mut [u8], u32) -> Report;
+/// An implementation of compile-and-run: target, expression, memory, the two code buffers, tick.
+pub type Operation = fn(&[u8], &[u8], &mut [u8], [&mut [u8]; 2], u32) -> Report;
 
 pub struct Input {
     pub memory: Vec<u8>,
@@ -65,18 +65,17 @@ fn pattern(text: &str) -> Option<Value> {
 
 /// What the program prints for one case, at any tick.
 pub fn output(mut input: Input, operation: Operation, tick: u32) -> String {
-    let mut code = vec![0; CODE_BYTES];
-    let report = operation(&input.target, &input.expr, &mut input.memory, &mut code, tick);
+    let (mut code, mut index_code) = (vec![0; CODE_BYTES], vec![0; CODE_BYTES]);
+    let report = operation(&input.target, &input.expr, &mut input.memory, [&mut code, &mut index_code], tick);
     let mut printed = format!("answer={}\nplace={}\n", report.answer, report.place);
     if report.answer == 0 {
-        printed += &cell_line(&input.memory, &input.target);
+        printed += &cell_line(&input.memory, BANKS[report.bank as usize], report.element as usize);
     }
     printed
 }
 
-fn cell_line(memory: &[u8], target: &[u8]) -> String {
-    let (bank, element) = target_cell(target).expect("answer 0 has a good target");
-    let name = String::from_utf8_lossy(target);
+fn cell_line(memory: &[u8], bank: Bank, element: usize) -> String {
+    let name = format!("{}{element}", char::from(bank.letter()));
     match read(memory, bank, element) {
         Ok(Value::Int(i)) => format!("{name}={i}\n"),
         Ok(Value::Real(r)) => format!("{name}=0x{:08X}\n", r.to_bits()),

@@ -3,6 +3,7 @@
 use super::literal::nearest;
 use super::memory::{cell_name, Bank};
 use super::operators::{Binary, Unary};
+use super::totals::{Matching, Total};
 use super::value::Value;
 
 #[derive(Clone, Copy, PartialEq, Debug)]
@@ -13,6 +14,9 @@ pub enum Function {
     /// TICKms, which takes nothing.
     Tick,
     Since,
+    /// These two end with a first cell and a count.
+    Total(Total),
+    Matching(Matching, Binary),
 }
 
 #[derive(Clone, Copy, Debug)]
@@ -46,7 +50,7 @@ const SYMBOLS: [&str; 27] = [
     "~", "(", ")", "[", "]", ",",
 ];
 
-const FUNCTIONS: [(&str, Function); 11] = [
+const FUNCTIONS: [(&str, Function); 27] = [
     ("ABS", Function::One(Unary::Abs)),
     ("TOREAL", Function::One(Unary::ToReal)),
     ("TOINT", Function::One(Unary::Trunc)),
@@ -58,6 +62,22 @@ const FUNCTIONS: [(&str, Function); 11] = [
     ("IF", Function::If),
     ("TICKms", Function::Tick),
     ("SINCE", Function::Since),
+    ("SUMR", Function::Total(Total::Sum)),
+    ("AVGR", Function::Total(Total::Average)),
+    ("MAXR", Function::Total(Total::Greatest)),
+    ("MINR", Function::Total(Total::Least)),
+    ("COUNTIFEQ", Function::Matching(Matching::Count, Binary::Equal)),
+    ("COUNTIFNE", Function::Matching(Matching::Count, Binary::NotEqual)),
+    ("COUNTIFGE", Function::Matching(Matching::Count, Binary::GreaterEqual)),
+    ("COUNTIFGT", Function::Matching(Matching::Count, Binary::Greater)),
+    ("COUNTIFLE", Function::Matching(Matching::Count, Binary::LessEqual)),
+    ("COUNTIFLT", Function::Matching(Matching::Count, Binary::Less)),
+    ("SUMIFEQ", Function::Matching(Matching::Sum, Binary::Equal)),
+    ("SUMIFNE", Function::Matching(Matching::Sum, Binary::NotEqual)),
+    ("SUMIFGE", Function::Matching(Matching::Sum, Binary::GreaterEqual)),
+    ("SUMIFGT", Function::Matching(Matching::Sum, Binary::Greater)),
+    ("SUMIFLE", Function::Matching(Matching::Sum, Binary::LessEqual)),
+    ("SUMIFLT", Function::Matching(Matching::Sum, Binary::Less)),
 ];
 
 /// All tokens of the text, or its first refusal among 4, 5 and 6.

@@ -2,7 +2,7 @@
 use mathlib.Core.Path.{ap, _∙_}
 use borrow.Author.Needs.{needs}
 use Rattle.code.specs.private.Classes.{classOf}
-use Rattle.code.proofs.Classes.{is-single, is-load, is-indexed, is-unary, is-binary, is-none}
+use Rattle.code.proofs.Classes.{is-single, is-load, is-indexed, is-unary, is-binary, is-range}
 use Rattle.code.proofs.class_of.Statement.{statement}
 use Rattle.code.proofs.class_of.Tie as tie
 
@@ -15,14 +15,14 @@ single-requires c κs = search needs
 returns : tie.Need-returns
 returns c = c .single .ensures ∙ is-single _ (c .before .if1 .taken) ∙ ap classOf (c .before .before .opcode-of .ensures)
 
-add-if3 : tie.Need-add-if3
-add-if3 c = search needs
-
 returns-2 : tie.Need-returns-2
 returns-2 c = is-binary _ (c .before .if2 .taken) (c .if3 .taken) ∙ ap classOf (c .before .before .before .opcode-of .ensures)
 
+range-class-requires : tie.Need-range-class-requires
+range-class-requires c κs = search needs
+
 returns-3 : tie.Need-returns-3
-returns-3 c = is-none _ (c .if3 .left) ∙ ap classOf (c .before .before .before .opcode-of .ensures)
+returns-3 c = c .range-class .ensures ∙ is-range _ (c .before .if3 .left) ∙ ap classOf (c .before .before .before .before .opcode-of .ensures)
 
 returns-4 : tie.Need-returns-4
 returns-4 c = is-load _ (c .before .before .if1 .left) (c .if4 .taken) ∙ ap classOf (c .before .before .before .opcode-of .ensures)
@@ -40,8 +40,8 @@ class-of-spec =
     opcode-of-requires
     single-requires
     returns
-    add-if3
     returns-2
+    range-class-requires
     returns-3
     returns-4
     returns-5

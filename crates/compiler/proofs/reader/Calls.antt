@@ -1,4 +1,4 @@
--- A law for each way through `call`, `arguments`, `clock` and `branches`.
+-- A law for each way through `call`, `pair`, `arguments`, `clock` and `branches`.
 use mathlib.Core.Path.{_≡_, refl, sym, ap, subst, fun-ext, _∙_}
 use mathlib.Core.Bool.{true, false}
 use mathlib.Core.List.{List}
@@ -8,30 +8,38 @@ use lib.ListN.{length}
 use Rattle.values.specs.declared.Kind.{Kind}
 use Rattle.values.specs.declared.Kind.the-variants as K
 use Rattle.values.specs.declared.ChoiceOp.the-variants as Choose
+use Rattle.values.specs.declared.CompareOp.the-variants as C'
 use Rattle.operators.specs.declared.UnaryOp.{UnaryOp}
 use Rattle.operators.specs.declared.UnaryOp.the-variants as U
 use Rattle.operators.specs.declared.BinaryOp.{BinaryOp}
 use Rattle.operators.specs.declared.BinaryOp.the-variants as B
 use Rattle.operators.specs.Kinds.{isInt, join, unaryKind, unaryTakes, binaryKind, binaryTakes}
 use Rattle.operators.specs.Tables.{unaryNumber, binaryNumber}
+use Rattle.totals.specs.declared.TotalOp.{TotalOp}
+use Rattle.totals.specs.declared.TotalOp.the-variants as T'
+use Rattle.totals.specs.declared.MatchOp.{MatchOp}
+use Rattle.totals.specs.declared.MatchOp.the-variants as M'
+use Rattle.totals.specs.Numbers.{totalNumber, matchNumber}
 use Rattle.tokens.specs.declared.Function.{Function}
 use Rattle.tokens.specs.declared.Function.the-variants as F
 use Rattle.tokens.specs.Scan.{Tok}
 use Rattle.tokens.specs.Words.{functionAt}
 use Rattle.token_table.specs.private.Table.{wordOperand, wordPlace, wordAt, tokensFrom, TokenWords}
-use Rattle.grammar.specs.Tree.{Tree, choice, tick, Diagnostic, clear, earlier, unless, wrongKindAt}
-use Rattle.grammar.specs.Symbols.{loosest, openParen, closeParen, comma, Callee, of-one, of-two, of-choice, of-since, Form, plain, clock, formOf, Arguments, one, more, argument, callTree}
+use Rattle.grammar.specs.Tree.{Tree, choice, tick, matching, Diagnostic, clear, earlier, unless, wrongKindAt}
+use Rattle.grammar.specs.Symbols.{loosest, openParen, closeParen, comma, Callee, of-one, of-two, of-choice, of-since, Form, plain, clock, ranged, matched, formOf, Arguments, one, more, argument, callTree}
 use Rattle.grammar.specs.Functions.{formNumber, operatorNumber, functionForm}
-use Rattle.grammar.specs.Parse.{Result, ok, andThen, expect, callBody, expression, arguments}
+use Rattle.grammar.specs.Parse.{Result, ok, andThen, expect, expectRange, callBody, expression, arguments}
 use Rattle.code.specs.declared.Instr.the-variants.{Unary, Binary, JumpIf, Tick, Since}
 use Rattle.tree_code.specs.Code.{branchTail}
 use Rattle.draft.specs.private.Results.{Read, Done, Bad, readNext, readEnd, readKind, readWrong}
 use Rattle.draft.specs.private.Words.{unaryAt, binaryAt, functionOp, functionPair, isMark}
 use Rattle.draft.specs.private.Draft.{putInstr, chosenCode}
-use Rattle.compiler.specs.private.Reading.{DraftHolds, SameResult, same-done, same-bad, Span, span-done, span-bad, ReaderAgrees, thenSymbol, argumentsOf, callOf, Arguing, Branches}
+use Rattle.draft.specs.private.Ranges.{totalAt, matchAt, functionTotal, functionMatch}
+use Rattle.compiler.specs.private.Reading.{DraftHolds, SameResult, same-done, same-bad, Span, span-done, span-bad, ReaderAgrees, thenSymbol, argumentsOf, callOf, Arguing, Matching, Branches}
 use Rattle.compiler.proofs.reader.Looking.{headIs, look, mark, There, there}
 use Rattle.compiler.proofs.reader.Binding.{Stopped, span-earlier, span-stopped, bind-done, bind-stopped, expect-past, expect-other, and-then, then-then, enter-inside}
 use Rattle.compiler.proofs.reader.Meaning.{means-tick, means-since, means-unary, means-binary, means-choice}
+use Rattle.compiler.proofs.reader.Ranging.{Totalled}
 use Rattle.compiler.proofs.reader.Steps.{Enclosed, Bounds, bounds}
 
 -- ---- the parser's lists of arguments, put one behind another
@@ -92,6 +100,17 @@ data Calls : Form → Type 0 where
   choice-call : Calls (plain of-choice)
   since-call : Calls (plain of-since)
   clock-call : Calls clock
+  total-call : (o : TotalOp) → totalAt (totalNumber o) ≡ o → Calls (ranged o)
+  match-call : (o : MatchOp) → matchAt (matchNumber o) ≡ o → Calls (matched o)
+
+total-back : (o : TotalOp) → totalAt (totalNumber o) ≡ o
+total-back T'.Sum = refl
+total-back T'.Average = refl
+total-back (T'.Choice o) = elim o [ Choose.Max ↦ refl | Choose.Min ↦ refl ]
+
+match-back : (o : MatchOp) → matchAt (matchNumber o) ≡ o
+match-back (M'.Count o) = elim o [ C'.Lt ↦ refl | C'.Gt ↦ refl | C'.Le ↦ refl | C'.Ge ↦ refl | C'.Eq ↦ refl | C'.Ne ↦ refl ]
+match-back (M'.Sum o) = elim o [ C'.Lt ↦ refl | C'.Gt ↦ refl | C'.Le ↦ refl | C'.Ge ↦ refl | C'.Eq ↦ refl | C'.Ne ↦ refl ]
 
 calls : (g : Function) → Calls (formOf g)
 calls F.Abs = one-call U.Abs refl (λ k. refl)
@@ -105,6 +124,8 @@ calls F.Min = two-call (B.Choice Choose.Min) refl (λ a b. refl)
 calls F.If = choice-call
 calls F.TickMs = clock-call
 calls F.Since = since-call
+calls (F.Total o) = total-call o (total-back o)
+calls (F.Match o) = match-call o (match-back o)
 
 -- a call of one argument, and of two, as the number of the operator says
 abbrev One : Form → Type 0
@@ -119,6 +140,8 @@ one-form (two-call o back any) e = absurd (omega arith)
 one-form choice-call e = absurd (omega arith)
 one-form since-call e = absurd (omega arith)
 one-form clock-call e = absurd (omega arith)
+one-form (total-call o back) e = absurd (omega arith)
+one-form (match-call o back) e = absurd (omega arith)
 
 two-form : {x : Form} → Calls x → formNumber x ≡ 2 → Two x
 two-form (one-call o back any) e = absurd (omega arith)
@@ -126,6 +149,8 @@ two-form (two-call o back any) e = rw back (refl, any)
 two-form choice-call e = absurd (omega arith)
 two-form since-call e = absurd (omega arith)
 two-form clock-call e = absurd (omega arith)
+two-form (total-call o back) e = absurd (omega arith)
+two-form (match-call o back) e = absurd (omega arith)
 
 since-form : {x : Form} → Calls x → formNumber x ≡ 4 → x ≡ plain of-since
 since-form (one-call o back any) e = absurd (omega arith)
@@ -133,6 +158,8 @@ since-form (two-call o back any) e = absurd (omega arith)
 since-form choice-call e = absurd (omega arith)
 since-form since-call e = refl
 since-form clock-call e = absurd (omega arith)
+since-form (total-call o back) e = absurd (omega arith)
+since-form (match-call o back) e = absurd (omega arith)
 
 clock-form : {x : Form} → Calls x → formNumber x ≡ 5 → x ≡ clock
 clock-form (one-call o back any) e = absurd (omega arith)
@@ -140,17 +167,43 @@ clock-form (two-call o back any) e = absurd (omega arith)
 clock-form choice-call e = absurd (omega arith)
 clock-form since-call e = absurd (omega arith)
 clock-form clock-call e = refl
+clock-form (total-call o back) e = absurd (omega arith)
+clock-form (match-call o back) e = absurd (omega arith)
 
-choice-form : {x : Form} → Calls x → (formNumber x ≡ 1 → ⊥) → (formNumber x ≡ 2 → ⊥) → (formNumber x ≡ 4 → ⊥) → (formNumber x ≡ 5 → ⊥) → x ≡ plain of-choice
-choice-form (one-call o back any) a b c d = absurd (a refl)
-choice-form (two-call o back any) a b c d = absurd (b refl)
-choice-form choice-call a b c d = refl
-choice-form since-call a b c d = absurd (c refl)
-choice-form clock-call a b c d = absurd (d refl)
+total-form : {x : Form} → Calls x → formNumber x ≡ 6 → x ≡ ranged (totalAt (operatorNumber x))
+total-form (one-call o back any) e = absurd (omega arith)
+total-form (two-call o back any) e = absurd (omega arith)
+total-form choice-call e = absurd (omega arith)
+total-form since-call e = absurd (omega arith)
+total-form clock-call e = absurd (omega arith)
+total-form (total-call o back) e = rw back refl
+total-form (match-call o back) e = absurd (omega arith)
+
+match-form : {x : Form} → Calls x → formNumber x ≡ 7 → x ≡ matched (matchAt (operatorNumber x))
+match-form (one-call o back any) e = absurd (omega arith)
+match-form (two-call o back any) e = absurd (omega arith)
+match-form choice-call e = absurd (omega arith)
+match-form since-call e = absurd (omega arith)
+match-form clock-call e = absurd (omega arith)
+match-form (total-call o back) e = absurd (omega arith)
+match-form (match-call o back) e = rw back refl
+
+-- the numbers of the forms that are asked for before IF's
+abbrev Other : ℕ → Type 0
+Other r = ((r ≡ 1 → ⊥) × (r ≡ 2 → ⊥) × (r ≡ 4 → ⊥)) × ((r ≡ 5 → ⊥) × (r ≡ 6 → ⊥) × (r ≡ 7 → ⊥))
+
+choice-form : {x : Form} → Calls x → Other (formNumber x) → x ≡ plain of-choice
+choice-form (one-call o back any) n = absurd (n .0 .0 refl)
+choice-form (two-call o back any) n = absurd (n .0 .1 refl)
+choice-form choice-call n = refl
+choice-form since-call n = absurd (n .0 .2 refl)
+choice-form clock-call n = absurd (n .1 .0 refl)
+choice-form (total-call o back) n = absurd (n .1 .1 refl)
+choice-form (match-call o back) n = absurd (n .1 .2 refl)
 
 -- as the code asks for the form
-pub choice-of : (f : ℕ) {r : ℕ} → r ≡ functionForm f → (r ≡ 1 → ⊥) → (r ≡ 2 → ⊥) → (r ≡ 4 → ⊥) → (r ≡ 5 → ⊥) → formOf (functionAt f) ≡ plain of-choice
-choice-of f e a b c d = choice-form (calls (functionAt f)) (λ q. a (e ∙ q)) (λ q. b (e ∙ q)) (λ q. c (e ∙ q)) (λ q. d (e ∙ q))
+pub choice-of : (f : ℕ) {r : ℕ} → r ≡ functionForm f → Other r → formOf (functionAt f) ≡ plain of-choice
+choice-of f {r} e n = choice-form (calls (functionAt f)) (subst Other e n)
 
 -- ---- nothing but the parenthesis
 abbrev pub Clock : List ℕ → ℕ → ℕ → List ℕ → List ℕ → Read → Type 0
@@ -174,13 +227,17 @@ module _ {s : List ℕ} {at pc : ℕ} {o : List ℕ} (t : TokenWords s) where
 pub arguing-as : {w d : ℕ} {s : List ℕ} {at pc : ℕ} {o o′ : List ℕ} {x y : Read} → x ≡ y → Arguing w d s at pc o o′ y → Arguing w d s at pc o o′ x
 arguing-as {w} {d} {s} {at} {pc} {o} {o′} e h = subst (Arguing w d s at pc o o′) (sym e) h
 
+value-stops : (d : ℕ) (K : Tree → List Tok → Result Tree) {s : List ℕ} {at pc : ℕ} {o o₁ : List ℕ} {r : Read} → Enclosed comma d s at pc o o₁ r → Stopped r
+    → (n : ℕ) → (length s - at) * 8 + 4 ≤ n → SameResult pc o o₁ s r (andThen (expression n d loosest (tokensFrom s at)) (λ t q. expect comma q (λ z. K t z)))
+value-stops d K {s} {at} x stop n le = rw (← and-then comma (expression n d loosest (tokensFrom s at)) K) (bind-stopped K stop (x .same n (omega arith)))
+
 abbrev made-of : ℕ → Callee → Arguments → List Tok → Result Tree
 made-of p c us q = ok (callTree c p us) q
 
 module _ (f w d : ℕ) (number : f ≡ wordOperand w) {s : List ℕ} {at pc : ℕ} {o : List ℕ} where
   -- the call is of the form x
   of-form : (x : Form) {o₁ : List ℕ} {r : Read} → formOf (functionAt f) ≡ x → Span s at pc r
-      → ((n : ℕ) → (length s - (at + 1)) * 8 + 4 ≤ n → SameResult pc o o₁ s r (callBody x (wordPlace w) (λ m q. arguments n d m q) (tokensFrom s (at + 1)))) → Arguing w d s at pc o o₁ r
+      → ((n : ℕ) → (length s - (at + 1)) * 8 + 4 ≤ n → SameResult pc o o₁ s r (callBody x (wordPlace w) (λ m q. arguments n d m q) (λ q. expression n d loosest q) (tokensFrom s (at + 1)))) → Arguing w d s at pc o o₁ r
   of-form x e b g = record { span = b; same = λ n le. rw (ap (λ (i : ℕ). formOf (functionAt i)) (sym number) ∙ e) (g n le) }
 
   -- one argument: of an operator, or of SINCE
@@ -217,6 +274,28 @@ module _ (f w d : ℕ) (number : f ≡ wordOperand w) {s : List ℕ} {at pc : �
   -- no argument
   pub clock-reads : {o₁ : List ℕ} {r : Read} → functionForm f ≡ 5 → Clock s (at + 1) pc o o₁ r → Arguing w d s at pc o o₁ r
   clock-reads h x = of-form clock (clock-form (calls (functionAt f)) h) (span-earlier (omega arith) (x .span)) (x .same)
+
+  -- a range
+  pub total-reads : {o₁ : List ℕ} {r : Read} → functionForm f ≡ 6 → Totalled f s (at + 1) pc o o₁ r → Arguing w d s at pc o o₁ r
+  total-reads h x = of-form (ranged (functionTotal f)) (total-form (calls (functionAt f)) h) (span-earlier (omega arith) (x .span)) (x .same)
+
+  -- a value, and a range
+  pub value-stopped : {o₁ : List ℕ} {r : Read} → functionForm f ≡ 7 → Enclosed comma d s (at + 1) pc o o₁ r → Stopped r → Arguing w d s at pc o o₁ r
+  value-stopped h x stop =
+      of-form (matched (functionMatch f)) (match-form (calls (functionAt f)) h) (span-stopped stop (x .span))
+      (value-stops d (λ t q. expectRange q (λ b i p z. matching p (functionMatch f) t b i z)) x stop)
+
+  pub match-reads : {o₁ o₂ : List ℕ} {r : Read} (c : ℕ) → functionForm f ≡ 7 → Enclosed comma d s (at + 1) pc o o₁ (Done (readNext c) (readEnd c) (readKind c) (readWrong c)) → Matching f s c o₁ o₂ r → Arguing w d s at pc o o₂ r
+  match-reads {o₁} {o₂} {r} c h x y = of-form (matched (functionMatch f)) (match-form (calls (functionAt f)) h) (reach (bounds (x .span))) go
+    where
+      K : Tree → List Tok → Result Tree
+      K t q = expectRange q (λ b i p z. matching p (functionMatch f) t b i z)
+
+      reach : Bounds s (at + 1) pc (readNext c) (readEnd c) → Span s at pc r
+      reach b = y .span at pc (omega (arith, b .ahead)) (b .rises) (omega (arith, b .slack))
+
+      go : (n : ℕ) → (length s - (at + 1)) * 8 + 4 ≤ n → SameResult pc o o₂ s r (andThen (expression n d loosest (tokensFrom s (at + 1))) (λ t q. expect comma q (λ z. K t z)))
+      go n le = rw (← and-then comma (expression n d loosest (tokensFrom s (at + 1))) K) (bind-done K (x .same n (omega arith)) (λ t m. y .same pc o t m))
 
   -- two arguments
   pub first-stopped : {o₁ : List ℕ} {r : Read} → functionForm f ≡ 2 → Enclosed comma d s (at + 1) pc o o₁ r → Stopped r → Arguing w d s at pc o o₁ r

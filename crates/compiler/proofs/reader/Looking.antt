@@ -10,14 +10,18 @@ use lib.Seq.{getD-drop}
 use borrow.Author.Tests.{eq-eqb, ne-eqb, eqb-true, le-leb, lt-leb, ltb-true, ltb-false}
 use Rattle.values.specs.declared.Kind.the-variants.{Int, Real}
 use Rattle.values.specs.declared.Value.the-variants as Value
+use Rattle.values.specs.declared.CompareOp.the-variants as C'
+use Rattle.values.specs.declared.ChoiceOp.the-variants as Choose
 use Rattle.operators.specs.declared.UnaryOp.{UnaryOp}
 use Rattle.operators.specs.declared.UnaryOp.the-variants as U
 use Rattle.memory.specs.declared.Bank.{Bank}
 use Rattle.memory.specs.declared.Bank.the-variants.{X, C, «V», N, D, R}
 use Rattle.memory.specs.Cells.{bankKind}
 use Rattle.memory.specs.Numbers.{bankNumber}
+use Rattle.totals.specs.declared.TotalOp.the-variants as T'
+use Rattle.totals.specs.declared.MatchOp.the-variants as M'
 use Rattle.tokens.specs.declared.Function.{Function}
-use Rattle.tokens.specs.declared.Function.the-variants.{Abs, ToReal, ToInt, Trunc, Round, Frac, Max, Min, If, TickMs, Since}
+use Rattle.tokens.specs.declared.Function.the-variants.{Abs, ToReal, ToInt, Trunc, Round, Frac, Max, Min, If, TickMs, Since, Total, Match}
 use Rattle.tokens.specs.declared.Token.{Token}
 use Rattle.tokens.specs.declared.Token.the-variants.{Number, Cell, Letter, Name, Symbol}
 use Rattle.tokens.specs.Scan.{Tok}
@@ -216,7 +220,7 @@ loose-operator l (stands {t} k lt x) z h =
     ap (headBinds l) (x .split) ∙ rw (le-leb 1 (group t) low, lt-leb (group t) l high)
 
 -- ---- a primary, by its class
-bank-back : (b : Bank) → (bankAt (bankNumber b) ≡ b) × (bankNumber b < 6)
+pub bank-back : (b : Bank) → (bankAt (bankNumber b) ≡ b) × (bankNumber b < 6)
 bank-back X = (refl, lit< tt)
 bank-back C = (refl, lit< tt)
 bank-back «V» = (refl, lit< tt)
@@ -236,6 +240,11 @@ function-back Min = refl
 function-back If = refl
 function-back TickMs = refl
 function-back Since = refl
+function-back (Total T'.Sum) = refl
+function-back (Total T'.Average) = refl
+function-back (Total (T'.Choice o)) = elim o [ Choose.Max ↦ refl | Choose.Min ↦ refl ]
+function-back (Match (M'.Count o)) = elim o [ C'.Lt ↦ refl | C'.Gt ↦ refl | C'.Le ↦ refl | C'.Ge ↦ refl | C'.Eq ↦ refl | C'.Ne ↦ refl ]
+function-back (Match (M'.Sum o)) = elim o [ C'.Lt ↦ refl | C'.Gt ↦ refl | C'.Le ↦ refl | C'.Ge ↦ refl | C'.Eq ↦ refl | C'.Ne ↦ refl ]
 
 -- a literal or a cell with the operand n, the number x and the place p: the tree it is, and its word as the instruction
 pub record Leaf (s : List ℕ) (at c n x p : ℕ) : Type 0 where

@@ -7,6 +7,7 @@ use native.Mathlib.Nat.{add-zero}
 use native.Mathlib.Numerals.{add-one}
 use native.Mathlib.Omega.{arith}
 use lib.Dec.{eqb, ltb}
+use lib.IntN.{ℤ}
 use lib.ListN.{length}
 use Rattle.values.specs.declared.Kind.{Kind}
 use Rattle.values.specs.declared.Kind.the-variants as K
@@ -15,10 +16,13 @@ use Rattle.operators.specs.declared.BinaryOp.{BinaryOp}
 use Rattle.operators.specs.Kinds.{isInt, join, unaryKind, unaryTakes, binaryKind, binaryTakes}
 use Rattle.memory.specs.declared.Bank.{Bank}
 use Rattle.memory.specs.Cells.{bankKind}
-use Rattle.grammar.specs.Tree.{Tree, indexed, unary, binary, logic, choice, tick, since, treeKind, diagnosticOf, Diagnostic, clear, earlier, unless, wrongKindAt}
+use Rattle.totals.specs.declared.TotalOp.{TotalOp}
+use Rattle.totals.specs.declared.MatchOp.{MatchOp}
+use Rattle.totals.specs.Totals.{totalKind, matchKind, goodCount, spanOf}
+use Rattle.grammar.specs.Tree.{Tree, indexed, unary, binary, logic, choice, tick, since, total, matching, treeKind, diagnosticOf, Diagnostic, clear, earlier, unless, wrongKindAt, wrongCountAt}
 use Rattle.grammar.specs.Symbols.{infixTree}
 use Rattle.code.specs.declared.Instr.{Instr}
-use Rattle.code.specs.declared.Instr.the-variants.{LoadIndexed, Unary, Binary, Jump, JumpIf, Tick, Since}
+use Rattle.code.specs.declared.Instr.the-variants.{LoadIndexed, Unary, Binary, Jump, JumpIf, Tick, Since, Total, Match}
 use Rattle.tree_code.specs.Code.{codeOf, truthTail, branchTailSkip, branchTail}
 use Rattle.draft.specs.private.Words.{binaryAt}
 use Rattle.draft.specs.private.Draft.{putInstr, putCode, reserved, settledCode, joinedCode, joinedEnd, infixKind, infixWrong, chosenCode}
@@ -36,6 +40,11 @@ pub means-tick : {pc : ℕ} {o o′ : List ℕ} → o′ ≡ putInstr o pc Tick 
 unfolding codeOf treeKind diagnosticOf
 means-tick q = made refl refl (lies-add Tick q)
 
+pub means-total : {pc : ℕ} {o o′ : List ℕ} (p : ℕ) (a : TotalOp) (b : Bank) (i : ℕ) (z : ℤ) → o′ ≡ putInstr o pc (Total a b i (spanOf b i z))
+    → DraftHolds pc o o′ (pc + 1) (totalKind a b) (unless (goodCount b i z) (wrongCountAt p)) (total p a b i z)
+unfolding codeOf treeKind diagnosticOf
+means-total p a b i z q = made refl refl (lies-add (Total a b i (spanOf b i z)) q)
+
 -- ---- one instruction more
 module _ {pc : ℕ} {o o₁ o₂ : List ℕ} {e : ℕ} {k : Kind} {w : Diagnostic} {t : Tree} (m : DraftHolds pc o o₁ e k w t) where
   pub means-indexed : (b : Bank) → o₂ ≡ putInstr o₁ e (LoadIndexed b) → DraftHolds pc o o₂ (e + 1) (bankKind b) w (indexed b t)
@@ -51,6 +60,12 @@ module _ {pc : ℕ} {o o₁ o₂ : List ℕ} {e : ℕ} {k : Kind} {w : Diagnosti
   unfolding codeOf treeKind diagnosticOf
   means-since p q =
       made refl (ap₂ (λ (x : Kind) (y : Diagnostic). earlier (unless (isInt x) (wrongKindAt p)) y) (m .kind) (m .wrong)) (lies-then (lies m) (lies-add Since q))
+
+  pub means-matching : (p : ℕ) (a : MatchOp) (b : Bank) (i : ℕ) (z : ℤ) → o₂ ≡ putInstr o₁ e (Match a b i (spanOf b i z))
+      → DraftHolds pc o o₂ (e + 1) (matchKind a b) (earlier (unless (goodCount b i z) (wrongCountAt p)) w) (matching p a t b i z)
+  unfolding codeOf treeKind diagnosticOf
+  means-matching p a b i z q =
+      made refl (ap (λ (x : Diagnostic). earlier (unless (goodCount b i z) (wrongCountAt p)) x) (m .wrong)) (lies-then (lies m) (lies-add (Match a b i (spanOf b i z)) q))
 
 -- ---- two sides
 module _ {pc : ℕ} {o o₁ o₂ o₃ : List ℕ} {e e′ : ℕ} {k k′ : Kind} {w w′ : Diagnostic} {t u : Tree} (m : DraftHolds pc o o₁ e k w t) where

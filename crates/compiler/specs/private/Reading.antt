@@ -2,20 +2,23 @@
 -- tree of kind k, with the diagnostic w, whose code ends at e in the draft, and for the tokens from the position j on.
 use mathlib.Core.Path.{_≡_}
 use mathlib.Core.List.{List, [], _∷_}
-use Prim.Native.Nat.{ℕ, _+_, _-_, _*_, _≤_}
+use Prim.Native.Nat.{ℕ, _+_, _-_, _*_, _≤_, _<_}
+use lib.IntN.{ℤ}
 use lib.ListN.{length}
 use Rattle.values.specs.declared.Kind.{Kind}
+use Rattle.memory.specs.declared.Bank.{Bank}
 use Rattle.tokens.specs.declared.Function.{Function}
 use Rattle.tokens.specs.Scan.{Tok}
 use Rattle.tokens.specs.Words.{functionAt}
-use Rattle.token_table.specs.private.Table.{wordOperand, wordPlace, tokensFrom, TokenWords}
-use Rattle.grammar.specs.Tree.{Tree, Diagnostic, treeKind, diagnosticOf, choice}
-use Rattle.grammar.specs.Symbols.{openParen, formOf, argument}
-use Rattle.grammar.specs.Parse.{Result, ok, bad, deep, andThen, expect, enter, callBody, primary, arguments}
+use Rattle.token_table.specs.private.Table.{wordOperand, wordNumber, wordPlace, wordAt, tokensFrom, TokenWords}
+use Rattle.grammar.specs.Tree.{Tree, Diagnostic, treeKind, diagnosticOf, choice, matching}
+use Rattle.grammar.specs.Symbols.{loosest, openParen, formOf, argument}
+use Rattle.grammar.specs.Parse.{Result, ok, bad, deep, andThen, expect, expectRange, enter, callBody, expression, primary, arguments}
 use Rattle.text.specs.Judge.{Judgement, accepted}
 use Rattle.tree_code.specs.Code.{codeOf}
 use Rattle.draft.specs.private.Results.{Read, Done, Bad, Deep, readNext, readEnd, readKind, readWrong}
 use Rattle.draft.specs.private.Draft.{putCode}
+use Rattle.draft.specs.private.Ranges.{functionMatch, cellBank, countOf, CellWord}
 use Rattle.compiler.specs.declared.Coded.{Coded}
 use Rattle.compiler.specs.Compile.{codedAnswer}
 
@@ -61,7 +64,7 @@ thenSymbol n q = andThen q (λ t r. expect n r (λ z. ok t z))
 
 -- the call of g at p, from behind its parenthesis, and from its parenthesis on
 abbrev pub argumentsOf : Function → ℕ → ℕ → ℕ → List Tok → Result Tree
-argumentsOf g p d f ts = callBody (formOf g) p (λ m q. arguments f d m q) ts
+argumentsOf g p d f ts = callBody (formOf g) p (λ m q. arguments f d m q) (λ q. expression f d loosest q) ts
 
 abbrev pub callOf : Function → ℕ → ℕ → ℕ → List Tok → Result Tree
 callOf g p d f ts = enter d openParen ts (λ e r. argumentsOf g p e f r)
@@ -80,6 +83,19 @@ pub record Branches (d : ℕ) (s : List ℕ) (c : ℕ) (o o′ : List ℕ) (r : 
   pub span : (at pc : ℕ) → at ≤ readNext c → pc ≤ readEnd c → readEnd c + 8 * at + 8 ≤ pc + 8 * readNext c → Span s at pc r
   pub same : (pc : ℕ) (o₀ : List ℕ) (t : Tree) → DraftHolds pc o₀ o (readEnd c) (readKind c) (readWrong c) t
       → (p f : ℕ) → (length s - readNext c) * 8 + 4 ≤ f → SameResult pc o₀ o′ s r (branchesOf t p d f (tokensFrom s (readNext c)))
+
+-- how far a first cell, a comma, a count and the closing parenthesis go from `at` on
+pub data RangeFrom (s : List ℕ) (at : ℕ) : ℕ → Type 0 where
+  whole : CellWord (wordAt s at) → at + 4 ≤ length s
+      → ((k : Bank → ℕ → ℕ → ℤ → Tree) → expectRange (tokensFrom s at) k ≡ ok (k (cellBank (wordAt s at)) (wordNumber (wordAt s at)) (wordPlace (wordAt s (at + 2))) (countOf (wordAt s (at + 2)))) (tokensFrom s (at + 4)))
+      → RangeFrom s at (at + 4)
+  broken : {j : ℕ} → j < at + 4 → j ≤ length s → ((k : Bank → ℕ → ℕ → ℤ → Tree) → expectRange (tokensFrom s at) k ≡ bad (tokensFrom s j)) → RangeFrom s at j
+
+-- behind a value that was read, the range of the total f
+pub record Matching (f : ℕ) (s : List ℕ) (v : ℕ) (o o′ : List ℕ) (r : Read) : Type 0 where
+  pub span : (at pc : ℕ) → at ≤ readNext v → pc ≤ readEnd v → readEnd v + 8 * at ≤ pc + 8 * readNext v → Span s at pc r
+  pub same : (pc : ℕ) (o₀ : List ℕ) (t : Tree) → DraftHolds pc o₀ o (readEnd v) (readKind v) (readWrong v) t
+      → SameResult pc o₀ o′ s r (expectRange (tokensFrom s (readNext v)) (λ b i p z. matching p (functionMatch f) t b i z))
 
 -- the answer is that of the judgement, and where a formula was read its code is in the draft
 pub record Judged (j : Judgement) (o o′ : List ℕ) (r : Coded) : Type 0 where

@@ -1,12 +1,12 @@
 -- The earlier of two diagnostics is the lesser of their numbers, where one of them or both may be none.
 use mathlib.Core.Path.{_≡_, refl, sym, ap, _∙_}
 use mathlib.Core.Bool.{Bool, true, false, cond}
-use Prim.Native.Nat.{ℕ, _+_, _*_, _/_, _%_, _≤_, min}
+use Prim.Native.Nat.{ℕ, _+_, _*_, _/_, _%_, _≤_, _<_, min}
 use native.Mathlib.Omega.{arith}
 use lib.Dec.{ltb}
 use borrow.Author.Tests.{lt-ltb, le-ltb, ltb-true, ltb-false}
 use Rattle.token_table.specs.private.Table.{wordPlace}
-use Rattle.grammar.specs.Tree.{clear, earlier, wrongKindAt}
+use Rattle.grammar.specs.Tree.{clear, at, earlier}
 use Rattle.grammar.proofs.Diagnostics.{numbered, earlier-least}
 use Rattle.draft.specs.private.Results.{diagnosed}
 
@@ -38,8 +38,8 @@ earlier-first a b h = let e : a ≡ min a b = omega arith in ap diagnosed e ∙ 
 pub earlier-second : (a b : ℕ) → b ≤ a → diagnosed b ≡ earlier (diagnosed a) (diagnosed b)
 earlier-second a b h = let e : b ≡ min a b = omega arith in ap diagnosed e ∙ lesser a b
 
-pub word-diagnosed : (w n : ℕ) → n ≡ 16 * wordPlace w + 9 → diagnosed n ≡ wrongKindAt (wordPlace w)
-word-diagnosed w n e =
+pub word-diagnosed : (w a : ℕ) → a < 16 → (n : ℕ) → n ≡ 16 * wordPlace w + a → diagnosed n ≡ at (wordPlace w) a
+word-diagnosed w a h n e =
     let p : n / 16 ≡ wordPlace w = omega arith in
-    let a : n % 16 ≡ 9 = omega arith in
-    rw (lt-ltb n 1048576 (omega arith), p, a)
+    let q : n % 16 ≡ a = omega arith in
+    rw (lt-ltb n 1048576 (omega arith), p, q)

@@ -17,9 +17,19 @@ same-length c = search needs
 same-length-2 : tie.Need-same-length-2
 same-length-2 c = search needs
 
+same-length-3 : tie.Need-same-length-3
+same-length-3 c = search needs
+
 returns : tie.Need-returns
-returns c = (c .fill-report .ensures ∙ ap reportWords (c .before .before .before .before .before .before .compile-and-run .ensures .0), c .before .before .before .before .before .before .compile-and-run .ensures .1)
+returns c = (c .fill-report .ensures ∙ ap reportWords (c .before .before .before .before .before .before .before .before .compile-and-run .ensures .0), c .before .before .before .before .before .before .before .before .compile-and-run .ensures .1)
 
 pub formula-compile-and-run-spec : {M : Type 1} → statement M
 formula-compile-and-run-spec =
-    tie.close (tie.spec compile-and-run-requires fill-report-requires same-length same-length-2 returns)
+    tie.close
+    (tie.spec
+    compile-and-run-requires
+    fill-report-requires
+    same-length
+    same-length-2
+    same-length-3
+    returns)

@@ -1,4 +1,4 @@
--- `formula_c::formula_run` meets its contract: the words of the operation's answer, and the memory as the operation left it.
+-- `formula_c::formula_run` meets its contract: the words of the operation's answer.
 use mathlib.Core.Path.{_∙_, ap}
 use Rattle.formula_c.specs.Words.{reportWords}
 use borrow.Author.Needs.{needs}
@@ -15,9 +15,7 @@ same-length : tie.Need-same-length
 same-length c = search needs
 
 returns : tie.Need-returns
-returns c =
-    let ran = c .before .before .before .before .run .ensures in
-    (c .fill-report .ensures ∙ ap reportWords (ran .0), ran .1)
+returns c = (c .fill-report .ensures ∙ ap reportWords (c .before .before .before .before .run .ensures .0), c .before .before .before .before .run .ensures .1)
 
 pub formula-run-spec : {M : Type 1} → statement M
 formula-run-spec = tie.close (tie.spec run-requires fill-report-requires same-length returns)

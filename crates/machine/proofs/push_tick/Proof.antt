@@ -1,11 +1,13 @@
--- `push_tick` meets its contract: the test is that of `ifZero`.
+-- `push_tick` meets its contract: the tests are those of `ifZero` and `pushOrStuck`.
 use borrow.Author.Needs.{needs}
+use borrow.Author.Tests.{le-ltb}
 use mathlib.Core.Path.{refl, _∙_}
 use mir.Syntax.{w32}
 use mir.Val.{SFits}
 use mir.ValLaws.{toZ-ofZ}
 use Rattle.memory.specs.Environment.{memoryAt}
 use Rattle.code.specs.Instructions.{pushTick, wordOf}
+use Rattle.machine.specs.Machine.{maxHeight}
 use Rattle.machine.proofs.Performs.{spoilt, unspoilt}
 use Rattle.machine.proofs.push_tick.Statement.{statement}
 use Rattle.machine.proofs.push_tick.Tie as tie
@@ -18,8 +20,24 @@ stuck-step-requires c κs = search needs
 
 returns : tie.Need-returns
 returns c = λ m l r.
-    let a = c .before .before .before .args in
-    c .stuck-step .ensures ∙ spoilt (memoryAt (a .tick) m) (a .h) l r pushTick (wordOf (a .w)) refl (c .before .before .word-of .ensures) (c .before .if1 .taken)
+    let at-if1 = c .before in
+    let at-word-of = at-if1 .before in
+    let start = at-word-of .before in
+    let a = start .args in
+    c .stuck-step .ensures ∙ spoilt (memoryAt (a .tick) m) (a .h) l r pushTick (wordOf (a .w)) refl (at-word-of .word-of .ensures) (at-if1 .if1 .taken)
+
+stuck-step-requires-2 : tie.Need-stuck-step-requires-2
+stuck-step-requires-2 c κs = search needs
+
+returns-2 : tie.Need-returns-2
+returns-2 c = λ m l r.
+    let at-if2 = c .before in
+    let at-if1 = at-if2 .before in
+    let at-word-of = at-if1 .before in
+    let start = at-word-of .before in
+    let a = start .args in
+    c .stuck-step2 .ensures ∙ unspoilt (memoryAt (a .tick) m) (a .h) l r pushTick (wordOf (a .w)) (at-word-of .word-of .ensures) (at-if1 .if1 .left)
+    (rw (le-ltb (a .h) maxHeight (at-if2 .if2 .taken)))
 
 from-pattern-requires : tie.Need-from-pattern-requires
 from-pattern-requires c κs = search needs
@@ -27,15 +45,27 @@ from-pattern-requires c κs = search needs
 push-step-requires : tie.Need-push-step-requires
 push-step-requires c κs = search needs
 
-returns-2 : tie.Need-returns-2
-returns-2 c = λ m l r.
-    let a = c .before .before .before .before .args in
-    let z = c .before .from-pattern .result in
+returns-3 : tie.Need-returns-3
+returns-3 c = λ m l r.
+    let at-from-pattern = c .before in
+    let at-if1 = at-from-pattern .before .before in
+    let at-word-of = at-if1 .before in
+    let start = at-word-of .before in
+    let a = start .args in
+    let z = at-from-pattern .from-pattern .result in
     let F : SFits w32 z = search needs in
-    unspoilt (memoryAt (a .tick) m) (a .h) l r pushTick (wordOf (a .w)) (c .before .before .before .word-of .ensures) (c .before .before .if1 .left)
-    (rw (toZ-ofZ w32 z F, c .before .from-pattern .ensures) at (c .push-step .ensures))
+    unspoilt (memoryAt (a .tick) m) (a .h) l r pushTick (wordOf (a .w)) (at-word-of .word-of .ensures) (at-if1 .if1 .left)
+    (rw (toZ-ofZ w32 z F, at-from-pattern .from-pattern .ensures) at (c .push-step .ensures))
 
 pub push-tick-spec : {M : Type 1} → statement M
 push-tick-spec =
     tie.close
-    (tie.spec word-of-requires stuck-step-requires returns from-pattern-requires push-step-requires returns-2)
+    (tie.spec
+    word-of-requires
+    stuck-step-requires
+    returns
+    stuck-step-requires-2
+    returns-2
+    from-pattern-requires
+    push-step-requires
+    returns-3)

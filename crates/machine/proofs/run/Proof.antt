@@ -1,23 +1,23 @@
 -- `run` meets its contract: at each turn what is left to run, from the values held, gives what the whole run gives.
 use mathlib.Core.Path.{_≡_, refl, _∙_}
 use mathlib.Core.Logic.{⊎-elim}
-use Prim.Native.Nat.{_-_, _/_, _≤_}
+use Prim.Native.Nat.{_+_, _*_, _-_, _/_, _≤_}
 use native.Mathlib.Omega.{arith}
 use borrow.Author.Needs.{needs}
 use lib.ListN.{length, length-set}
 use denote.Ref.{now}
 use Rattle.words.specs.Laws.{Bytes}
 use Rattle.memory.specs.Environment.{memoryAt}
-use Rattle.machine.specs.Machine.{maxHeight}
+use Rattle.machine.specs.Machine.{maxHeight, maxCells}
 use Rattle.machine.proofs.Held.{none, held, held-finish}
 use Rattle.machine.proofs.Rest.{Stands, starts, minimum-left, minimum-right, finishes}
-use Rattle.machine.proofs.Turn.{Turn, performed, turn, onward, fails, lower, nearer}
+use Rattle.machine.proofs.Turn.{Turn, performed, totalled, matched, turn, onward, fails, few, lower, nearer}
 use Rattle.machine.proofs.run.Statement.{statement}
 use Rattle.machine.proofs.run.Tie as tie
 
 abbrev Inv-loop : tie.InvT-loop
 Inv-loop code n image tick stack₀ h₀ place₀ count₀ there stack h place count =
-    (length stack ≡ maxHeight) × (h ≤ maxHeight) × (count ≤ place) × (there ≤ n) × (there ≤ length code / 8) × Stands (memoryAt tick image) code n place (held h stack) count
+    (length stack ≡ maxHeight) × (h ≤ maxHeight) × (count ≤ (1 + maxCells) * place) × (there ≤ n) × (there ≤ length code / 8) × (n ≤ 2048) × Stands (memoryAt tick image) code n place (held h stack) count
 
 abbrev μ-loop : tie.MeasureT-loop
 μ-loop code n image tick stack₀ h₀ place₀ count₀ there stack h place count = there - place
@@ -26,7 +26,7 @@ abbrev μ-loop : tie.MeasureT-loop
 made : (c : tie.At-match-came Inv-loop μ-loop) →
     let l = c .before .before .before .before .loop in
     let a = c .before .before .before .before .before .before .before .before .args in
-    Turn (memoryAt (a .tick) (now (a .image))) (now (a .code)) (a .n) (l .place) (l .h) (l .stack) (l .count) (c .match .step)
+    Turn (memoryAt (a .tick) (now (a .image))) (now (a .code)) (a .n) (l .place) (l .h) (l .stack) (l .count) (c .match .count) (c .match .step)
 made c =
     let l = c .before .before .before .before .loop in
     let a = c .before .before .before .before .before .before .before .before .args in
@@ -34,19 +34,21 @@ made c =
     let E = memoryAt (a .tick) (now (a .image)) in
     let bytes : Bytes (now (a .code)) = λ j. omega (arith, c .before .before .before .before .before .before .before .shared-slice-known .given j) in
     let class = c .before .class-of .ensures in
-    turn (l .h) (l .stack) (omega arith) (l .inv .5) bytes (c .before .before .fetch .ensures)
-    (⊎-elim (λ s. s .3 ∙ performed E (l .h) (l .stack) w class (s .1 .given .1) refl refl (s .2 .ensures E none none))
-    (⊎-elim (λ s. s .3 ∙ performed E (l .h) (l .stack) w class (s .1 .given .1) refl refl (s .2 .ensures E _ _))
-    (⊎-elim (λ s. s .3 ∙ performed E (l .h) (l .stack) w class (s .1 .given .1) refl refl (s .2 .ensures E none none))
-    (⊎-elim (λ s. s .5 ∙ performed E (l .h) (l .stack) w class (s .1 .given .1) refl (s .2 .ensures) (s .4 .ensures E none))
-    (⊎-elim (λ s. s .5 ∙ performed E (l .h) (l .stack) w class (s .1 .given .1) refl (s .2 .ensures) (s .4 .ensures E none))
-    (⊎-elim (λ s. s .3 ∙ performed E (l .h) (l .stack) w class (s .1 .given .1) refl refl (s .2 .ensures (now (a .image)) _ _))
-    (⊎-elim (λ s. s .5 ∙ performed E (l .h) (l .stack) w class (s .1 .given .1) refl (s .2 .ensures) (s .4 .ensures (now (a .image)) _))
-    (⊎-elim (λ s. s .3 ∙ performed E (l .h) (l .stack) w class (s .1 .given .1) refl refl (s .2 .ensures (a .tick) _ _))
-    (⊎-elim (λ s. s .5 ∙ performed E (l .h) (l .stack) w class (s .1 .given .1) refl (s .2 .ensures) (s .4 .ensures (a .tick) _))
-    (⊎-elim (λ s. s .5 ∙ performed E (l .h) (l .stack) w class (s .1 .given .1) refl (s .2 .ensures) (s .4 .ensures E _))
-    (⊎-elim (λ s. s .7 ∙ performed E (l .h) (l .stack) w class (s .1 .given .1) (s .2 .ensures) (s .4 .ensures) (s .6 .ensures E))
-    (λ s. s .3 ∙ performed E (l .h) (l .stack) w class (s .1 .given .1) refl refl (s .2 .ensures))))))))))))
+    turn (l .h) (l .stack) (omega arith) (l .inv .6) bytes (c .before .before .fetch .ensures)
+    (⊎-elim (λ s. performed E (l .h) (l .stack) w class (s .1 .given .1) tt refl refl (s .4 ∙ s .2 .ensures E none none) (s .3))
+    (⊎-elim (λ s. performed E (l .h) (l .stack) w class (s .1 .given .1) tt refl refl (s .4 ∙ s .2 .ensures E _ _) (s .3))
+    (⊎-elim (λ s. performed E (l .h) (l .stack) w class (s .1 .given .1) tt refl refl (s .4 ∙ s .2 .ensures E none none) (s .3))
+    (⊎-elim (λ s. performed E (l .h) (l .stack) w class (s .1 .given .1) tt refl (s .2 .ensures) (s .6 ∙ s .4 .ensures E none) (s .5))
+    (⊎-elim (λ s. performed E (l .h) (l .stack) w class (s .1 .given .1) tt refl (s .2 .ensures) (s .6 ∙ s .4 .ensures E none) (s .5))
+    (⊎-elim (λ s. performed E (l .h) (l .stack) w class (s .1 .given .1) tt refl refl (s .4 ∙ s .2 .ensures (now (a .image)) _ _) (s .3))
+    (⊎-elim (λ s. performed E (l .h) (l .stack) w class (s .1 .given .1) tt refl (s .2 .ensures) (s .6 ∙ s .4 .ensures (now (a .image)) _) (s .5))
+    (⊎-elim (λ s. performed E (l .h) (l .stack) w class (s .1 .given .1) tt refl refl (s .4 ∙ s .2 .ensures (a .tick) _ _) (s .3))
+    (⊎-elim (λ s. performed E (l .h) (l .stack) w class (s .1 .given .1) tt refl (s .2 .ensures) (s .6 ∙ s .4 .ensures (a .tick) _) (s .5))
+    (⊎-elim (λ s. performed E (l .h) (l .stack) w class (s .1 .given .1) tt refl (s .2 .ensures) (s .6 ∙ s .4 .ensures E _) (s .5))
+    (⊎-elim (λ s. performed E (l .h) (l .stack) w class (s .1 .given .1) tt (s .2 .ensures) (s .4 .ensures) (s .8 ∙ s .6 .ensures E) (s .7))
+    (⊎-elim (λ s. totalled E (l .h) (l .stack) w class (s .1 .given .1) (s .2 .ensures (a .tick)) (s .6 ∙ s .4 .ensures) (s .5))
+    (⊎-elim (λ s. matched E (l .h) (l .stack) w class (s .1 .given .1) (s .2 .ensures) (s .4 .ensures (a .tick)) (s .6 .ensures) (s .9 ∙ s .7 .ensures) (s .8))
+    (λ s. performed E (l .h) (l .stack) w class (s .1 .given .1) tt refl refl (s .4 ∙ s .2 .ensures) (s .3))))))))))))))
     (c .match .came))
 
 min-requires : tie.Need-min-requires Inv-loop μ-loop
@@ -55,7 +57,7 @@ min-requires c κs = search needs
 loop-holds : tie.Need-loop-holds Inv-loop μ-loop
 unfolding held
 loop-holds c =
-    (refl, omega arith, omega arith, rw (c .min .ensures) (minimum-left _ _), rw (c .min .ensures) (minimum-right _ _), starts _ _ _)
+    (refl, omega arith, omega arith, rw (c .min .ensures) (minimum-left _ _), rw (c .min .ensures) (minimum-right _ _), omega arith, starts _ _ _)
 
 fetch-requires : tie.Need-fetch-requires Inv-loop μ-loop
 fetch-requires c κs = search needs
@@ -198,6 +200,48 @@ binary-requires c κs = search needs
 enum-told-12 : tie.Need-enum-told-12 Inv-loop μ-loop
 enum-told-12 c = search needs
 
+total-requires : tie.Need-total-requires Inv-loop μ-loop
+total-requires c κs = search needs
+
+cast-count : tie.Need-cast-count Inv-loop μ-loop
+cast-count c = search needs
+
+add-count-2 : tie.Need-add-count-2 Inv-loop μ-loop
+add-count-2 c = omega arith
+
+outcome-step-requires : tie.Need-outcome-step-requires Inv-loop μ-loop
+outcome-step-requires c κs = search needs
+
+enum-told-13 : tie.Need-enum-told-13 Inv-loop μ-loop
+enum-told-13 c = search needs
+
+from-top-requires-8 : tie.Need-from-top-requires-8 Inv-loop μ-loop
+from-top-requires-8 c κs = search needs
+
+mul-matching : tie.Need-mul-matching Inv-loop μ-loop
+mul-matching c = omega arith
+
+array-copy-out-matching : tie.Need-array-copy-out-matching Inv-loop μ-loop
+array-copy-out-matching c = omega arith
+
+matching-requires : tie.Need-matching-requires Inv-loop μ-loop
+matching-requires c κs = search needs
+
+cast-count-2 : tie.Need-cast-count-2 Inv-loop μ-loop
+cast-count-2 c = search needs
+
+add-count-3 : tie.Need-add-count-3 Inv-loop μ-loop
+add-count-3 c = omega arith
+
+from-top-requires-9 : tie.Need-from-top-requires-9 Inv-loop μ-loop
+from-top-requires-9 c κs = search needs
+
+outcome-step-requires-2 : tie.Need-outcome-step-requires-2 Inv-loop μ-loop
+outcome-step-requires-2 c κs = search needs
+
+enum-told-14 : tie.Need-enum-told-14 Inv-loop μ-loop
+enum-told-14 c = search needs
+
 stuck-step-requires : tie.Need-stuck-step-requires Inv-loop μ-loop
 stuck-step-requires c κs = search needs
 
@@ -207,17 +251,17 @@ add-place c = let q = nearer (made (c .before)) in omega arith
 add-place-2 : tie.Need-add-place-2 Inv-loop μ-loop
 add-place-2 c = let q = nearer (made (c .before)) in omega arith
 
-enum-told-13 : tie.Need-enum-told-13 Inv-loop μ-loop
-enum-told-13 c = search needs
+enum-told-15 : tie.Need-enum-told-15 Inv-loop μ-loop
+enum-told-15 c = search needs
 
 mul-stack : tie.Need-mul-stack Inv-loop μ-loop
-mul-stack c = let q = (onward (made (c .before .before .before)) (c .enum-told13 .given .1)) .0 in omega arith
+mul-stack c = let q = (onward (made (c .before .before .before)) (c .enum-told15 .given .1)) .0 in omega arith
 
 array-set-from-stack : tie.Need-array-set-from-stack Inv-loop μ-loop
-array-set-from-stack c = let q = (onward (made (c .before .before .before)) (c .enum-told13 .given .1)) .0 in omega arith
+array-set-from-stack c = let q = (onward (made (c .before .before .before)) (c .enum-told15 .given .1)) .0 in omega arith
 
 add-h : tie.Need-add-h Inv-loop μ-loop
-add-h c = let q = (onward (made (c .before .before .before)) (c .enum-told13 .given .1)) .0 in omega arith
+add-h c = let q = (onward (made (c .before .before .before)) (c .enum-told15 .given .1)) .0 in omega arith
 
 loop-less : tie.Need-loop-less Inv-loop μ-loop
 loop-less c = omega arith
@@ -225,11 +269,12 @@ loop-less c = omega arith
 loop-again : tie.Need-loop-again Inv-loop μ-loop
 loop-again c =
     let l = c .before .before .before .before .before .before .before .loop in
-    let on = onward (made (c .before .before .before)) (c .enum-told13 .given .1) in
-    (simp length-set (l .inv .0), omega (arith, on .0), omega arith, l .inv .3, l .inv .4, on .1 (l .inv .0))
+    let t = made (c .before .before .before) in
+    let on = onward t (c .enum-told15 .given .1) in
+    (simp length-set (l .inv .0), omega (arith, on .0), omega (arith, few t), l .inv .3, l .inv .4, l .inv .5, on .1 (l .inv .0))
 
-enum-told-14 : tie.Need-enum-told-14 Inv-loop μ-loop
-enum-told-14 c = search needs
+enum-told-16 : tie.Need-enum-told-16 Inv-loop μ-loop
+enum-told-16 c = search needs
 
 loop-less-2 : tie.Need-loop-less-2 Inv-loop μ-loop
 loop-less-2 c = omega arith
@@ -238,7 +283,7 @@ loop-again-2 : tie.Need-loop-again-2 Inv-loop μ-loop
 loop-again-2 c =
     let l = c .before .before .before .before .before .before .before .loop in
     let t = made (c .before .before .before) in
-    (l .inv .0, omega (arith, lower t), omega arith, l .inv .3, l .inv .4, onward t (c .enum-told14 .given .1))
+    (l .inv .0, omega (arith, lower t), omega (arith, few t), l .inv .3, l .inv .4, l .inv .5, onward t (c .enum-told16 .given .1))
 
 failed-requires : tie.Need-failed-requires Inv-loop μ-loop
 failed-requires c κs = search needs
@@ -255,7 +300,7 @@ finished-requires c κs = omega arith
 returns-2 : tie.Need-returns-2 Inv-loop μ-loop
 returns-2 c =
     let l = c .before .before .before .loop in
-    c .finished .ensures ∙ finishes (l .h) _ (l .inv .5) (rw (c .before .before .before .before .min .ensures) at (c .before .before .loop-test .left)) (held-finish (l .h) (l .stack))
+    c .finished .ensures ∙ finishes (l .h) _ (l .inv .6) (rw (c .before .before .before .before .min .ensures) at (c .before .before .loop-test .left)) (held-finish (l .h) (l .stack))
 
 pub run-spec : {M : Type 1} → statement M
 run-spec =
@@ -312,16 +357,30 @@ run-spec =
     array-copy-out-binary-2
     binary-requires
     enum-told-12
+    total-requires
+    cast-count
+    add-count-2
+    outcome-step-requires
+    enum-told-13
+    from-top-requires-8
+    mul-matching
+    array-copy-out-matching
+    matching-requires
+    cast-count-2
+    add-count-3
+    from-top-requires-9
+    outcome-step-requires-2
+    enum-told-14
     stuck-step-requires
     add-place
     add-place-2
-    enum-told-13
+    enum-told-15
     mul-stack
     array-set-from-stack
     add-h
     loop-less
     loop-again
-    enum-told-14
+    enum-told-16
     loop-less-2
     loop-again-2
     failed-requires

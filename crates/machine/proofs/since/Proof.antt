@@ -24,8 +24,11 @@ stuck-step-requires-2 c κs = search needs
 
 returns-2 : tie.Need-returns-2
 returns-2 c = λ m l.
-    let a = c .before .before .before .before .args in
-    c .stuck-step2 .ensures ∙ spoilt (memoryAt (a .tick) m) (a .h) l (a .v) applySince (wordOf (a .w)) refl (c .before .before .word-of .ensures) (c .before .if2 .taken)
+    let at-if2 = c .before in
+    let at-word-of = at-if2 .before in
+    let start = at-word-of .before .before in
+    let a = start .args in
+    c .stuck-step2 .ensures ∙ spoilt (memoryAt (a .tick) m) (a .h) l (a .v) applySince (wordOf (a .w)) refl (at-word-of .word-of .ensures) (at-if2 .if2 .taken)
 
 since-requires : tie.Need-since-requires
 since-requires c κs = search needs

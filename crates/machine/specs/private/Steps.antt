@@ -16,8 +16,18 @@ use Rattle.operators.specs.Operators.{unaryRule, sinceRule, binaryRule, truthRu
 use Rattle.memory.specs.declared.Bank.{Bank}
 use Rattle.memory.specs.Layout.{layoutOf}
 use Rattle.memory.specs.Environment.{Environment, indexedCell, memoryAt}
+use Rattle.memory.specs.declared.numbers.BankOf.{BankOf}
+use Rattle.memory.specs.declared.numbers.BankOf.the-variants as BankOf
+use Rattle.memory.specs.Numbers.{bankNumbered}
+use Rattle.totals.specs.declared.Visited.{Visited}
+use Rattle.totals.specs.declared.tables.TotalOf.{TotalOf}
+use Rattle.totals.specs.declared.tables.TotalOf.the-variants as TotalOf
+use Rattle.totals.specs.declared.tables.MatchOf.{MatchOf}
+use Rattle.totals.specs.declared.tables.MatchOf.the-variants as MatchOf
+use Rattle.totals.specs.Totals.{totalOver, matchOver, goodRange}
 use Rattle.code.specs.declared.Instr.{Instr}
-use Rattle.code.specs.declared.Instr.the-variants.{PushInt, PushReal, Load, LoadIndexed, Unary, Binary, Jump, JumpIf, Tick, Since, Unknown}
+use Rattle.code.specs.declared.Instr.the-variants.{PushInt, PushReal, Load, LoadIndexed, Unary, Binary, Jump, JumpIf, Tick, Since, Total, Match, Unknown}
+use Rattle.code.specs.Instructions.{rangeBank, rangeFirst, rangeCount}
 use Rattle.machine.specs.declared.Ended.{Ended}
 use Rattle.machine.specs.declared.Ended.the-variants.{Done, Stopped, Stuck}
 use Rattle.machine.specs.declared.Ran.{Ran}
@@ -76,6 +86,8 @@ stepOf E (Jump d) h l r = skipStep h d
 stepOf E (JumpIf t d) h l r = jumpStep h r t d
 stepOf E Tick h l r = pushOrStuck h (Int (signedOf 32 (E .tick)))
 stepOf E Since h l r = givenStep h 1 (sinceRule (E .tick) r)
+stepOf E (Total o b i n) h l r = outcomeStep h (totalOver E o b i n .result)
+stepOf E (Match o b i n) h l r = givenStep h 1 (matchOver E o r b i n .result)
 stepOf E Unknown h l r = stuckStep
 
 -- x is the step of an instruction that takes no value, wherever it is run; that takes the last value, r; that takes the two last
@@ -101,6 +113,35 @@ IsTick t i h x = (m : List ℕ) (l r : Value) → x ≡ stepOf (memoryAt t m) i 
 
 abbrev pub IsTickOn : ℕ → Instr → ℕ → Value → Step → Type 0
 IsTickOn t i h r x = (m : List ℕ) (l : Value) → x ≡ stepOf (memoryAt t m) i h l r
+
+-- ---- what going over a range comes to
+-- where there is no range, no operator or no value to compare with: no cell is begun, and the outcome makes a step that is stuck
+abbrev pub noVisit : Visited
+noVisit = record { result = Outcome.WrongKind; cells = 0 }
+
+abbrev pub bankVisit : (Bank → ℕ → ℕ → Visited) → BankOf → ℕ → ℕ → Visited
+bankVisit f (BankOf.Is b) i n = cond (goodRange b i n) (f b i n) noVisit
+bankVisit f BankOf.Nothing i n = noVisit
+
+-- over the range of the word w
+abbrev pub wordVisit : (Bank → ℕ → ℕ → Visited) → ℕ → Visited
+wordVisit f w = bankVisit f (bankNumbered (rangeBank w)) (rangeFirst w) (rangeCount w)
+
+abbrev pub totalVisit : Environment → TotalOf → ℕ → Visited
+totalVisit E (TotalOf.Is o) w = wordVisit (totalOver E o) w
+totalVisit E TotalOf.Nothing w = noVisit
+
+abbrev pub matchVisit : Environment → MatchOf → Value → ℕ → Visited
+matchVisit E (MatchOf.Is o) v w = wordVisit (matchOver E o v) w
+matchVisit E MatchOf.Nothing v w = noVisit
+
+-- with the last of h values
+abbrev pub onLast : ℕ → Visited → Visited
+onLast h x = cond (ltb h 1) noVisit x
+
+-- x is what going over a range in the memory m comes to, at any tick
+abbrev pub IsVisit : List ℕ → (Environment → Visited) → Visited → Type 0
+IsVisit m f x = (t : ℕ) → x ≡ f (memoryAt t m)
 
 -- a load from the bank, of an element that may be beyond it
 abbrev pub bankStep : Environment → Bank → ℕ → ℕ → Step

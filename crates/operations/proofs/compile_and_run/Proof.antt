@@ -1,64 +1,29 @@
 -- `compile_and_run` meets its contract: the tests in their order, then the code of the formula's tree is run.
-use mathlib.Core.Path.{_≡_, refl, sym, ap, _∙_}
-use mathlib.Core.List.{List}
-use Prim.Native.Nat.{ℕ, _≤_}
+use mathlib.Core.Path.{_≡_, refl, sym, ap, subst⁻¹, _∙_}
+use Prim.Native.Nat.{_≤_}
 use native.Mathlib.Omega.{arith}
-use lib.ListN.{length}
-use Rattle.memory.specs.declared.Bank.{Bank}
 use Rattle.text.specs.Judge.{judge}
+use Rattle.text.specs.Targets.{targetOf}
+use Rattle.machine.specs.declared.Ran.{Ran}
 use Rattle.compiler.specs.Compile.{codedAnswer, codedBytes}
-use Rattle.operations.specs.Operations.{Request, ofText, request}
-use Rattle.operations.proofs.Requests.{no-memory, no-room, named, with-room, refuses, refuses-text, performs}
+use Rattle.operations.specs.private.Bounds.{mostBegun}
+use Rattle.operations.proofs.Verdicts.{few-begun}
+use Rattle.operations.proofs.Requests.{no-memory, no-room, no-index-room, named, bad-target, good-target, few-compiled, few-coded, arrives, with-room, refuses, refuses-text, performs}
 use borrow.Author.Needs.{needs}
 use Rattle.operations.proofs.compile_and_run.Statement.{statement}
 use Rattle.operations.proofs.compile_and_run.Tie as tie
 
-module _ (c : tie.Start) where
-  abbrev target : List ℕ
-  target = c .args .target .now
-
-  abbrev text : List ℕ
-  text = c .args .text .now
-
-  abbrev memory : List ℕ
-  memory = c .args .memory .now
-
-  abbrev code : List ℕ
-  code = c .args .code .now
-
-  abbrev asked : Request
-  asked = request target text memory code
-
--- the sizes and the target are good
-module _ (c : tie.After-known-told) where
-  abbrev start : tie.Start
-  start = c .before .before .before .before .before .before .before .before .before .before
-
-  abbrev bank : Bank
-  bank = c .before .bank .given .0 .0
-
-  abbrev element : ℕ
-  element = c .before .bank .given .0 .1 .0
-
-  room : 16384 ≤ length (code start)
-  room = omega arith
-
-  the-text : asked start ≡ ofText (code start) bank element (judge (text start))
-  the-text =
-      named (target start) (text start) (memory start) (code start) (omega arith) room (sym (c .before .before .before .target-of .ensures) ∙ c .before .bank .given .1)
-
 returns : tie.Need-returns
-returns c =
-    let s = c .before .before .before .before .before in
-    refuses (s .args .tick) (memory s) (code s) (no-memory (target s) (text s) (memory s) (code s) (λ e. omega arith))
+returns c = refuses (c .before .before .before .before .before .before .args .tick) (c .before .before .before .before .before .before .args .memory .now) (c .before .before .before .before .before .before .args .code .now) (c .before .before .before .before .before .before .args .index .now) (no-memory (c .before .before .before .before .before .before .args .target .now) (c .before .before .before .before .before .before .args .text .now) (c .before .before .before .before .before .before .args .memory .now) (c .before .before .before .before .before .before .args .code .now) (c .before .before .before .before .before .before .args .index .now) (λ e. omega arith))
 
 returns-2 : tie.Need-returns-2
-returns-2 c =
-    let s = c .before .before .before .before .before .before in
-    refuses (s .args .tick) (memory s) (code s) (no-room (target s) (text s) (memory s) (code s) (omega arith) (omega arith))
+returns-2 c = refuses (c .before .before .before .before .before .before .before .args .tick) (c .before .before .before .before .before .before .before .args .memory .now) (c .before .before .before .before .before .before .before .args .code .now) (c .before .before .before .before .before .before .before .args .index .now) (no-room (c .before .before .before .before .before .before .before .args .target .now) (c .before .before .before .before .before .before .before .args .text .now) (c .before .before .before .before .before .before .before .args .memory .now) (c .before .before .before .before .before .before .before .args .code .now) (c .before .before .before .before .before .before .before .args .index .now) (omega arith) (omega arith))
 
-target-of-requires : tie.Need-target-of-requires
-target-of-requires c κs = search needs
+returns-3 : tie.Need-returns-3
+returns-3 c = refuses (c .before .before .before .before .before .before .before .before .args .tick) (c .before .before .before .before .before .before .before .before .args .memory .now) (c .before .before .before .before .before .before .before .before .args .code .now) (c .before .before .before .before .before .before .before .before .args .index .now) (no-index-room (c .before .before .before .before .before .before .before .before .args .target .now) (c .before .before .before .before .before .before .before .before .args .text .now) (c .before .before .before .before .before .before .before .before .args .memory .now) (c .before .before .before .before .before .before .before .before .args .code .now) (c .before .before .before .before .before .before .before .before .args .index .now) (omega arith) (omega arith) (omega arith))
+
+judge-requires : tie.Need-judge-requires
+judge-requires c κs = search needs
 
 enum-known-bank : tie.Need-enum-known-bank
 enum-known-bank c = search needs
@@ -66,10 +31,10 @@ enum-known-bank c = search needs
 enum-told : tie.Need-enum-told
 enum-told c = search needs
 
-returns-3 : tie.Need-returns-3
-returns-3 c =
-    let s = c .before .before .before .before .before .before .before .before .before in
-    refuses (s .args .tick) (memory s) (code s) (named (target s) (text s) (memory s) (code s) (omega arith) (omega arith) (sym (c .before .before .target-of .ensures) ∙ c .enum-told .given .1))
+returns-4 : tie.Need-returns-4
+returns-4 c =
+    let bad = bad-target (c .before .before .before .before .before .before .before .before .before .before .before .args .text .now) (c .before .before .before .before .before .before .before .before .before .before .before .args .code .now) (c .before .before .before .before .before .before .before .before .before .before .before .args .index .now) (targetOf (c .before .before .before .before .before .before .before .before .before .before .before .args .target .now)) (sym (c .before .before .judge .ensures) ∙ c .enum-told .given .1) in
+    refuses (c .before .before .before .before .before .before .before .before .before .before .before .args .tick) (c .before .before .before .before .before .before .before .before .before .before .before .args .memory .now) (c .before .before .before .before .before .before .before .before .before .before .before .args .code .now) (c .before .before .before .before .before .before .before .before .before .before .before .args .index .now) (named (c .before .before .before .before .before .before .before .before .before .before .before .args .target .now) (c .before .before .before .before .before .before .before .before .before .before .before .args .text .now) (c .before .before .before .before .before .before .before .before .before .before .before .args .memory .now) (c .before .before .before .before .before .before .before .before .before .before .before .args .code .now) (c .before .before .before .before .before .before .before .before .before .before .before .args .index .now) (omega arith) (omega arith) (omega arith) refl ∙ bad)
 
 compile-requires : tie.Need-compile-requires
 compile-requires c κs = search needs
@@ -77,11 +42,20 @@ compile-requires c κs = search needs
 enum-known-count : tie.Need-enum-known-count
 enum-known-count c = search needs
 
+write-index-requires : tie.Need-write-index-requires
+write-index-requires c κs = (omega arith, (c .before .before .before .before .before .before .before .before .before .bank .given .0 .0, sym (c .before .before .before .before .before .before .before .before .before .before .before .judge .ensures) ∙ c .before .before .before .before .before .before .before .before .before .bank .given .1))
+
 run-requires : tie.Need-run-requires
-run-requires c κs = search needs
+run-requires c κs =
+    let done = sym (c .before .before .before .before .before .before .before .count .given .1) ∙ c .before .before .before .before .before .before .before .before .before .before .before .compile .ensures .0 ∙ ap codedAnswer (with-room (c .before .before .before .before .before .before .before .before .before .before .before .before .before .before .before .before .before .before .before .before .before .before .before .before .before .args .code .now) (c .before .before .before .before .before .before .before .before .before .before .before .before .before .before .before .before .before .before .before .before .before .before .before .before .before .args .text .now) (omega arith)) in
+    few-coded (c .before .before .before .before .before .before .before .before .before .before .before .before .before .before .before .before .before .before .before .before .before .before .before .before .before .args .text .now) (judge (c .before .before .before .before .before .before .before .before .before .before .before .before .before .before .before .before .before .before .before .before .before .before .before .before .before .args .text .now)) refl done
 
 finish-requires : tie.Need-finish-requires
-finish-requires c κs = search needs
+finish-requires c κs =
+    let done = sym (c .before .before .before .before .before .before .before .before .before .before .count .given .1) ∙ c .before .before .before .before .before .before .before .before .before .before .before .before .before .before .compile .ensures .0 ∙ ap codedAnswer (with-room (c .before .before .before .before .before .before .before .before .before .before .before .before .before .before .before .before .before .before .before .before .before .before .before .before .before .before .before .before .args .code .now) (c .before .before .before .before .before .before .before .before .before .before .before .before .before .before .before .before .before .before .before .before .before .before .before .before .before .before .before .before .args .text .now) (omega arith)) in (
+      few-compiled (c .before .before .before .before .before .before .before .before .before .before .before .before .before .before .before .before .before .before .before .before .before .before .before .before .before .before .before .before .args .target .now) (targetOf (c .before .before .before .before .before .before .before .before .before .before .before .before .before .before .before .before .before .before .before .before .before .before .before .before .before .before .before .before .args .target .now)) refl (sym (c .before .before .before .before .before .before .before .before .before .before .before .before .before .before .before .before .before .before .before .judge .ensures) ∙ c .before .before .before .before .before .before .before .before .before .before .before .before .before .before .before .before .before .bank .given .1),
+      subst⁻¹ (λ (x : Ran). x .count ≤ mostBegun) (c .before .before .run .ensures) (few-begun _ _ (c .before .before .before .before .before .before .before .before .before .before .before .before .before .before .before .before .before .before .before .before .before .before .before .before .before .before .before .before .args .tick) (c .before .before .before .before .before .before .before .before .before .before .before .before .before .before .before .before .before .before .before .before .before .before .before .before .before .before .before .before .args .memory .now) (few-coded (c .before .before .before .before .before .before .before .before .before .before .before .before .before .before .before .before .before .before .before .before .before .before .before .before .before .before .before .before .args .text .now) (judge (c .before .before .before .before .before .before .before .before .before .before .before .before .before .before .before .before .before .before .before .before .before .before .before .before .before .before .before .before .args .text .now)) refl done)),
+    )
 
 enum-known-a : tie.Need-enum-known-a
 enum-known-a c = search needs
@@ -92,26 +66,26 @@ same-length c = search needs
 same-length-2 : tie.Need-same-length-2
 same-length-2 c = search needs
 
-returns-4 : tie.Need-returns-4
-returns-4 c =
-    let g = c .before .before .before .before .before .before .before .before .before .before .before .before .before .before in
-    let s = start g in
-    let e = with-room (code s) (text s) (room g) in
-    let w = c .before .before .before .before .before .before .before .before .before .before .before .before .compile .ensures in
-    let done = sym (c .before .before .before .before .before .before .before .before .count .given .1) in
-    performs (s .args .tick) (text s) (code s) (memory s) (bank g) (element g) (judge (text s)) (the-text g) refl (room g) (done ∙ w .0 ∙ ap codedAnswer e) (w .1 ∙ ap (codedBytes (code s)) e)
-    (c .before .before .before .before .run .ensures) (c .before .before .finish .ensures)
-
 same-length-3 : tie.Need-same-length-3
 same-length-3 c = search needs
 
 returns-5 : tie.Need-returns-5
 returns-5 c =
-    let g = c .before .before .before .before .before .before .before in
-    let s = start g in
-    let e = with-room (code s) (text s) (room g) in
+    let q = named (c .before .before .before .before .before .before .before .before .before .before .before .before .before .before .before .before .before .before .before .before .before .before .before .before .before .before .before .before .before .before .before .args .target .now) (c .before .before .before .before .before .before .before .before .before .before .before .before .before .before .before .before .before .before .before .before .before .before .before .before .before .before .before .before .before .before .before .args .text .now) (c .before .before .before .before .before .before .before .before .before .before .before .before .before .before .before .before .before .before .before .before .before .before .before .before .before .before .before .before .before .before .before .args .memory .now) (c .before .before .before .before .before .before .before .before .before .before .before .before .before .before .before .before .before .before .before .before .before .before .before .before .before .before .before .before .before .before .before .args .code .now) (c .before .before .before .before .before .before .before .before .before .before .before .before .before .before .before .before .before .before .before .before .before .before .before .before .before .before .before .before .before .before .before .args .index .now) (omega arith) (omega arith) (omega arith) refl ∙ good-target (c .before .before .before .before .before .before .before .before .before .before .before .before .before .before .before .before .before .before .before .before .before .before .before .before .before .before .before .before .before .before .before .args .text .now) (c .before .before .before .before .before .before .before .before .before .before .before .before .before .before .before .before .before .before .before .before .before .before .before .before .before .before .before .before .before .before .before .args .code .now) (c .before .before .before .before .before .before .before .before .before .before .before .before .before .before .before .before .before .before .before .before .before .before .before .before .before .before .before .before .before .before .before .args .index .now) (targetOf (c .before .before .before .before .before .before .before .before .before .before .before .before .before .before .before .before .before .before .before .before .before .before .before .before .before .before .before .before .before .before .before .args .target .now)) (sym (c .before .before .before .before .before .before .before .before .before .before .before .before .before .before .before .before .before .before .before .before .before .before .judge .ensures) ∙ c .before .before .before .before .before .before .before .before .before .before .before .before .before .before .before .before .before .before .before .before .bank .given .1) in
+    let e = with-room (c .before .before .before .before .before .before .before .before .before .before .before .before .before .before .before .before .before .before .before .before .before .before .before .before .before .before .before .before .before .before .before .args .code .now) (c .before .before .before .before .before .before .before .before .before .before .before .before .before .before .before .before .before .before .before .before .before .before .before .before .before .before .before .before .before .before .before .args .text .now) (omega arith) in
+    let w = c .before .before .before .before .before .before .before .before .before .before .before .before .before .before .before .before .before .compile .ensures in
+    let goes = arrives (c .before .before .before .before .before .before .before .before .before .before .before .before .before .before .before .before .before .before .before .before .before .before .before .before .before .before .before .before .before .before .before .args .target .now) (c .before .before .before .before .before .before .before .before .before .before .before .before .before .before .before .before .before .before .before .before .before .before .before .before .before .before .before .before .before .before .before .args .tick) (c .before .before .before .before .before .before .before .before .before .before .before .before .before .before .before .before .before .before .before .before .before .before .before .before .before .before .before .before .before .before .before .args .memory .now) (c .before .before .before .before .before .before .before .before .before .before .before .before .before .before .before .before .before .before .before .before .before .before .before .before .before .before .before .before .before .before .before .args .index .now) (targetOf (c .before .before .before .before .before .before .before .before .before .before .before .before .before .before .before .before .before .before .before .before .before .before .before .before .before .before .before .before .before .before .before .args .target .now)) refl (omega arith) (sym (c .before .before .before .before .before .before .before .before .before .before .before .before .before .before .before .before .before .before .before .before .before .before .judge .ensures) ∙ c .before .before .before .before .before .before .before .before .before .before .before .before .before .before .before .before .before .before .before .before .bank .given .1) in
+    performs (c .before .before .before .before .before .before .before .before .before .before .before .before .before .before .before .before .before .before .before .before .before .before .before .before .before .before .before .before .before .before .before .args .tick) (c .before .before .before .before .before .before .before .before .before .before .before .before .before .before .before .before .before .before .before .before .before .before .before .before .before .before .before .before .before .before .before .args .text .now) (c .before .before .before .before .before .before .before .before .before .before .before .before .before .before .before .before .before .before .before .before .before .before .before .before .before .before .before .before .before .before .before .args .code .now) (c .before .before .before .before .before .before .before .before .before .before .before .before .before .before .before .before .before .before .before .before .before .before .before .before .before .before .before .before .before .before .before .args .index .now) (c .before .before .before .before .before .before .before .before .before .before .before .before .before .before .before .before .before .before .before .before .before .before .before .before .before .before .before .before .before .before .before .args .memory .now) (targetOf (c .before .before .before .before .before .before .before .before .before .before .before .before .before .before .before .before .before .before .before .before .before .before .before .before .before .before .before .before .before .before .before .args .target .now)) (c .before .before .before .before .before .before .before .before .before .before .before .before .before .before .before .before .before .before .before .before .bank .given .0 .0) (c .before .before .before .before .before .before .before .before .before .before .before .before .before .before .before .before .before .before .before .before .bank .given .0 .1 .0) (judge (c .before .before .before .before .before .before .before .before .before .before .before .before .before .before .before .before .before .before .before .before .before .before .before .before .before .before .before .before .before .before .before .args .text .now)) q refl (omega arith) (sym (c .before .before .before .before .before .before .before .before .before .before .before .before .before .count .given .1) ∙ w .0 ∙ ap codedAnswer e) (w .1 ∙ ap (codedBytes (c .before .before .before .before .before .before .before .before .before .before .before .before .before .before .before .before .before .before .before .before .before .before .before .before .before .before .before .before .before .before .before .args .code .now)) e) (c .before .before .before .before .before .before .before .before .before .before .write-index .ensures) (c .before .before .before .before .before .run .ensures) goes (c .before .before .finish .ensures)
+
+same-length-4 : tie.Need-same-length-4
+same-length-4 c = search needs
+
+returns-6 : tie.Need-returns-6
+returns-6 c =
+    let q = named (c .before .before .before .before .before .before .before .before .before .before .before .before .before .before .before .before .before .before .before .args .target .now) (c .before .before .before .before .before .before .before .before .before .before .before .before .before .before .before .before .before .before .before .args .text .now) (c .before .before .before .before .before .before .before .before .before .before .before .before .before .before .before .before .before .before .before .args .memory .now) (c .before .before .before .before .before .before .before .before .before .before .before .before .before .before .before .before .before .before .before .args .code .now) (c .before .before .before .before .before .before .before .before .before .before .before .before .before .before .before .before .before .before .before .args .index .now) (omega arith) (omega arith) (omega arith) refl ∙ good-target (c .before .before .before .before .before .before .before .before .before .before .before .before .before .before .before .before .before .before .before .args .text .now) (c .before .before .before .before .before .before .before .before .before .before .before .before .before .before .before .before .before .before .before .args .code .now) (c .before .before .before .before .before .before .before .before .before .before .before .before .before .before .before .before .before .before .before .args .index .now) (targetOf (c .before .before .before .before .before .before .before .before .before .before .before .before .before .before .before .before .before .before .before .args .target .now)) (sym (c .before .before .before .before .before .before .before .before .before .before .judge .ensures) ∙ c .before .before .before .before .before .before .before .before .bank .given .1) in
+    let e = with-room (c .before .before .before .before .before .before .before .before .before .before .before .before .before .before .before .before .before .before .before .args .code .now) (c .before .before .before .before .before .before .before .before .before .before .before .before .before .before .before .before .before .before .before .args .text .now) (omega arith) in
     let w = c .before .before .before .before .before .compile .ensures in
-    refuses-text (s .args .tick) (code s) (memory s) (bank g) (element g) (judge (text s)) (the-text g) (sym (c .before .a .given .1) ∙ w .0 ∙ ap codedAnswer e) (w .1 ∙ ap (codedBytes (code s)) e)
+    refuses-text (c .before .before .before .before .before .before .before .before .before .before .before .before .before .before .before .before .before .before .before .args .tick) (c .before .before .before .before .before .before .before .before .before .before .before .before .before .before .before .before .before .before .before .args .code .now) (c .before .before .before .before .before .before .before .before .before .before .before .before .before .before .before .before .before .before .before .args .index .now) (c .before .before .before .before .before .before .before .before .before .before .before .before .before .before .before .before .before .before .before .args .memory .now) (targetOf (c .before .before .before .before .before .before .before .before .before .before .before .before .before .before .before .before .before .before .before .args .target .now)) (judge (c .before .before .before .before .before .before .before .before .before .before .before .before .before .before .before .before .before .before .before .args .text .now)) q (sym (c .before .a .given .1) ∙ w .0 ∙ ap codedAnswer e) (w .1 ∙ ap (codedBytes (c .before .before .before .before .before .before .before .before .before .before .before .before .before .before .before .before .before .before .before .args .code .now)) e)
 
 pub compile-and-run-spec : {M : Type 1} → statement M
 compile-and-run-spec =
@@ -119,17 +93,20 @@ compile-and-run-spec =
     (tie.spec
     returns
     returns-2
-    target-of-requires
+    returns-3
+    judge-requires
     enum-known-bank
     enum-told
-    returns-3
+    returns-4
     compile-requires
     enum-known-count
+    write-index-requires
     run-requires
     finish-requires
     enum-known-a
     same-length
     same-length-2
-    returns-4
     same-length-3
-    returns-5)
+    returns-5
+    same-length-4
+    returns-6)

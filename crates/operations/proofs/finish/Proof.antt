@@ -7,14 +7,14 @@ use Rattle.operations.proofs.finish.Tie as tie
 enum-known-end : tie.Need-enum-known-end
 enum-known-end c = search needs
 
-stored-requires : tie.Need-stored-requires
-stored-requires c κs = search needs
+follow-requires : tie.Need-follow-requires
+follow-requires c κs = search needs
 
 enum-known-end-2 : tie.Need-enum-known-end-2
 enum-known-end-2 c = search needs
 
-set-flag-requires : tie.Need-set-flag-requires
-set-flag-requires c κs = search needs
+flagged-requires : tie.Need-flagged-requires
+flagged-requires c κs = search needs
 
 enum-told : tie.Need-enum-told
 enum-told c = search needs
@@ -23,13 +23,13 @@ same-length : tie.Need-same-length
 same-length c = search needs
 
 returns : tie.Need-returns
-returns c = rw (c .before .before .before .before .before .end .given .1) (c .before .before .stored .ensures)
+returns c = rw (c .before .before .before .before .before .end .given .1) (c .before .before .follow .ensures)
 
 same-length-2 : tie.Need-same-length-2
 same-length-2 c = search needs
 
 returns-2 : tie.Need-returns-2
-returns-2 c = rw (c .before .before .before .before .before .end2 .given .1) (refl, c .before .before .set-flag .ensures)
+returns-2 c = rw (c .before .before .before .before .before .end2 .given .1) (c .before .before .flagged .ensures)
 
 returns-3 : tie.Need-returns-3
 returns-3 c = rw (c .enum-told .given .1) (refl, refl)
@@ -39,9 +39,9 @@ finish-spec =
     tie.close
     (tie.spec
     enum-known-end
-    stored-requires
+    follow-requires
     enum-known-end-2
-    set-flag-requires
+    flagged-requires
     enum-told
     same-length
     returns

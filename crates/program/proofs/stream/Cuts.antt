@@ -12,10 +12,11 @@ use Rattle.memory.specs.declared.Bank.{Bank}
 use Rattle.memory.specs.declared.names.Named.{Named}
 use Rattle.memory.specs.declared.names.Named.the-variants.{Cell, Other}
 use Rattle.memory.specs.Layout.{imageSize}
-use Rattle.memory.specs.Names.{namedRule, targetRule}
+use Rattle.memory.specs.Names.{namedRule}
 use Rattle.tokens.specs.Bytes.{runLen}
 use Rattle.tokens.specs.Symbols.{equalBytes}
 use Rattle.text.specs.Judge.{refused, judgeFrom, judge}
+use Rattle.text.specs.Targets.{Target, toCell, toIndexed, noTarget, indexedTarget, targetOf}
 use Rattle.operations.specs.Operations.{reportOf, Request, stops, ofText, ofTarget, requestAnswer, requestMemory}
 use Rattle.lines.specs.Forms.{cellPattern}
 use Rattle.lines.specs.Lines.{except, keyLength}
@@ -29,30 +30,37 @@ use Rattle.program.proofs.case.Effects.{key-line, no-key}
 -- two cases have the same memory, target and formula, or refusals
 pub record Agrees (s t : Case) : Type 0 where
   pub memory : s .memory ≡ t .memory
-  pub target : targetRule (s .target) ≡ targetRule (t .target)
+  pub target : targetOf (s .target) ≡ targetOf (t .target)
   pub text : judge (s .text) ≡ judge (t .text)
 
 pub itself : (s : Case) → Agrees s s
 itself s = record { memory = refl; target = refl; text = refl }
 
 -- ---- they have one reply
-of-target : (a b : List ℕ) → judge a ≡ judge b → (n : Named) → ofTarget a (zeros 16384) n ≡ ofTarget b (zeros 16384) n
-of-target a b e (Cell c i) = ap (ofText (zeros 16384) c i) e
-of-target a b e Other = refl
+of-target : (a b : List ℕ) → judge a ≡ judge b → (g : Target) → ofTarget a (zeros 16384) (zeros 16384) g ≡ ofTarget b (zeros 16384) (zeros 16384) g
+of-target a b e (toCell c i) = ap (ofText (zeros 16384) (zeros 16384) (toCell c i)) e
+of-target a b e (toIndexed c t) = ap (ofText (zeros 16384) (zeros 16384) (toIndexed c t)) e
+of-target a b e noTarget = refl
 
-abbrev printed : List ℕ → Named → Request → List ℕ
-printed m n q = reportText (reportOf (requestAnswer programTick m q)) ++ storedText (requestMemory programTick m q) n (requestAnswer programTick m q)
+abbrev printed : List ℕ → Request → List ℕ
+printed m q = reportText (reportOf (requestAnswer programTick m q)) ++ storedText (requestMemory programTick m q) (requestAnswer programTick m q)
 
 abbrev guarded : List ℕ → Request → Request
-guarded m q = cond (eqb (length m) imageSize) (cond (ltb (length (zeros 16384)) 16384) (stops 10 0) q) (stops 1 0)
+guarded m q =
+    let room = ltb (length (zeros 16384)) 16384 in
+    cond (eqb (length m) imageSize) (cond room (stops 10 0) (cond room (stops 10 0) q)) (stops 1 0)
 
 pub same-reply : (s t : Case) → Agrees s t → replyTo s ≡ replyTo t
 same-reply s t a =
-    let n = targetRule (s .target) in
-    let q = ofTarget (t .text) (zeros 16384) (targetRule (t .target)) in
-    ap (λ (x : Request). printed (s .memory) n (guarded (s .memory) x)) (of-target (s .text) (t .text) (a .text) n ∙ ap (ofTarget (t .text) (zeros 16384)) (a .target))
-    ∙ ap (λ (x : Named). printed (s .memory) x (guarded (s .memory) q)) (a .target)
-    ∙ ap (λ (x : List ℕ). printed x (targetRule (t .target)) (guarded x q)) (a .memory)
+    let q = ofTarget (t .text) (zeros 16384) (zeros 16384) (targetOf (t .target)) in
+    ap (λ (x : Request). printed (s .memory) (guarded (s .memory) x))
+    (of-target (s .text) (t .text) (a .text) (targetOf (s .target)) ∙ ap (ofTarget (t .text) (zeros 16384) (zeros 16384)) (a .target))
+    ∙ ap (λ (x : List ℕ). printed x (guarded x q)) (a .memory)
+
+-- ---- a long target is none
+no-long-target : (s : List ℕ) → 1024 < length s → targetOf s ≡ noTarget
+unfolding targetOf indexedTarget
+no-long-target s h = rw (no-target s (omega arith), lt-leb (length s) 1024 h)
 
 -- ---- a long expression is refused whatever it says
 no-formula : (s : List ℕ) → 1024 < length s → judge s ≡ refused 3 0
@@ -109,7 +117,7 @@ either false f g = g refl
 
 -- two values under a key come to the same
 record Like (key v w : List ℕ) : Type 0 where
-  target : equalBytes key targetKey ≡ true → targetRule v ≡ targetRule w
+  target : equalBytes key targetKey ≡ true → targetOf v ≡ targetOf w
   text : equalBytes key exprKey ≡ true → judge v ≡ judge w
   form : (b : Bank) {i : ℕ} → namedRule key ≡ Cell b i → cellPattern b v ≡ cellPattern b w
 
@@ -166,7 +174,8 @@ module _ (s t : Case) (a : Agrees s t) where
       like : Like (take k l) (take (keptBytes - suc k) (drop (suc k) l)) (drop (suc k) l)
       like =
           record {
-            target = λ e. let z = same-length (take k l) targetKey e in no-target _ (omega (arith, front, name)) ∙ sym (no-target _ (omega (arith, rest, name)));
+            target =
+                λ e. let z = same-length (take k l) targetKey e in no-long-target _ (omega (arith, front, name)) ∙ sym (no-long-target _ (omega (arith, rest, name)));
             text = λ e. let z = same-length (take k l) exprKey e in no-formula _ (omega (arith, front, name)) ∙ sym (no-formula _ (omega (arith, rest, name)));
             form = λ b e. let z = short-name (take k l) e in no-value b _ (omega (arith, front, name)) ∙ sym (no-value b _ (omega (arith, rest, name)));
           }

@@ -33,7 +33,7 @@ no-name : (c d : ℕ) (s : List ℕ) (o : Scanned) → isDigit d ≡ true → fu
 no-name c d s o e =
     let h = digit-range d e in
     let not : (k : ℕ) → 58 < k → eqb k d ≡ false = λ k l. ne-eqb k d (λ q. omega arith) in
-    simp (not 66 (omega arith), not 79 (omega arith), not 82 (omega arith), not 65 (omega arith), not 73 (omega arith), not 70 (omega arith), and-false)
+    simp (not 66 (omega arith), not 79 (omega arith), not 82 (omega arith), not 65 (omega arith), not 73 (omega arith), not 70 (omega arith), not 85 (omega arith), not 86 (omega arith), and-false)
 
 on-list : (c d : ℕ) (cs : List ℕ) (p : ℕ) → isLetter c ≡ true → isDigit d ≡ true
     → runLexeme isWord wordToken (c ∷ d ∷ cs) p ≡ lexeme p (suc (runLen isWord (d ∷ cs))) (cellWord (cellAfterLetter (take (runLen isWord (d ∷ cs)) (d ∷ cs)) (letterBank c)))

@@ -21,12 +21,13 @@ use Rattle.memory.specs.declared.numbers.BankOf.{BankOf}
 use Rattle.memory.specs.declared.numbers.BankOf.the-variants as BankOf
 use Rattle.memory.specs.Layout.{layoutOf}
 use Rattle.memory.specs.Numbers.{bankNumbered, bankNumber}
+use Rattle.totals.specs.Numbers.{totalNumber, matchNumber}
 use Rattle.tokens.specs.declared.Function.{Function}
-use Rattle.tokens.specs.declared.Function.the-variants.{Abs, ToReal, ToInt, Trunc, Round, Frac, Max, Min, If, TickMs, Since}
+use Rattle.tokens.specs.declared.Function.the-variants.{Abs, ToReal, ToInt, Trunc, Round, Frac, Max, Min, If, TickMs, Since, Total, Match}
 use Rattle.tokens.specs.declared.Token.{Token}
 use Rattle.tokens.specs.declared.Token.the-variants.{Number, Cell, Letter, Name, Symbol}
 use Rattle.tokens.specs.Symbols.{symbolCount}
-use Rattle.tokens.specs.Words.{functionCount, functionAt}
+use Rattle.tokens.specs.Words.{functionCount, firstTotal, firstMatch, functionAt}
 use Rattle.tokens.specs.Scan.{Tok, Scan, tokens, wrong}
 use Rattle.token_table.specs.declared.Filled.{Filled}
 use Rattle.token_table.specs.declared.Filled.the-variants.{Good, Wrong}
@@ -53,6 +54,8 @@ functionNumber Min = 7
 functionNumber If = 8
 functionNumber TickMs = 9
 functionNumber Since = 10
+functionNumber (Total o) = firstTotal + totalNumber o
+functionNumber (Match o) = firstMatch + matchNumber o
 
 abbrev pub functionNumbered : ℕ → FunctionOf
 functionNumbered n = cond (ltb n functionCount) (FunctionOf.Is (functionAt n)) FunctionOf.Nothing

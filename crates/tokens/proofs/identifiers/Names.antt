@@ -16,8 +16,8 @@ use Rattle.tokens.specs.declared.Token.the-variants.{Name}
 use Rattle.tokens.specs.declared.Scanned.{Scanned}
 use Rattle.tokens.specs.declared.Scanned.the-variants.{Good, Bad}
 use Rattle.tokens.specs.Symbols.{equalBytes}
-use Rattle.tokens.specs.Words.{nameOf, functionNamed, functions, letterWord, cellWord, otherWord, wordToken}
-use Rattle.tokens.specs.private.Rows.{Row, end, name, inRow, WordOf}
+use Rattle.tokens.specs.Words.{nameOf, functionNamed, functions, functionCount, letterWord, cellWord, otherWord, wordToken}
+use Rattle.tokens.specs.private.Rows.{Row, end, name, inRow, nameAt, Named}
 use Rattle.tokens.proofs.Same.{unlike}
 use Rattle.tokens.proofs.identifiers.Rows.{past-row}
 
@@ -35,7 +35,7 @@ by-length (f ∷ fs) s o = go (ofLength (length s) fs) (eqb (length (nameOf f)) 
     go gs true e h = ap (cond (equalBytes (nameOf f) s) (Good (Name f))) h
     go gs false e h = rw (← unlike (nameOf f) s (eqb-false _ _ e)) h
 
-pub one : (s : List ℕ) → length s ≡ 1 → otherWord s ≡ letterWord (letterBank (getD s 0 0))
+one : (s : List ℕ) → length s ≡ 1 → otherWord s ≡ letterWord (letterBank (getD s 0 0))
 unfolding otherWord
 one [] e = absurd (omega arith)
 one (c ∷ []) e = refl
@@ -66,33 +66,40 @@ row-of n (f ∷ fs) = go (ofLength n fs) (eqb (length (nameOf f)) n) refl (row-o
     go gs false e r = r
 
 -- a word of n bytes
-module _ {n : ℕ} {s : List ℕ} (w : WordOf n s) where
-  pub of-length : wordToken s ≡ functionNamed (ofLength n functions) s (otherWord s)
-  unfolding wordToken
-  of-length = by-length functions s (otherWord s) ∙ ap (λ (m : ℕ). functionNamed (ofLength m functions) s (otherWord s)) (w .long)
+module _ (n : ℕ) (s : List ℕ) (long : length s ≡ n) where
+  of-length : (o : Scanned) → functionNamed functions s o ≡ functionNamed (ofLength n functions) s o
+  of-length o = by-length functions s o ∙ ap (λ (m : ℕ). functionNamed (ofLength m functions) s o) long
 
   -- its place in the row of its length
   module _ {k : ℕ} (h : (fs : List Function) (o : Scanned) → Row (length s) (namesOf (ofLength n functions)) fs → functionNamed fs s o ≡ inRow k fs o) where
-    at-place : inRow k (ofLength n functions) (otherWord s) ≡ wordToken s
-    at-place =
-        let r = subst (λ (m : ℕ). Row m (namesOf (ofLength n functions)) (ofLength n functions)) (sym (w .long)) (row-of n functions) in
-        sym (of-length ∙ h (ofLength n functions) (otherWord s) r)
+    at-place : (o : Scanned) → functionNamed functions s o ≡ inRow k (ofLength n functions) o
+    at-place o =
+        let r = subst (λ (m : ℕ). Row m (namesOf (ofLength n functions)) (ofLength n functions)) (sym long) (row-of n functions) in
+        of-length o ∙ h (ofLength n functions) o r
 
-    pub a-name : (j : ℕ) → k ≡ j → inRow j (ofLength n functions) (otherWord s) ≡ wordToken s
-    a-name j e = ap (λ (i : ℕ). inRow i (ofLength n functions) (otherWord s)) (sym e) ∙ at-place
+    pub a-name : (j r : ℕ) → k ≡ j → ((o : Scanned) → inRow j (ofLength n functions) o ≡ nameAt r o) → Named s r
+    a-name j r e q = record { named = λ o. at-place o ∙ ap (λ (i : ℕ). inRow i (ofLength n functions) o) e ∙ q o }
 
-    pub no-name : (n ≡ 1 → ⊥) → length (ofLength n functions) ≤ k → Bad 6 ≡ wordToken s
-    no-name m l =
-        sym (no-cell s (w .no-cell) (λ e. m (sym (w .long) ∙ e))) ∙ sym (past-row k (ofLength n functions) (otherWord s) l) ∙ at-place
+    pub no-name : length (ofLength n functions) ≤ k → Named s functionCount
+    no-name l = record { named = λ o. at-place o ∙ past-row k (ofLength n functions) o l }
 
 -- a word of a length that no name has
-pub no-length : (s : List ℕ) → isDigit (getD s 1 0) ≡ false → length s ≢ 1 → length s ≢ 2 → length s ≢ 3 → length s ≢ 4 → length s ≢ 5 → length s ≢ 6
-    → Bad 6 ≡ wordToken s
-no-length s d not1 not2 not3 not4 not5 not6 =
-    sym (of-length (record { long = refl; no-cell = d }) ∙ ap (λ (fs : List Function). functionNamed fs s (otherWord s)) none ∙ no-cell s d not1)
+pub no-length : (s : List ℕ) → length s ≢ 2 → length s ≢ 3 → length s ≢ 4 → length s ≢ 5 → length s ≢ 6 → length s ≢ 7 → length s ≢ 9 → Named s functionCount
+no-length s not2 not3 not4 not5 not6 not7 not9 =
+    record { named = λ o. of-length (length s) s refl o ∙ ap (λ (fs : List Function). functionNamed fs s o) none }
   where
     not-of : (n : ℕ) → length s ≢ n → eqb n (length s) ≡ false
     not-of n m = ne-eqb n (length s) (λ e. m (sym e))
 
     none : ofLength (length s) functions ≡ []
-    none = rw (not-of 2 not2, not-of 3 not3, not-of 4 not4, not-of 5 not5, not-of 6 not6)
+    none = rw (not-of 2 not2, not-of 3 not3, not-of 4 not4, not-of 5 not5, not-of 6 not6, not-of 7 not7, not-of 9 not9)
+
+-- ---- words without a digit in the second place
+-- one byte: no function's name
+pub one-byte : (s : List ℕ) → length s ≡ 1 → wordToken s ≡ letterWord (letterBank (getD s 0 0))
+unfolding wordToken
+one-byte s e = of-length 1 s e (otherWord s) ∙ one s e
+
+pub more-bytes : (s : List ℕ) {r : ℕ} → isDigit (getD s 1 0) ≡ false → length s ≢ 1 → Named s r → wordToken s ≡ nameAt r (Bad 6)
+unfolding wordToken
+more-bytes s {r} d m h = h .named (otherWord s) ∙ ap (nameAt r) (no-cell s d m)

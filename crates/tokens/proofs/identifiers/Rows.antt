@@ -7,9 +7,7 @@ use native.Mathlib.Omega.{arith}
 use lib.ListN.{length, take, drop, length-append, length-drop}
 use lib.Seq.{take-at, drop-at, drop-drop}
 use Rattle.tokens.specs.declared.Function.{Function}
-use Rattle.tokens.specs.declared.Token.the-variants.{Name}
 use Rattle.tokens.specs.declared.Scanned.{Scanned}
-use Rattle.tokens.specs.declared.Scanned.the-variants.{Good}
 use Rattle.tokens.specs.Symbols.{equalBytes}
 use Rattle.tokens.specs.Words.{nameOf, functionNamed}
 use Rattle.tokens.specs.private.Rows.{Row, end, name, inRow}

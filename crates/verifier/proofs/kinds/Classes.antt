@@ -22,14 +22,22 @@ use Rattle.memory.specs.declared.numbers.BankOf.the-variants as BankOf
 use Rattle.memory.specs.Layout.{layoutOf}
 use Rattle.memory.specs.Cells.{bankKind}
 use Rattle.memory.specs.Numbers.{bankNumbered, bankTyped, bankElements}
+use Rattle.totals.specs.declared.TotalOp.{TotalOp}
+use Rattle.totals.specs.declared.MatchOp.{MatchOp}
+use Rattle.totals.specs.declared.tables.TotalOf.{TotalOf}
+use Rattle.totals.specs.declared.tables.TotalOf.the-variants as TotalOf
+use Rattle.totals.specs.declared.tables.MatchOf.{MatchOf}
+use Rattle.totals.specs.declared.tables.MatchOf.the-variants as MatchOf
+use Rattle.totals.specs.Totals.{rangeWithin, totalKind, matchKind}
+use Rattle.totals.specs.Numbers.{totalOf, matchOf, totalTyped, matchTyped}
 use Rattle.code.specs.declared.Instr.{Instr}
 use Rattle.code.specs.declared.Instr.the-variants as Instr
 use Rattle.code.specs.declared.Instr.the-variants.{Unknown}
-use Rattle.code.specs.declared.Class.the-variants.{PushReal, Tick, Since, Load, LoadIndexed, Unary, Binary}
-use Rattle.code.specs.Instructions.{finiteOnly, loadElement, loadIndexed, pushTick, applySince, wordOf}
-use Rattle.code.specs.private.Classes.{numberOf, ofBank, ofUnary, ofBinary, instrIn}
+use Rattle.code.specs.declared.Class.the-variants.{PushReal, Tick, Since, Load, LoadIndexed, Unary, Binary, Total, Match}
+use Rattle.code.specs.Instructions.{finiteOnly, loadElement, loadIndexed, pushTick, applySince, rangeBank, rangeFirst, rangeCount, overRange, wordOf}
+use Rattle.code.specs.private.Classes.{numberOf, ofBank, ofUnary, ofBinary, ofTotal, ofMatch, instrIn}
 use Rattle.verifier.specs.Typing.{Shape, illTyped, next, pushKind, moveOf}
-use Rattle.verifier.specs.private.Shapes.{numberKind, leaving, pushNumber, elementTyped, LeavesKind, ReplacesKind, ReplacesTwo}
+use Rattle.verifier.specs.private.Shapes.{numberKind, leaving, pushNumber, elementTyped, withinBank, LeavesKind, ReplacesKind, ReplacesTwo}
 
 -- ---- what is no instruction leaves nothing
 
@@ -124,6 +132,42 @@ unfolding moveOf
 binary-is (BinaryOf.Is o) j k = record { is = λ s. left-kind (binaryTakes o (numberKind j) (numberKind k)) (binaryKind o (numberKind j) (numberKind k)) s }
 binary-is BinaryOf.Nothing j k = pairs-none refl j k
 
+-- ---- ranges
+
+-- an instruction over a range that does not lie within its bank is none
+no-range : (f : Bank → ℕ → ℕ → Instr) (x : BankOf) (i n : ℕ) → rangeWithin (bankElements x) i n ≡ false → overRange f x i n ≡ Unknown
+no-range f (BankOf.Is b) i n e = rw e
+no-range f BankOf.Nothing i n e = refl
+
+range-total : (o : TotalOp) (x : BankOf) (i n : ℕ) → rangeWithin (bankElements x) i n ≡ true
+    → LeavesKind (overRange (Instr.Total o) x i n) (totalTyped (TotalOf.Is o) x)
+unfolding moveOf
+range-total o (BankOf.Is b) i n e = rw e (record { is = λ s. pushed-kind (totalKind o b) s })
+range-total o BankOf.Nothing i n e = gives-none refl
+
+range-match : (o : MatchOp) (x : BankOf) (i n : ℕ) → rangeWithin (bankElements x) i n ≡ true → (k : ℕ)
+    → ReplacesKind (overRange (Instr.Match o) x i n) k (matchTyped (MatchOf.Is o) x)
+unfolding moveOf
+range-match o (BankOf.Is b) i n e k = rw e (record { is = λ s. left-kind true (matchKind o b) s })
+range-match o BankOf.Nothing i n e k = turns-none refl k
+
+module _ (w : ℕ) where
+  total-is : (u : TotalOf) → withinBank w ≡ true → LeavesKind (ofTotal u w) (totalTyped u (bankNumbered (rangeBank w)))
+  total-is (TotalOf.Is o) e = range-total o (bankNumbered (rangeBank w)) (rangeFirst w) (rangeCount w) e
+  total-is TotalOf.Nothing e = gives-none refl
+
+  total-not : (u : TotalOf) → withinBank w ≡ false → LeavesKind (ofTotal u w) 2
+  total-not (TotalOf.Is o) e = gives-none (no-range (Instr.Total o) (bankNumbered (rangeBank w)) (rangeFirst w) (rangeCount w) e)
+  total-not TotalOf.Nothing e = gives-none refl
+
+  match-is : (u : MatchOf) → withinBank w ≡ true → (k : ℕ) → ReplacesKind (ofMatch u w) k (matchTyped u (bankNumbered (rangeBank w)))
+  match-is (MatchOf.Is o) e = range-match o (bankNumbered (rangeBank w)) (rangeFirst w) (rangeCount w) e
+  match-is MatchOf.Nothing e = turns-none refl
+
+  match-not : (u : MatchOf) → withinBank w ≡ false → (k : ℕ) → ReplacesKind (ofMatch u w) k 2
+  match-not (MatchOf.Is o) e = turns-none (no-range (Instr.Match o) (bankNumbered (rangeBank w)) (rangeFirst w) (rangeCount w) e)
+  match-not MatchOf.Nothing e = turns-none refl
+
 -- ---- a word that must be 0
 
 module _ {w : ℕ} (h : w ≡ 0 → ⊥) where
@@ -201,3 +245,19 @@ module _ (w : ℕ) {d : ℕ} (q : d ≡ wordOf w) where
     applies-binary z j k e =
         let word : wordOf w ≡ 0 = sym q ∙ z in
         rw (e, p, word) (binary-is (binaryOf (numberOf w)) j k)
+
+-- a range that the code finds to lie within its bank, or not
+module _ (w : ℕ) {t : Bool} (g : t ≡ withinBank (wordOf w)) where
+  pub no-total : t ≡ false → LeavesKind (instrIn Total w) 2
+  no-total e = total-not (wordOf w) (totalOf (numberOf w)) (sym g ∙ e)
+
+  pub no-match : t ≡ false → (k : ℕ) → ReplacesKind (instrIn Match w) k 2
+  no-match e = match-not (wordOf w) (matchOf (numberOf w)) (sym g ∙ e)
+
+  -- the operator of the number i over the bank of the number b
+  module _ {i d b n : ℕ} (e : t ≡ true) (p : i ≡ numberOf w) (q : d ≡ wordOf w) (r : b ≡ rangeBank d) where
+    pub adds-up : n ≡ totalTyped (totalOf i) (bankNumbered b) → LeavesKind (instrIn Total w) n
+    adds-up f = rw (f, p, r, q) (total-is (wordOf w) (totalOf (numberOf w)) (sym g ∙ e))
+
+    pub compares : n ≡ matchTyped (matchOf i) (bankNumbered b) → (k : ℕ) → ReplacesKind (instrIn Match w) k n
+    compares f k = rw (f, p, r, q) (match-is (wordOf w) (matchOf (numberOf w)) (sym g ∙ e) k)

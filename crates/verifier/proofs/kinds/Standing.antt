@@ -12,7 +12,7 @@ use Rattle.operators.specs.declared.BinaryOp.{BinaryOp}
 use Rattle.operators.specs.declared.BinaryOp.the-variants.{Arith, Power, Shift, Compare, Bits, Choice}
 use Rattle.operators.specs.Kinds.{unaryTakes, binaryTakes}
 use Rattle.code.specs.declared.Instr.{Instr}
-use Rattle.code.specs.declared.Instr.the-variants.{PushInt, PushReal, Load, LoadIndexed, Unary, Binary, Jump, JumpIf, Tick, Since, Unknown}
+use Rattle.code.specs.declared.Instr.the-variants.{PushInt, PushReal, Load, LoadIndexed, Unary, Binary, Jump, JumpIf, Tick, Since, Total, Match, Unknown}
 use Rattle.code.specs.declared.Class.{Class}
 use Rattle.code.specs.Instructions.{opcodeOf, instructionOf}
 use Rattle.code.specs.private.Classes.{classOf, instrIn}
@@ -61,6 +61,8 @@ module _ (m : ℕ) where
   acts (JumpIf t d) false r e = let z : _≡_ {A = ℕ} 0 1 = cc in absurd (omega arith)
   acts Tick b r e = goes-on b r e
   acts Since b r e = goes-on b r e
+  acts (Total o c i n) b r e = goes-on b r e
+  acts (Match o c i n) b r e = goes-on b r e
   acts Unknown true r e = let z : _≡_ {A = ℕ} 0 1 = cc in absurd (omega arith)
   acts Unknown false r e = refl
 

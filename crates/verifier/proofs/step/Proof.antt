@@ -89,6 +89,21 @@ binary-requires c κs = search needs
 enum-told-12 : tie.Need-enum-told-12
 enum-told-12 c = search needs
 
+total-kind-requires : tie.Need-total-kind-requires
+total-kind-requires c κs = search needs
+
+push-requires-5 : tie.Need-push-requires-5
+push-requires-5 c κs = search needs
+
+enum-told-13 : tie.Need-enum-told-13
+enum-told-13 c = search needs
+
+matching-requires : tie.Need-matching-requires
+matching-requires c κs = search needs
+
+enum-told-14 : tie.Need-enum-told-14
+enum-told-14 c = search needs
+
 returns : tie.Need-returns
 returns c =
     let at-enum-told = c .before .before in
@@ -267,12 +282,39 @@ returns-11 c =
 
 returns-12 : tie.Need-returns-12
 returns-12 c =
+    let at-total-kind = c .before in
+    let at-enum-told12 = at-total-kind .before .before in
+    let at-class-of = at-enum-told12 .before .before in
+    let start = at-class-of .before .before .before .before in (
+      typed-keeps (c .push5 .ensures),
+      (
+        start .pre .1 .1,
+        steps-by _ _ (at-class-of .class-of .ensures)
+            (at-enum-told12 .enum-told12 .given .1) (typed-steps (at-total-kind .total-kind .ensures .is _) (c .push5 .ensures)),
+      ),
+    )
+
+returns-13 : tie.Need-returns-13
+returns-13 c =
+    let at-enum-told13 = c .before .before in
+    let at-class-of = at-enum-told13 .before .before in
+    let start = at-class-of .before .before .before .before in (
+      typed-keeps (c .matching .ensures),
+      (
+        start .pre .1 .1,
+        steps-by _ _ (at-class-of .class-of .ensures)
+            (at-enum-told13 .enum-told13 .given .1) (typed-steps refl (c .matching .ensures)),
+      ),
+    )
+
+returns-14 : tie.Need-returns-14
+returns-14 c =
     let at-class-of = c .before .before in
     let start = at-class-of .before .before .before .before in (
       start .pre .0,
       (
         start .pre .1 .1,
-        steps-by _ _ (at-class-of .class-of .ensures) (c .enum-told12 .given .1)
+        steps-by _ _ (at-class-of .class-of .ensures) (c .enum-told14 .given .1)
             (stuck (none-moves _)),
       ),
     )
@@ -308,6 +350,11 @@ step-spec =
     enum-told-11
     binary-requires
     enum-told-12
+    total-kind-requires
+    push-requires-5
+    enum-told-13
+    matching-requires
+    enum-told-14
     returns
     returns-2
     same-length
@@ -328,4 +375,6 @@ step-spec =
     returns-9
     returns-10
     returns-11
-    returns-12)
+    returns-12
+    returns-13
+    returns-14)

@@ -1,7 +1,7 @@
 -- How the code has what the definitions speak of: kinds in an array of 128 numbers of which the first count, 0 for an integer, beside it the same as bits, and bits
 -- alone for a place that jumps go to. For the contracts of private functions, as Pass is; a reader believes Typing, Accepts, Stack and Safety.
 use mathlib.Core.Path.{_≡_}
-use mathlib.Core.Bool.{cond}
+use mathlib.Core.Bool.{Bool, cond}
 use mathlib.Core.List.{List, [], _∷_}
 use Prim.Native.Nat.{ℕ, zero, suc, _+_, _-_, _*_, _/_, _%_, _^_, _≤_, _<_}
 use lib.Dec.{ltb}
@@ -11,7 +11,10 @@ use Rattle.memory.specs.declared.numbers.BankOf.{BankOf}
 use Rattle.memory.specs.declared.numbers.BankOf.the-variants as BankOf
 use Rattle.memory.specs.Layout.{layoutOf}
 use Rattle.memory.specs.Cells.{bankKind}
+use Rattle.memory.specs.Numbers.{bankNumbered, bankElements}
+use Rattle.totals.specs.Totals.{rangeWithin}
 use Rattle.code.specs.declared.Instr.{Instr}
+use Rattle.code.specs.Instructions.{rangeBank, rangeFirst, rangeCount}
 use Rattle.verifier.specs.declared.packing.Held.{Held}
 use Rattle.verifier.specs.declared.typing.Flow.{Flow}
 use Rattle.verifier.specs.Typing.{Shape, Move, illTyped, next, pushKind, moveOf}
@@ -39,6 +42,10 @@ pub record ReplacesTwo (i : Instr) (j k n : ℕ) : Type 0 where
 abbrev pub elementTyped : BankOf → ℕ → ℕ
 elementTyped (BankOf.Is b) i = cond (ltb i (layoutOf b .elements)) (kindNumber (bankKind b)) 2
 elementTyped BankOf.Nothing i = 2
+
+-- the range of a word lies within its bank
+abbrev pub withinBank : ℕ → Bool
+withinBank w = rangeWithin (bankElements (bankNumbered (rangeBank w))) (rangeFirst w) (rangeCount w)
 
 -- ---- kinds as numbers in the array, and as bits
 

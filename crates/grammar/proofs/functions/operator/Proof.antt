@@ -1,14 +1,12 @@
--- `functions::operator` meets its contract: an arm for each function.
-use mathlib.Core.Path.{sym, ap}
-use lib.ListN.{List·getD-eq-default}
+-- `functions::operator` meets its contract: an arm for each function before the totals.
+use borrow.Author.Needs.{needs}
 use Rattle.operators.proofs.Arms.{past-arms}
-use Rattle.tokens.specs.declared.Function.{Function}
-use Rattle.tokens.specs.declared.Function.the-variants.{Abs}
-use Rattle.tokens.specs.Words.{functions, functionCount}
-use Rattle.grammar.specs.Symbols.{formOf}
-use Rattle.grammar.specs.Functions.{operatorNumber}
+use Rattle.tokens.specs.Words.{firstTotal}
 use Rattle.grammar.proofs.functions.operator.Statement.{statement}
 use Rattle.grammar.proofs.functions.operator.Tie as tie
+
+total-operator-requires : tie.Need-total-operator-requires
+total-operator-requires c κs = past-arms firstTotal (c .match .rest)
 
 returns : tie.Need-returns
 returns c = rw (c .match .keys1)
@@ -44,12 +42,13 @@ returns-11 : tie.Need-returns-11
 returns-11 c = rw (c .match .keys11)
 
 returns-12 : tie.Need-returns-12
-returns-12 c = ap (λ (f : Function). operatorNumber (formOf f)) (sym (List·getD-eq-default functions Abs (past-arms functionCount (c .match .rest))))
+returns-12 c = search needs
 
 pub operator-spec : {M : Type 1} → statement M
 operator-spec =
     tie.close
     (tie.spec
+    total-operator-requires
     returns
     returns-2
     returns-3

@@ -75,6 +75,18 @@ binary-kind-requires c κs = search needs
 enum-told-12 : tie.Need-enum-told-12
 enum-told-12 c = search needs
 
+total-kind-requires : tie.Need-total-kind-requires
+total-kind-requires c κs = search needs
+
+enum-told-13 : tie.Need-enum-told-13
+enum-told-13 c = search needs
+
+match-kind-requires : tie.Need-match-kind-requires
+match-kind-requires c κs = search needs
+
+enum-told-14 : tie.Need-enum-told-14
+enum-told-14 c = search needs
+
 returns : tie.Need-returns
 returns c = known-by _ _ (c .before .before .class-of .ensures) (c .enum-told .given .1) _ refl
 
@@ -109,7 +121,13 @@ returns-11 : tie.Need-returns-11
 returns-11 c = known-by _ _ (c .before .before .before .class-of .ensures) (c .before .enum-told11 .given .1) _ (pairs-known _ (c .binary-kind .ensures))
 
 returns-12 : tie.Need-returns-12
-returns-12 c = known-by _ _ (c .before .before .class-of .ensures) (c .enum-told12 .given .1) _ {r = false} refl
+returns-12 c = known-by _ _ (c .before .before .before .class-of .ensures) (c .before .enum-told12 .given .1) _ (gives-known _ (c .total-kind .ensures))
+
+returns-13 : tie.Need-returns-13
+returns-13 c = known-by _ _ (c .before .before .before .class-of .ensures) (c .before .enum-told13 .given .1) _ (turns-known _ (c .match-kind .ensures 0))
+
+returns-14 : tie.Need-returns-14
+returns-14 c = known-by _ _ (c .before .before .class-of .ensures) (c .enum-told14 .given .1) _ {r = false} refl
 
 pub known-spec : {M : Type 1} → statement M
 known-spec =
@@ -138,6 +156,10 @@ known-spec =
     enum-told-11
     binary-kind-requires
     enum-told-12
+    total-kind-requires
+    enum-told-13
+    match-kind-requires
+    enum-told-14
     returns
     returns-2
     returns-3
@@ -149,4 +171,6 @@ known-spec =
     returns-9
     returns-10
     returns-11
-    returns-12)
+    returns-12
+    returns-13
+    returns-14)

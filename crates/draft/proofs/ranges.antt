@@ -1,0 +1,2 @@
+-- The laws of ranges that the proofs of their functions cite.
+mod Spans

@@ -1,0 +1,13 @@
+-- Promises is what a reader wants; the others are the laws that it cites.
+pub mod Promises
+mod Order
+mod Keeping
+mod Texts
+mod Codes
+mod Running
+mod Plain
+mod Finite
+mod Endings
+mod Numbers
+pub mod Halves
+pub mod Sheet

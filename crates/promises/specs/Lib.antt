@@ -1,0 +1,4 @@
+pub mod Terms
+pub mod Promises
+pub mod Halves
+pub mod Sheet

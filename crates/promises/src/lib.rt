@@ -1,0 +1,1 @@
+// What the operations promise: definitions and theorems, no code.

@@ -1,0 +1,5 @@
+pub mod Theorems
+mod Enclosing
+mod Inside
+pub mod Indexing
+pub mod Running

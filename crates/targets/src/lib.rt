@@ -1,0 +1,122 @@
+// The target of a formula (paper 02, request 1): a cell, or a bank and the index between its brackets, which is a formula of its own.
+ghost use mathlib.Core.Path.{_≡_};
+ghost use Prim.Native.Nat.{_≤_};
+ghost use lib.ListN.{length};
+ghost use Rattle.memory.specs.Names.{letterBank};
+ghost use Rattle.text.specs.Targets.{storedBank, indexedTarget, targetOf};
+ghost use Rattle.targets.specs.Found.{enclosedBank, foundOf, foundToRun, indexBytes};
+use compiler::Coded;
+use memory::Bank;
+use memory::names;
+use memory::names::Letter;
+use memory::names::Named;
+
+// Which element of a bank: its number, or how many instructions of index code give it.
+pub enum Element {
+    Is(u32),
+    By(usize),
+}
+
+pub enum Found {
+    In(Bank, Element),
+    Other,
+}
+
+// "its bank C, V, N, D or R": X is read only.
+fn stored_bank(letter: u8) -> Letter
+    ensures { λ r. ⌜ r ≡ storedBank (letterBank letter) ⌝ }
+{
+    match names::bank_of(letter) {
+        Letter::Of(bank) => match bank {
+            Bank::X => Letter::Other,
+            _ => Letter::Of(bank),
+        },
+        Letter::Other => Letter::Other,
+    }
+}
+
+// The bank before a bracket that is closed at the end.
+fn enclosed_bank(target: &[u8]) -> Letter
+    ensures { λ r. ⌜ r ≡ enclosedBank (now (target .entry)) ⌝ }
+{
+    let n = target.len();
+    if 1024 < n {
+        return Letter::Other;
+    }
+    if n < 3 {
+        return Letter::Other;
+    }
+    if target[1] != b'[' {
+        return Letter::Other;
+    }
+    if target[n - 1] != b']' {
+        return Letter::Other;
+    }
+    stored_bank(target[0])
+}
+
+// What a target's text is, and how many instructions its index has; no code is written.
+pub fn judge(target: &[u8]) -> Found
+    ensures { λ r. ⌜ r ≡ foundOf (targetOf (now (target .entry))) ⌝ }
+{
+    match names::target_of(target) {
+        Named::Cell(bank, element) => Found::In(bank, Element::Is(element)),
+        Named::Other => judge_indexed(target),
+    }
+}
+
+fn judge_indexed(target: &[u8]) -> Found
+    ensures { λ r. ⌜ r ≡ foundOf (indexedTarget (now (target .entry))) ⌝ }
+{
+    let Letter::Of(bank) = enclosed_bank(target) else {
+        return Found::Other;
+    };
+    let end = target.len() - 1;
+    match compiler::judge_from(&target[2..end], 1) {
+        Coded::Done(n) => Found::In(bank, Element::By(n)),
+        Coded::Refused(_, _) => Found::Other,
+    }
+}
+
+// The same, and the index's code goes into the buffer; that of a plain cell keeps what it held.
+pub fn compile(target: &[u8], code: &mut [u8]) -> Found
+    requires { ⌜ 16384 ≤ length (now code) ⌝ }
+    ensures { λ r. ⌜ r ≡ foundOf (targetOf (now (target .entry))) ⌝ }
+    ensures { λ r. ⌜ now (code .exit) ≡ indexBytes (now (code .entry)) (targetOf (now (target .entry))) ⌝ }
+{
+    match names::target_of(target) {
+        Named::Cell(bank, element) => Found::In(bank, Element::Is(element)),
+        Named::Other => compile_indexed(target, code),
+    }
+}
+
+fn compile_indexed(target: &[u8], code: &mut [u8]) -> Found
+    requires { ⌜ 16384 ≤ length (now code) ⌝ }
+    ensures { λ r. ⌜ r ≡ foundOf (indexedTarget (now (target .entry))) ⌝ }
+    ensures { λ r. ⌜ now (code .exit) ≡ indexBytes (now (code .entry)) (indexedTarget (now (target .entry))) ⌝ }
+{
+    let Letter::Of(bank) = enclosed_bank(target) else {
+        return Found::Other;
+    };
+    let end = target.len() - 1;
+    match compiler::compile_from(&target[2..end], 1, code) {
+        Coded::Done(n) => Found::In(bank, Element::By(n)),
+        Coded::Refused(_, _) => Found::Other,
+    }
+}
+
+// The target of a run, which is given the index as code: a cell, or a bank letter alone whose element k instructions give.
+pub fn to_run(target: &[u8], k: usize) -> Found
+    ensures { λ r. ⌜ r ≡ foundToRun k (now (target .entry)) ⌝ }
+{
+    if target.len() != 1 {
+        return match names::target_of(target) {
+            Named::Cell(bank, element) => Found::In(bank, Element::Is(element)),
+            Named::Other => Found::Other,
+        };
+    }
+    match stored_bank(target[0]) {
+        Letter::Of(bank) => Found::In(bank, Element::By(k)),
+        Letter::Other => Found::Other,
+    }
+}

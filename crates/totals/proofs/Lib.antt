@@ -1,0 +1,10 @@
+-- The laws of totals: other crates cite Laws.
+mod Folds
+mod Kept
+mod Sums
+mod Middle
+mod Within
+mod Numbers
+mod Runs
+pub mod Laws
+mod Samples

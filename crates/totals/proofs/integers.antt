@@ -1,0 +1,3 @@
+-- Laws of the module integers.
+mod Cells
+mod Whole
