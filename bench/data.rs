@@ -1,5 +1,6 @@
 //! The formulas that are measured and the memory that they run on, from the text files beside this one.
 
+use crate::reference::cards::Card;
 use crate::reference::memory::{cell_name, store, Bank, MEMORY_BYTES};
 use crate::reference::value::Value;
 
@@ -53,6 +54,12 @@ pub fn corpus() -> Scan {
     let formulas: Vec<Formula> = lines(include_str!("corpus.txt")).map(formula).collect();
     assert_eq!(formulas.len(), SCAN);
     Scan { name: "corpus".into(), formulas }
+}
+
+/// The corpus as a file of cards.
+pub fn cards() -> Vec<u8> {
+    let card = |(number, formula): (u32, Formula)| Card { number, target: formula.target, expr: formula.text }.bytes();
+    (1..).zip(corpus().formulas).flat_map(card).collect()
 }
 
 /// Single formulas: the one of the requirements; one of the greatest length with a bit of everything; one of short numbers.

@@ -71,3 +71,9 @@ pub fn compile_target(target: &[u8], index_code: &mut [u8]) -> Report {
     }
     report
 }
+
+pub fn cards_read(file: &[u8]) -> Cards {
+    let mut result = Cards { answer: 0, place: 0, count: 0, cards: [CardWords::default(); 64] };
+    unsafe { formula_cards_read(file.as_ptr(), file.len(), &mut result) };
+    result
+}

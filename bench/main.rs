@@ -14,6 +14,8 @@ mod rows;
 mod scan;
 mod timing;
 
+// What the tests use beside.
+#[allow(dead_code)]
 #[path = "../tests/host/header.rs"]
 mod header;
 // The random texts of the tests.
@@ -47,5 +49,6 @@ fn times(words: &[&str]) {
     rows::corpus(batches);
     rows::texts(batches);
     rows::totals(batches);
+    rows::cards(batches);
     rows::worst(batches.div_ceil(LONG));
 }

@@ -1,6 +1,8 @@
 //! The rows of the table. A run through the library is check, run and store, and so is the rival's; run and store is that less
 //! the check.
 
+use std::hint::black_box;
+
 use crate::data::{self, Formula, Scan, CELLS, TICK};
 use crate::library::{self, Target, CODE_BYTES};
 use crate::reference::memory::FLAGS;
@@ -131,6 +133,15 @@ pub fn totals(batches: usize) {
         let m = Measured::new(scan, batches, CALLS);
         row(&format!("run and store, {}", scan.name), "a cell", CELLS as f64, less(m.run(), m.check()));
     }
+}
+
+/// The corpus as a file of cards.
+pub fn cards(batches: usize) {
+    let file = data::cards();
+    assert!(library::cards_read(&file) == rival::cards_read(&file), "the cards that both read differ");
+    let ours = &mut || drop(black_box(library::cards_read(black_box(&file))));
+    let theirs = &mut || drop(black_box(rival::cards_read(black_box(&file))));
+    row("read a file of cards, corpus", "a byte", file.len() as f64, least(batches, 4, [ours, theirs]));
 }
 
 /// Forty formulas of 1,024 bytes each, of each kind that is dear in its way.

@@ -85,7 +85,8 @@ measure_sizes() {
     all=$(echo '#include "formula.h"
         int main(void) {
             static void (*volatile all[])(void) = {(void (*)(void))formula_compile, (void (*)(void))formula_check,
-                (void (*)(void))formula_run, (void (*)(void))formula_compile_and_run, (void (*)(void))formula_compile_target};
+                (void (*)(void))formula_run, (void (*)(void))formula_compile_and_run, (void (*)(void))formula_compile_target,
+                (void (*)(void))formula_evaluate, (void (*)(void))formula_store};
             return all[0] == 0;
         }' | text_of)
     echo "text that the operations add to a program: $((all - empty)) bytes"

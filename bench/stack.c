@@ -54,6 +54,14 @@ static void compile_target(void) {
     formula_compile_target(text, len + 3, index_code, sizeof index_code, &report);
 }
 
+static void evaluate(void) {
+    formula_evaluate(code, sizeof code, count, memory, sizeof memory, tick, &report);
+}
+
+static void store(void) {
+    formula_store(FORMULA_INTEGER, 0, memory, sizeof memory, target, 1, code, sizeof code, count, tick, &report);
+}
+
 static size_t painted_depth(void (*operation)(void), uint8_t paint) {
     size_t low = 0;
     memset(stack, paint, STACK);
@@ -88,6 +96,8 @@ static struct measured measured[] = {
     {"formula_run", run, 0, ""},
     {"formula_compile_and_run", compile_and_run, 0, ""},
     {"formula_compile_target", compile_target, 0, ""},
+    {"formula_evaluate", evaluate, 0, ""},
+    {"formula_store", store, 0, ""},
 };
 
 #define OPERATIONS (sizeof measured / sizeof measured[0])

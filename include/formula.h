@@ -139,6 +139,41 @@ void formula_store(uint32_t kind, uint32_t bits, uint8_t *memory, uint64_t memor
                    uint64_t target_len, const uint8_t *index_code, uint64_t index_len, uint64_t index_instructions,
                    uint32_t tick, struct formula_report *report);
 
+/* ---- Files of cards: docs/CARDS.md has the form. */
+
+#define FORMULA_BAD_LINE 16
+#define FORMULA_BAD_CHECK 17
+#define FORMULA_BAD_ORDER 18
+
+/* The most cards of a file, and the bytes of the longest good one. */
+#define FORMULA_CARDS 64
+#define FORMULA_CARDS_BYTES 133239
+
+/* A card: where its texts begin, counted from the first of the lent bytes, and how long they are. */
+struct formula_card {
+    uint32_t number, target, target_len, expr, expr_len;
+};
+
+/* On a refusal the count and every card are 0, and place is the first byte of the refused card; cards behind the last are 0. */
+struct formula_cards {
+    uint32_t answer, place, count;
+    struct formula_card cards[FORMULA_CARDS];
+};
+
+/* Reads a file of cards; the texts of its cards stand in the file itself. Answers: 0, 2 to 9, 16 to 18. */
+void formula_cards_read(const uint8_t *file, uint64_t file_len, struct formula_cards *result);
+
+/* length is 0 on a refusal. */
+struct formula_written {
+    uint32_t answer, place, length;
+};
+
+/* Writes a file of cards, five words a card as in formula_card, whose texts are parts of the lent texts. Words behind the last whole five
+ * are not looked at; bytes beyond the texts are not there. A refusal writes nothing, and place is where the refused card would stand.
+ * Answers: 0, 2 to 10, 16, 18; 10, with place 0, if the file does not fit. */
+void formula_cards_write(const uint8_t *texts, uint64_t texts_len, const uint32_t *cards, uint64_t words,
+                         uint8_t *out, uint64_t out_len, struct formula_written *result);
+
 /* C's fmodf for every x and y, in any floating-point mode and with at most 32 divisions of whole numbers. Where the remainder is
  * a NaN, which NaN is not fixed; errno is left alone. */
 float formula_remainder(float x, float y);
@@ -172,6 +207,9 @@ static inline const char *formula_answer_text(uint32_t answer)
     case FORMULA_RANGE_FAULT: return "out of range";
     case FORMULA_INDEX_FAULT: return "an index below zero or beyond its bank";
     case FORMULA_BAD_CODE: return "the instructions do not lie in the buffer, or the check does not accept them";
+    case FORMULA_BAD_LINE: return "a line out of form or order";
+    case FORMULA_BAD_CHECK: return "the check differs";
+    case FORMULA_BAD_ORDER: return "the number is not above the one before";
     default: return "no answer of this library";
     }
 }

@@ -3,6 +3,7 @@
 
 #![forbid(unsafe_code)]
 
+mod cards;
 mod check;
 mod emit;
 mod image;
@@ -14,4 +15,5 @@ mod tokens;
 mod totals;
 mod values;
 
+pub use cards::read as cards_read;
 pub use operations::{check, compile, compile_and_run, compile_target, run};

@@ -77,7 +77,7 @@ pub fn check(code: &[u8], n: usize) -> Report {
 
 // The bank of a target's text, with its element or the code of its index.
 #[inline]
-fn read_target(text: &[u8]) -> Option<(u8, Result<u8, Code>)> {
+pub fn read_target(text: &[u8]) -> Option<(u8, Result<u8, Code>)> {
     let (bank, rest) = image::target(text)?;
     match rest {
         [b'[', index @ .., b']'] if text.len() <= 1024 => Some((bank, Err(emit::compile(index, 1).ok()?))),

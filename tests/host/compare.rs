@@ -2,8 +2,9 @@
 
 use crate::library::{self, Lent};
 use crate::random::cases::{compiled_as_promised, counted_as_promised, Operation, Request};
-use crate::reference::memory::MEMORY_BYTES;
+use crate::reference::memory::{set_flag, MEMORY_BYTES};
 use crate::reference::operations::{self, Report, CODE_BYTES};
+use crate::reference::value::{Value, FAULTS};
 
 struct Expected {
     report: Report,
@@ -53,6 +54,11 @@ fn expected(request: &Request) -> Expected {
         }
         Operation::CompileAndRun => operations::compile_and_run(target, expr, &mut memory, [&mut code, &mut index_code], *tick),
         Operation::CompileTarget => operations::compile_target(target, &mut index_code),
+        Operation::Evaluate => operations::evaluate(given(&code, request.instructions), &memory, *tick),
+        Operation::Store => {
+            let value = Value::of_bits(request.value.0, request.value.1);
+            operations::store_value(value, &mut memory, target, given(&index_code, request.index_instructions), *tick)
+        }
     };
     Expected { report, memory, code, index_code }
 }
@@ -61,18 +67,21 @@ fn actual(request: &Request) -> Result<Actual, String> {
     let lend = |bytes: &[u8]| Lent::new(bytes, request.alignment);
     let (target, expr) = (lend(&request.target), lend(&request.expr));
     let (mut memory, mut code, mut index_code) = (lend(&request.memory), lend(&request.code), lend(&request.index_code));
+    let given = |lent| library::Code { lent, instructions: request.instructions };
+    let index = |lent| library::Code { lent, instructions: request.index_instructions };
+    let tick = request.tick;
     let report = match request.operation {
         Operation::Compile => library::compile(&expr, &mut code),
         Operation::Check => library::check(&code, request.instructions),
         Operation::Run => {
-            let value = library::Code { lent: &code, instructions: request.instructions };
-            let index = library::Code { lent: &index_code, instructions: request.index_instructions };
-            library::run(value, &mut memory, &target, index, request.tick)
+            let report = library::run(given(&code), &mut memory, &target, index(&index_code), tick);
+            same_as_halves(request, report, memory.content())?;
+            report
         }
-        Operation::CompileAndRun => {
-            library::compile_and_run(&target, &expr, &mut memory, [&mut code, &mut index_code], request.tick)
-        }
+        Operation::CompileAndRun => library::compile_and_run(&target, &expr, &mut memory, [&mut code, &mut index_code], tick),
         Operation::CompileTarget => library::compile_target(&target, &mut index_code),
+        Operation::Evaluate => library::evaluate(given(&code), &memory, tick),
+        Operation::Store => library::store(request.value, &mut memory, &target, index(&index_code), tick),
     };
     same_bytes("target", &request.target, target.content())?;
     same_bytes("expression", &request.expr, expr.content())?;
@@ -80,6 +89,35 @@ fn actual(request: &Request) -> Result<Actual, String> {
         return Err("bytes beside a lent buffer were written".into());
     }
     Ok(Actual { report, memory, code, index_code })
+}
+
+// A run that is not refused is its two halves in turn, with the flag where the first is at fault.
+fn same_as_halves(request: &Request, run: Report, after: &[u8]) -> Result<(), String> {
+    if !matches!(run.answer, 0 | 11..=14) {
+        return Ok(());
+    }
+    let lend = |bytes: &[u8]| Lent::new(bytes, request.alignment);
+    let (code, mut memory) = (lend(&request.code), lend(&request.memory));
+    let value = library::Code { lent: &code, instructions: request.instructions };
+    let first = library::evaluate(value, &memory, request.tick);
+    same_bytes("memory, after the value", &request.memory, memory.content())?;
+    let both = match first.answer {
+        0 => {
+            let (target, index_code) = (lend(&request.target), lend(&request.index_code));
+            let index = library::Code { lent: &index_code, instructions: request.index_instructions };
+            let second = library::store((first.kind, first.bits), &mut memory, &target, index, request.tick);
+            Report { count: first.count + second.count, ..second }
+        }
+        _ => first,
+    };
+    if both != run {
+        return Err(format!("the halves give {both:?}\nthe run         {run:?}"));
+    }
+    let mut expected = memory.content().to_vec();
+    if first.answer != 0 {
+        set_flag(&mut expected, FAULTS[first.answer as usize - 11]);
+    }
+    same_bytes("memory, by the halves,", &expected, after)
 }
 
 // The value of the tree against the value of the code. The tree counts no instructions.
@@ -114,22 +152,21 @@ fn hex(bytes: &[u8]) -> String {
     bytes.iter().map(|b| format!("{b:02x}")).collect()
 }
 
-/// The request in full, one input a line.
+/// The request in full, one input a line. An operation looks only at those that it has.
 pub fn show(request: &Request) -> String {
-    let mut lines = format!("{:?}\n", request.operation);
-    if matches!(request.operation, Operation::Compile | Operation::CompileAndRun | Operation::CompileTarget) {
-        lines += &format!("expr {}\n", text(&request.expr));
-        lines += &format!("code buffers {} and {} bytes\n", request.code.len(), request.index_code.len());
+    let Request { operation, expr, target, memory, code, index_code, .. } = request;
+    let mut lines = format!("{operation:?}\n");
+    let mut line = |part: String| lines += &(part + "\n");
+    line(format!("target {}", text(target)));
+    line(format!("expr {}", text(expr)));
+    line(format!("memory {} bytes {}", memory.len(), hex(memory)));
+    line(format!("value {:?}, tick {:08x}", request.value, request.tick));
+    // The codes of a compilation are buffers of one byte.
+    if matches!(operation, Operation::Compile | Operation::CompileAndRun | Operation::CompileTarget) {
+        line(format!("code buffers {} and {} bytes", code.len(), index_code.len()));
     } else {
-        lines += &format!("{} instructions\n", request.instructions);
-        lines += &format!("code {} bytes {}\n", request.code.len(), hex(&request.code));
-        lines += &format!("{} index instructions\n", request.index_instructions);
-        lines += &format!("index code {} bytes {}\n", request.index_code.len(), hex(&request.index_code));
-    }
-    if matches!(request.operation, Operation::Run | Operation::CompileAndRun | Operation::CompileTarget) {
-        lines += &format!("target {}\n", text(&request.target));
-        lines += &format!("memory {} bytes {}\n", request.memory.len(), hex(&request.memory));
-        lines += &format!("tick {:08x}\n", request.tick);
+        line(format!("{} instructions, code {} bytes {}", request.instructions, code.len(), hex(code)));
+        line(format!("{} index instructions, code {} bytes {}", request.index_instructions, index_code.len(), hex(index_code)));
     }
     lines
 }

@@ -1,9 +1,9 @@
 //! The examples of the documents, by both implementations.
 //!
 //! In a block ```cells a line `R1 = 2.5` says what a cell holds in the examples that follow, and `tick = 704` their tick, which
-//! is 0 before. In any other block a line with an arrow is an example: `EXPR -> 64` (an integer), `EXPR -> 3.5` (a real), `EXPR -> V0 = 0` (the cell after the
-//! store), `EXPR -> answer 12` or `EXPR -> answer 7 at 4` (the place). Before the result a target can stand, as in
-//! `EXPR -> D[V2]: D6 = 0`.
+//! is 0 before. In any other block a line with an arrow is an example: `EXPR -> 64` (an integer), `EXPR -> 3.5` (a real),
+//! `EXPR -> V0 = 0` (the cell after the store), `EXPR -> answer 12` or `EXPR -> answer 7 at 4` (the place). Before the result a
+//! target can stand, as in `EXPR -> D[V2]: D6 = 0`.
 
 use crate::library::{self, Lent};
 use crate::reference::memory::{cell_name, Bank};

@@ -2,6 +2,34 @@
 
 use crate::reference::operations::Report;
 
+/// A card: its number, and the places and lengths of its texts.
+#[derive(Clone, Copy, PartialEq, Debug, Default)]
+#[repr(C)]
+pub struct CardWords {
+    pub number: u32,
+    pub target: u32,
+    pub target_len: u32,
+    pub expr: u32,
+    pub expr_len: u32,
+}
+
+#[derive(Clone, PartialEq, Debug)]
+#[repr(C)]
+pub struct Cards {
+    pub answer: u32,
+    pub place: u32,
+    pub count: u32,
+    pub cards: [CardWords; 64],
+}
+
+#[derive(Clone, Copy, PartialEq, Debug)]
+#[repr(C)]
+pub struct Written {
+    pub answer: u32,
+    pub place: u32,
+    pub length: u32,
+}
+
 #[rustfmt::skip]
 #[link(name = "formula_c", kind = "static")]
 extern "C" {
@@ -16,7 +44,20 @@ extern "C" {
         target: *const u8, target_len: usize, expr: *const u8, expr_len: usize, memory: *mut u8, memory_len: usize,
         code: *mut u8, code_len: usize, index_code: *mut u8, index_len: usize, tick: u32, report: *mut Report,
     );
+    pub fn formula_evaluate(
+        code: *const u8, code_len: usize, instructions: usize, memory: *const u8, memory_len: usize, tick: u32,
+        report: *mut Report,
+    );
+    pub fn formula_store(
+        kind: u32, bits: u32, memory: *mut u8, memory_len: usize, target: *const u8, target_len: usize,
+        index_code: *const u8, index_len: usize, index_instructions: usize, tick: u32, report: *mut Report,
+    );
     pub fn formula_compile_target(
         target: *const u8, target_len: usize, index_code: *mut u8, index_len: usize, report: *mut Report,
+    );
+    pub fn formula_cards_read(file: *const u8, file_len: usize, result: *mut Cards);
+    pub fn formula_cards_write(
+        texts: *const u8, texts_len: usize, cards: *const u32, words: usize, out: *mut u8, out_len: usize,
+        result: *mut Written,
     );
 }

@@ -99,3 +99,39 @@ pub fn compile_target(target: &Lent, index_code: &mut Lent) -> Report {
     unsafe { formula_compile_target(target.0, target.1, index.0, index.1, &mut report) };
     report
 }
+
+pub fn evaluate(code: Code, memory: &Lent, tick: u32) -> Report {
+    let mut report = UNWRITTEN;
+    let (instructions, code, memory) = (code.instructions, code.lent.lend(), memory.lend());
+    unsafe { formula_evaluate(code.0, code.1, instructions, memory.0, memory.1, tick, &mut report) };
+    report
+}
+
+/// The kind is any number, the bits any pattern.
+#[rustfmt::skip]
+pub fn store((kind, bits): (u32, u32), memory: &mut Lent, target: &Lent, index_code: Code, tick: u32) -> Report {
+    let mut report = UNWRITTEN;
+    let (target, index, memory) = (target.lend(), index_code.lent.lend(), memory.lend_to_write());
+    unsafe {
+        formula_store(
+            kind, bits, memory.0, memory.1, target.0, target.1, index.0, index.1, index_code.instructions, tick, &mut report,
+        );
+    }
+    report
+}
+
+pub fn cards_read(file: &Lent) -> Cards {
+    const UNWRITTEN_CARD: CardWords = CardWords { number: 77, target: 77, target_len: 77, expr: 77, expr_len: 77 };
+    let mut result = Cards { answer: 77, place: 77, count: 77, cards: [UNWRITTEN_CARD; 64] };
+    let file = file.lend();
+    unsafe { formula_cards_read(file.0, file.1, &mut result) };
+    result
+}
+
+/// Five words a card.
+pub fn cards_write(texts: &Lent, words: &[u32], out: &mut Lent) -> Written {
+    let mut result = Written { answer: 77, place: 77, length: 77 };
+    let (texts, out) = (texts.lend(), out.lend_to_write());
+    unsafe { formula_cards_write(texts.0, texts.1, words.as_ptr(), words.len(), out.0, out.1, &mut result) };
+    result
+}

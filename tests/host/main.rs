@@ -2,8 +2,10 @@
 //!
 //!   host [CASES [SEED [FIRST]]]   random cases, numbered from FIRST
 //!   host literals [NUMBER [SEED]] random real literals
+//!   host cards [NUMBER [SEED]]    files of cards
 //!   host examples DOCUMENT...     the examples of the documents
 
+mod cards;
 mod compare;
 mod examples;
 mod header;
@@ -21,6 +23,7 @@ use random::cases::{class_of, CLASSES};
 use random::Random;
 
 const DEFAULT_CASES: u64 = 1_000_000;
+const DEFAULT_FILES: u64 = 20_000;
 const ANSWERS: usize = 16;
 
 #[derive(Default)]
@@ -36,6 +39,7 @@ fn main() {
     let result = match words[..] {
         ["examples", ref documents @ ..] => try_examples(documents),
         ["literals", ref numbers @ ..] => random_literals(numbers),
+        ["cards", ref numbers @ ..] => random_cards(numbers),
         _ => random_cases(&words),
     };
     if let Err(difference) = result {
@@ -57,6 +61,10 @@ fn clock() -> u64 {
 
 fn random_literals(words: &[&str]) -> Result<(), String> {
     literals::try_literals(argument(words, 0, DEFAULT_CASES)?, argument(words, 1, clock())?)
+}
+
+fn random_cards(words: &[&str]) -> Result<(), String> {
+    cards::try_cards(argument(words, 0, DEFAULT_FILES)?, argument(words, 1, clock())?)
 }
 
 fn random_cases(words: &[&str]) -> Result<(), String> {

@@ -13,6 +13,8 @@ use operations::Answer;
 use values::Kind;
 use values::Value;
 
+mod cards;
+
 fn kind_number(v: Value) -> u32
     ensures { λ r. ⌜ r ≡ kindWord v ⌝ }
 {

@@ -49,7 +49,7 @@ fn spell(out: &mut [u8], at: usize, k: usize, base: u64, n: u64) -> usize
 }
 
 // How many decimal digits a number has.
-fn width_of(n: u64) -> usize
+pub fn width_of(n: u64) -> usize
     ensures { λ r. ⌜ r ≡ widthOf n ⌝ }
 {
     let mut rest = n;

@@ -1,6 +1,7 @@
 //! What the programs of cases must read and print, by the second implementation: expected.sh runs this at the root of the
 //! repository. Files that were other are written anew and named; then the exit status is 1.
 
+mod cards;
 mod codes;
 mod literals;
 mod memory;
@@ -53,6 +54,7 @@ fn run() -> Result<usize, String> {
 fn all() -> Result<Vec<Expected>, String> {
     let (texts_in, texts_out) = texts::files()?;
     let (codes_in, codes_out) = codes::files();
+    let (cards_in, cards_out) = cards::files();
     Ok(vec![
         ("value_cases/stdout", values::lines().into()),
         ("literal_cases/stdout", literals::lines().into()),
@@ -61,8 +63,11 @@ fn all() -> Result<Vec<Expected>, String> {
         ("text_cases/stdout", texts_out.into()),
         ("code_cases/stdin", codes_in.into()),
         ("code_cases/stdout", codes_out.into()),
+        ("card_cases/stdin", cards_in),
+        ("card_cases/stdout", cards_out.into()),
         ("vector_cases/stdout", replies::of_list("vector_cases/stdin")?.into()),
         ("formula/stdout", replies::of_one("formula/stdin")?.into()),
+        ("cards/stdout", replies::of_cards("cards/stdin")?.into()),
     ])
 }
 

@@ -1,5 +1,6 @@
-//! crates/formula and crates/vector_cases: what the program replies to stored cases.
+//! crates/formula, crates/vector_cases and crates/cards: what the programs reply to stored cases.
 
+use crate::reference::cards::{form, read};
 use crate::reference::operations::compile_and_run;
 use crate::reference::program::{output, read_input};
 
@@ -13,6 +14,35 @@ pub fn of_one(name: &str) -> Result<String, String> {
 /// A list of cases, each followed by an empty line, and so each reply.
 pub fn of_list(name: &str) -> Result<String, String> {
     Ok(blocks(&stored(name)?).into_iter().map(|case| reply(case) + "\n").collect())
+}
+
+/// The reply of the program `cards` to a file: three lines, and two more if it is refused.
+pub fn of_cards(name: &str) -> Result<String, String> {
+    let file = stored(name)?;
+    let refusal = match read(&file) {
+        Ok(cards) => return Ok(format!("answer=0\nplace=0\ncards={}\n", cards.len())),
+        Err(refusal) => refusal,
+    };
+    let rest = &file[refusal.place..];
+    let end = rest.iter().position(|b| *b == b'\n').unwrap_or(0);
+    // A line that has its form is that of a card with any good lines behind it.
+    let whole = [&rest[..end], b"\ntarget=\nexpr=\ncheck=00000\n"].concat();
+    let number = form(&whole, 0).map_or(String::new(), |form| format!("card={}\n", form.card.number));
+    let words = words_of(refusal.answer)?;
+    Ok(format!("answer={}\nplace={}\ncards=0\n{number}words={words}\n", refusal.answer, refusal.place))
+}
+
+// An answer in words: those of a file of cards by the request, a formula's own by the header.
+fn words_of(answer: u32) -> Result<String, String> {
+    const OF_CARDS: [&str; 3] = ["a line out of form or order", "the check differs", "the number is not above the one before"];
+    if let 16..=18 = answer {
+        return Ok(OF_CARDS[answer as usize - 16].into());
+    }
+    let header = std::fs::read_to_string("include/formula.h").map_err(|error| format!("include/formula.h: {error}"))?;
+    let name = header.lines().find_map(|line| line.trim().trim_end_matches(',').strip_suffix(&format!(" = {answer}")));
+    let start = format!("case {}: return \"", name.unwrap_or_default());
+    let words = header.lines().find_map(|line| line.trim().strip_prefix(&start)?.strip_suffix("\";"));
+    words.map(String::from).ok_or(format!("the header has no words for {answer}"))
 }
 
 fn stored(name: &str) -> Result<Vec<u8>, String> {

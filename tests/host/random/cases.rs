@@ -4,7 +4,7 @@ use super::images::memory;
 use super::{bad_codes, codes, formulas, texts, Random};
 use crate::reference::check::check as check_code;
 use crate::reference::code::{at, Instruction, INSTRUCTION_BYTES};
-use crate::reference::memory::BANKS;
+use crate::reference::memory::{BANKS, FLAGS};
 use crate::reference::operations::{compile, compile_target, CODE_BYTES};
 use crate::reference::text::{tokens, Function, Token};
 
@@ -15,11 +15,13 @@ pub enum Operation {
     Run,
     CompileAndRun,
     CompileTarget,
+    Evaluate,
+    Store,
 }
 
 use Operation::*;
 
-pub const OPERATIONS: [Operation; 5] = [Compile, Check, Run, CompileAndRun, CompileTarget];
+pub const OPERATIONS: [Operation; 7] = [Compile, Check, Run, CompileAndRun, CompileTarget, Evaluate, Store];
 
 /// One call. An operation looks only at what it has inputs for.
 #[derive(Clone)]
@@ -32,24 +34,27 @@ pub struct Request {
     pub instructions: usize,
     pub index_code: Vec<u8>,
     pub index_instructions: usize,
+    /// Kind and pattern of a value to be stored.
+    pub value: (u32, u32),
     pub tick: u32,
     pub alignment: usize,
 }
 
 pub struct Class {
     pub name: &'static str,
-    /// How many of a hundred cases are of this class.
+    /// How many of all the weights' cases are of this class.
     pub weight: usize,
     pub make: fn(&mut Random) -> Vec<Request>,
 }
 
-pub const CLASSES: [Class; 13] = [
+pub const CLASSES: [Class; 14] = [
     Class { name: "formula", weight: 25, make: |r| text_case(r, formulas::formula) },
     Class { name: "damaged formula", weight: 13, make: |r| text_case(r, damaged_formula) },
     Class { name: "one word", weight: 6, make: |r| text_case(r, texts::one_word) },
     Class { name: "any text", weight: 4, make: |r| text_case(r, texts::noise) },
     Class { name: "text length", weight: 2, make: |r| text_case(r, texts::long) },
     Class { name: "sizes and targets", weight: 8, make: sizes_case },
+    Class { name: "value stored", weight: 8, make: store_case },
     Class { name: "one operator", weight: 17, make: |r| code_case(r, bad_codes::one_operator) },
     Class { name: "one instruction", weight: 4, make: |r| code_case(r, bad_codes::one_instruction) },
     Class { name: "accepted code", weight: 8, make: |r| code_case(r, codes::accepted) },
@@ -104,8 +109,20 @@ fn request(random: &mut Random, operation: Operation) -> Request {
         instructions: 0,
         index_code: Vec::new(),
         index_instructions: 0,
+        value: value(random),
         tick: random.tick(),
         alignment: random.below(8),
+    }
+}
+
+// A value to be stored: infinities, NaNs and kinds that no value has are among them.
+fn value(random: &mut Random) -> (u32, u32) {
+    const ODD: [u32; 6] = [0x7F80_0000, 0xFF80_0000, 0x7FC0_0000, 0x7F80_0001, 0xFFFF_FFFF, 0x7149_F2CA];
+    match random.below(6) {
+        0 | 1 => (0, random.integer() as u32),
+        2 | 3 => (1, random.real().to_bits()),
+        4 => (1, *random.pick(&ODD)),
+        _ => (*random.pick(&[0, 1, 2, 77, u32::MAX]), random.word()),
     }
 }
 
@@ -133,6 +150,7 @@ fn text_case(random: &mut Random, text: fn(&mut Random) -> Vec<u8>) -> Vec<Reque
         let instructions = code.len() / INSTRUCTION_BYTES;
         let run = Request { operation: Run, code, instructions, ..requests[1].clone() };
         requests.push(Request { operation: Check, ..run.clone() });
+        requests.push(Request { operation: Evaluate, ..run.clone() });
         requests.push(as_run(run));
     }
     requests
@@ -193,6 +211,16 @@ fn number(random: &mut Random, instructions: usize) -> usize {
     }
 }
 
+// A value stored, with flags that stand at 0, 1 or more.
+fn store_case(random: &mut Random) -> Vec<Request> {
+    let mut memory = memory(random);
+    for flag in &mut memory[FLAGS..] {
+        *flag = *random.pick(&[0, 1, 2, 255]);
+    }
+    let request = Request { memory, ..request(random, Store) };
+    vec![with_index_code(random, request)]
+}
+
 // Any operation with any sizes: which answer comes first.
 fn sizes_case(random: &mut Random) -> Vec<Request> {
     let mut memory = memory(random);
@@ -207,7 +235,7 @@ fn sizes_case(random: &mut Random) -> Vec<Request> {
     let length = *random.pick(&[16384, 16384, 16385, 16383, 16376, 0, 7, 20000]);
     let mut code = buffer(random, length);
     let mut instructions = 0;
-    if matches!(operation, Check | Run) {
+    if matches!(operation, Check | Run | Evaluate) {
         code = if random.one_in(4) { bad_codes::noise(random) } else { codes::accepted(random) };
         instructions = number(random, code.len() / INSTRUCTION_BYTES);
         if random.one_in(4) {
@@ -217,7 +245,7 @@ fn sizes_case(random: &mut Random) -> Vec<Request> {
     let length = *random.pick(&[16384, 16384, 16385, 16383, 16376, 0, 7, 20000]);
     let index_code = buffer(random, length);
     let mut request = Request { expr, memory, code, instructions, index_code, ..request(random, operation) };
-    if operation == Run {
+    if matches!(operation, Run | Store) {
         request = with_index_code(random, request);
     }
     if random.one_in(3) {
@@ -233,16 +261,25 @@ const BAD_TARGETS: [&str; 43] = [
     "DD[0]", "D[ ]", "D[(]", "D[1,2]", "(D0)", "D0\0", "D0\n", "-D0", "D-1", "D99999999999999999999", "D4294967296", "E0", "ABS", "0",
 ];
 
-fn target(random: &mut Random) -> Vec<u8> {
-    let bank = *random.pick(&BANKS[1..]);
+/// A target, good or not.
+pub fn target(random: &mut Random) -> Vec<u8> {
+    let letter = random.pick(&BANKS[1..]).letter();
     match random.below(16) {
         0 => bad_target(random),
-        1..=5 => indexed_target(bank.letter(), &formulas::index(random)),
-        6 => {
+        1 => {
             let index = formulas::index(random);
-            indexed_target(bank.letter(), &texts::damaged(random, &index))
+            indexed_target(letter, &texts::damaged(random, &index))
         }
-        7 if random.one_in(8) => long_target(random, bank.letter()),
+        2 if random.one_in(8) => long_target(random, letter),
+        _ => good_target(random),
+    }
+}
+
+/// A cell, or a bank with an index. Few have operands of the wrong kind or a ninth bracket open.
+pub fn good_target(random: &mut Random) -> Vec<u8> {
+    let bank = *random.pick(&BANKS[1..]);
+    match random.below(3) {
+        0 => indexed_target(bank.letter(), &formulas::index(random)),
         _ => format!("{}{}", bank.letter() as char, random.below(bank.cells())).into_bytes(),
     }
 }
@@ -274,6 +311,8 @@ pub fn counted_as_promised(request: &Request, count: u32) -> bool {
     let most = match request.operation {
         CompileAndRun => most_of_text(expr) + most_of_text(target),
         Run => most_of_code(code, *instructions) + most_of_code(index_code, *index_instructions),
+        Evaluate => most_of_code(code, *instructions),
+        Store => most_of_code(index_code, *index_instructions),
         Compile | Check | CompileTarget => return true,
     };
     count as usize <= most

@@ -1,6 +1,7 @@
 //! Random cases, from a small generator (splitmix64): the same seed and case number give the same case everywhere.
 
 pub mod bad_codes;
+pub mod cards;
 pub mod cases;
 pub mod codes;
 pub mod formulas;

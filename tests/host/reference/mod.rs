@@ -1,6 +1,7 @@
 //! A second implementation of the requirements. It shares nothing with the proved one: literals by exact fractions, values on the
 //! machine's own floats, the grammar by a parser with two stacks.
 
+pub mod cards;
 pub mod check;
 pub mod code;
 pub mod compile;

@@ -43,9 +43,9 @@ impl Report {
         Report { bank: bank as u32, element: element as u32, ..self }
     }
 
-    fn done(value: Value, cell: Cell, count: u32) -> Report {
+    fn done(value: Value, count: u32) -> Report {
         let kind = u32::from(value.kind() == Kind::Real);
-        Report { kind, bits: value.bits(), count, ..Report::default() }.at(cell)
+        Report { kind, bits: value.bits(), count, ..Report::default() }
     }
 
     fn fault(fault: Fault, count: u32) -> Report {
@@ -117,14 +117,17 @@ impl Destination<'_> {
     }
 }
 
-// What follows a value: its cell is found, then it is stored; a fault turns on its flag.
+// What follows a value: an infinity or a NaN is refused, then its cell is found, then it is stored; a fault turns on its flag.
 fn settle(memory: &mut [u8], to: Destination, (result, mut count): (Result<Value, Fault>, u32), tick: u32) -> Report {
-    let mut stored = |value| {
+    let mut stored = |value: Value| {
+        if !value.is_finite() {
+            return Err(Fault::OutOfRange);
+        }
         let cell = to.cell(memory, tick, &mut count)?;
         store(memory, cell, value).map(|()| (value, cell))
     };
     match result.and_then(&mut stored) {
-        Ok((value, cell)) => Report::done(value, cell, count),
+        Ok((value, cell)) => Report::done(value, count).at(cell),
         Err(fault) => {
             set_flag(memory, fault);
             Report::fault(fault, count)
@@ -160,21 +163,53 @@ pub fn compile_target(target: &[u8], index_code: &mut [u8]) -> Report {
     }
 }
 
-/// The target is a cell, or the letter of a bank whose element the index code gives.
+// A target as a run takes it: a cell, or the letter of a bank whose element the index code gives. The answer if it is refused.
+fn destination<'a>(target: &[u8], index_code: Code<'a>) -> Result<Destination<'a>, u32> {
+    match target_name(target) {
+        None => Err(2),
+        Some((bank, Some(element))) => Ok(Destination::Cell(bank, element)),
+        Some((bank, None)) if index_code.accepted() => Ok(Destination::Coded(bank, index_code)),
+        Some((_, None)) => Err(15),
+    }
+}
+
 pub fn run(code: Code, memory: &mut [u8], target: &[u8], index_code: Code, tick: u32) -> Report {
     if memory.len() != MEMORY_BYTES {
         return Report::answer(1);
     }
-    let to = match target_name(target) {
-        None => return Report::answer(2),
-        Some((bank, Some(element))) => Destination::Cell(bank, element),
-        Some((bank, None)) => Destination::Coded(bank, index_code),
-    };
-    if !code.accepted() || matches!(to, Destination::Coded(_, index) if !index.accepted()) {
+    match destination(target, index_code) {
+        Err(answer) => Report::answer(answer),
+        Ok(_) if !code.accepted() => Report::answer(15),
+        Ok(to) => {
+            let outcome = run_accepted(code, memory, tick);
+            settle(memory, to, outcome, tick)
+        }
+    }
+}
+
+/// The first half of a run: the value, or the fault without its flag.
+pub fn evaluate(code: Code, memory: &[u8], tick: u32) -> Report {
+    if memory.len() != MEMORY_BYTES {
+        return Report::answer(1);
+    }
+    if !code.accepted() {
         return Report::answer(15);
     }
-    let outcome = run_accepted(code, memory, tick);
-    settle(memory, to, outcome, tick)
+    match run_accepted(code, memory, tick) {
+        (Ok(value), count) => Report::done(value, count),
+        (Err(fault), count) => Report::fault(fault, count),
+    }
+}
+
+/// The second half, of any value.
+pub fn store_value(value: Value, memory: &mut [u8], target: &[u8], index_code: Code, tick: u32) -> Report {
+    if memory.len() != MEMORY_BYTES {
+        return Report::answer(1);
+    }
+    match destination(target, index_code) {
+        Err(answer) => Report::answer(answer),
+        Ok(to) => settle(memory, to, (Ok(value), 0), tick),
+    }
 }
 
 pub fn compile_and_run(target: &[u8], expr: &[u8], memory: &mut [u8], codes: [&mut [u8]; 2], tick: u32) -> Report {

@@ -20,6 +20,9 @@ pub enum Fault {
     IndexError = 14,
 }
 
+/// By their answers, from 11 on.
+pub const FAULTS: [Fault; 4] = [Fault::DividedByZero, Fault::Overflow, Fault::OutOfRange, Fault::IndexError];
+
 use Value::{Int, Real};
 
 impl Kind {
@@ -45,6 +48,22 @@ impl Value {
         match self {
             Int(i) => i as u32,
             Real(r) => r.to_bits(),
+        }
+    }
+
+    /// Of a kind, where every number but 0 is that of a real, and a pattern.
+    pub fn of_bits(kind: u32, bits: u32) -> Value {
+        match kind {
+            0 => Int(bits as i32),
+            _ => Real(f32::from_bits(bits)),
+        }
+    }
+
+    /// Not an infinity and not a NaN.
+    pub fn is_finite(self) -> bool {
+        match self {
+            Int(_) => true,
+            Real(r) => r.is_finite(),
         }
     }
 

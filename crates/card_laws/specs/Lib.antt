@@ -1,0 +1,6 @@
+pub mod Lines
+pub mod Cards
+pub mod Reading
+pub mod Writing
+pub mod Theorems
+pub mod Formulas
