@@ -34,7 +34,7 @@ extern "C" {
 #define FORMULA_CODE_BYTES        16384u /* the least size of a code buffer to compile into */
 #define FORMULA_INSTRUCTION_BYTES 8u
 #define FORMULA_INSTRUCTIONS      2048u  /* the most that are accepted or compiled */
-#define FORMULA_STACK_BYTES       61440u /* the deepest call that was found takes 56,200 */
+#define FORMULA_STACK_BYTES       65536u /* the deepest call that was found takes 62,432 */
 
 /* Where the banks and the fault flags stand in the memory. All numbers are little-endian. */
 #define FORMULA_X 0u    /* X0-X63, inputs, one byte each: any non-zero byte reads 1 */
@@ -174,6 +174,12 @@ struct formula_written {
 void formula_cards_write(const uint8_t *texts, uint64_t texts_len, const uint32_t *cards, uint64_t words,
                          uint8_t *out, uint64_t out_len, struct formula_written *result);
 
+/* Which cells the first instructions of a code, and of a target's index code, read, whatever the memory holds: cells are numbered X0 0, C0 64, V0 128,
+ * N0 384, D0 640, R0 896. Returns how many there are, at most 1,152; list gets the numbers of the first of them, rising, as many as fit, and its
+ * rest is left alone. Bytes that are no instruction read nothing. For a formula that is not stored, index_instructions is 0. */
+uint32_t formula_cells(const uint8_t *code, uint64_t code_len, uint64_t instructions, const uint8_t *index_code, uint64_t index_len,
+                       uint64_t index_instructions, uint16_t *list, uint64_t list_len);
+
 /* C's fmodf for every x and y, in any floating-point mode and with at most 32 divisions of whole numbers. Where the remainder is
  * a NaN, which NaN is not fixed; errno is left alone. */
 float formula_remainder(float x, float y);
@@ -193,7 +199,7 @@ static inline const char *formula_answer_text(uint32_t answer)
     switch (answer) {
     case FORMULA_DONE: return "done";
     case FORMULA_BAD_MEMORY: return "the memory has not 3,204 bytes";
-    case FORMULA_BAD_TARGET: return "the target is no cell of C, V, N, D or R, nor such a bank with an index";
+    case FORMULA_BAD_TARGET: return "no C, V, N, D or R cell, nor indexed bank";
     case FORMULA_BAD_LENGTH: return "the expression is empty or has over 1,024 bytes";
     case FORMULA_BAD_BYTES: return "bytes that form no token";
     case FORMULA_BAD_NUMBER: return "a number out of range";

@@ -12,7 +12,7 @@ use Rattle.card_laws.specs.Cards.{cardKey, cardNumber}
 
 unfoldable pub wordsOf : ℕ → List ℕ
 wordsOf a =
-    cond (eqb a 2) (ascii "the target is not one C, V, N, D or R cell")
+    cond (eqb a 2) (ascii "no C, V, N, D or R cell, nor indexed bank")
     (cond (eqb a 3) (ascii "the expression is empty or has over 1,024 bytes")
     (cond (eqb a 4) (ascii "bytes that form no token")
     (cond (eqb a 5) (ascii "a number out of range")

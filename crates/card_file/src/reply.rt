@@ -19,7 +19,7 @@ fn put_words(out: &mut [u8], at: usize, a: u32) -> usize
     ensures { λ r. ⌜ r ≤ at + 47 ⌝ }
 {
     if a == 2 {
-        return printing::put_all(out, at, b"the target is not one C, V, N, D or R cell");
+        return printing::put_all(out, at, b"no C, V, N, D or R cell, nor indexed bank");
     }
     if a == 3 {
         return printing::put_all(out, at, b"the expression is empty or has over 1,024 bytes");

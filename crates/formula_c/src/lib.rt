@@ -14,6 +14,7 @@ use values::Kind;
 use values::Value;
 
 mod cards;
+pub mod cells;
 
 fn kind_number(v: Value) -> u32
     ensures { λ r. ⌜ r ≡ kindWord v ⌝ }

@@ -11,7 +11,7 @@ digits-requires : tie.Need-digits-requires
 digits-requires c κs = search needs
 
 returns-2 : tie.Need-returns-2
-returns-2 c = check-digits (c .before .before .before .before .args .text .now) (c .before .before .if1 .left) (c .before .digits .ensures .1 .0)
+returns-2 c = check-digits (c .before .before .before .before .args .text .now) (c .before .before .if1 .left) (c .before .digits .ensures .1 .0 .0)
 
 pub is-check-spec : {M : Type 1} → statement M
 is-check-spec = tie.close (tie.spec returns digits-requires returns-2)

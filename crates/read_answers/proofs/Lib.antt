@@ -1,0 +1,4 @@
+-- Other crates cite Laws.
+pub mod Laws
+mod Runs
+mod Requests

@@ -1,0 +1,47 @@
+-- `ReadTheorems`, from its parts.
+use mathlib.Core.Path.{_≡_, refl, ap, _∙_}
+use mathlib.Core.Bool.{Bool, true, false, _&&_, cond}
+use mathlib.Core.List.{List, []}
+use Prim.Native.Nat.{ℕ, _<_}
+use lib.Dec.{eqb, ltb}
+use lib.ListN.{length}
+use borrow.Author.Tests.{eq-eqb, ltb-true}
+use Rattle.values.specs.declared.Fault.the-variants.{IndexError}
+use Rattle.values.specs.declared.Outcome.the-variants.{Stopped}
+use Rattle.memory.specs.declared.Bank.{Bank}
+use Rattle.memory.specs.Layout.{ImageLayout, layoutOf}
+use Rattle.memory.specs.Cells.{cellValue, readIn}
+use Rattle.memory.specs.Environment.{memoryIn}
+use Rattle.read_set.specs.Cells.{Cells}
+use Rattle.read_laws.specs.Theorems.{AlikeOn, AgreeOn, ReadTheorems}
+use Rattle.read_laws.proofs.Environments.{values, runs-same}
+use Rattle.read_laws.proofs.Codes.{code-cells}
+use Rattle.read_laws.proofs.Lists.{cells-listed, cells-rising}
+
+-- images of the right size read alike where they hold the same number, or have no element
+reads-alike : (L : ImageLayout) (m n : List ℕ) (b : Bank) (i : ℕ) → length m ≡ L .size → length n ≡ L .size
+    → (i < layoutOf b .elements → L .get m b i ≡ L .get n b i) → readIn L m b i ≡ readIn L n b i
+reads-alike L m n b i h h′ same =
+    rw (eq-eqb (length m) (L .size) h, eq-eqb (length n) (L .size) h′) (by (ltb i (layoutOf b .elements)) refl)
+  where
+    by : (t : Bool) → ltb i (layoutOf b .elements) ≡ t
+        → cond t (cellValue b (L .get m b i)) (Stopped IndexError) ≡ cond t (cellValue b (L .get n b i)) (Stopped IndexError)
+    by true e = ap (cellValue b) (same (ltb-true i (layoutOf b .elements) e))
+    by false e = refl
+
+alike : {L : ImageLayout} {f : Cells} {m n : List ℕ} (tick : ℕ) → AgreeOn L f m n → AlikeOn f (memoryIn L tick m) (memoryIn L tick n)
+alike tick a = record { cells = a .cells; tick = refl }
+
+pub read-theorems : ReadTheorems
+read-theorems =
+    record {
+      value = λ E F t a. values t a;
+      run = λ E F c a. runs-same E F c 0 [] a;
+      code = λ t b i. code-cells b i t;
+      memories = λ L tick f m n a. alike tick a;
+      same-value = λ L tick t m n a. values t (alike tick a);
+      same-run = λ L tick c m n a. runs-same (memoryIn L tick m) (memoryIn L tick n) c 0 [] (alike tick a);
+      bytes = λ L f m n h h′ same. record { size = h; size′ = h′; cells = λ b i e. reads-alike L m n b i h h′ (λ l. same b i e l) };
+      listed = cells-listed;
+      rising = cells-rising;
+    }
