@@ -17,7 +17,8 @@ struct line {
 };
 
 /* V0 is the weight of the wool in grams, V1 the number of skeins, V2 the vat, X0 the switch of the pump.
- * R10 to R12 hold the dye in millilitres for each kilogram, one for each vat; D20 to D22 count the skeins of each vat. */
+ * R10 to R12 hold the dye in millilitres for each kilogram, one for each vat; D20 to D22 count the skeins of each vat; D40 holds
+ * the tick at which the pump was started, and C1 comes on 150 ms later, also across the turn of the counter. */
 static struct line recipe[] = {
     {"R0", "V0 / 1000.0 * R[10 + V2]", 0, 0, {0}, {0}},
     {"D0", "ROUND(R0)", 0, 0, {0}, {0}},
@@ -25,6 +26,7 @@ static struct line recipe[] = {
     {"C0", "X0 && R0 >= 0.5", 0, 0, {0}, {0}},
     {"V9", "MIN(D0 * 4, 1000)", 0, 0, {0}, {0}},
     {"D[20 + V2]", "D[20 + V2] + V1", 0, 0, {0}, {0}},
+    {"C1", "SINCE(D40) >= 150", 0, 0, {0}, {0}},
 };
 #define LINES (sizeof recipe / sizeof recipe[0])
 
@@ -135,6 +137,21 @@ static void show_and_clear_flags(void)
     printf(faults == 0 ? "  dose\n" : "  do not dose\n");
 }
 
+/* The millilitres stand on the panel before anything is stored: no cell and no flag is written. */
+static void show_on_panel(uint32_t tick)
+{
+    const struct line *line = &recipe[0];
+    struct formula_report report;
+    float millilitres;
+    formula_evaluate(line->code, sizeof line->code, line->instructions, memory, sizeof memory, tick, &report);
+    memcpy(&millilitres, &report.bits, 4);
+    if (report.answer == FORMULA_DONE) {
+        printf("  panel: %.3f ml\n", millilitres);
+    } else {
+        printf("  panel: %s\n", formula_answer_text(report.answer));
+    }
+}
+
 /* The tick is the box's counter of milliseconds, read once for the whole scan. */
 static void scan(uint32_t tick)
 {
@@ -157,6 +174,7 @@ static void scan_with(uint32_t tick, uint16_t grams, uint16_t skeins, uint16_t v
     set_v(0, grams);
     set_v(1, skeins);
     set_v(2, vat);
+    show_on_panel(tick);
     scan(tick);
 }
 
@@ -180,9 +198,10 @@ int main(void)
     set_r(10, 12.5f);
     set_r(11, 8.0f);
     set_r(12, 20.25f);
-    scan_with(0, 1500, 6, 0);
-    scan_with(100, 40000, 16, 2);
-    scan_with(200, 250, 0, 1);
-    scan_with(300, 1500, 6, 300);
+    set_word(FORMULA_D + 4 * 40, 0xFFFFFF9Cu);
+    scan_with(0xFFFFFF9Cu, 1500, 6, 0);
+    scan_with(0, 40000, 16, 2);
+    scan_with(100, 250, 0, 1);
+    scan_with(200, 1500, 6, 300);
     return 0;
 }

@@ -1,7 +1,7 @@
 /* Formulas of the dosing controller: compile, check and run them. docs/LANGUAGE.md has the language, docs/ANSWERS.md the answers.
  *
  * Linking. `sh include/build.sh` makes two archives, for x86-64 only today. libformula_c.a wants -lm, for fmodf;
- * libformula_bare.a has formula_remainder in its place and wants no library. Beside that they call memset alone.
+ * libformula_bare.a has formula_remainder in its place and wants no library. Beside that they call memset and memcpy alone.
  *
  * Buffers. Each is lent for the call only. One passed as const is never written. No pointer may be null, also where its length
  * is 0, and no two buffers of a call may overlap, the report included. They need no alignment but the report, which is a struct.
@@ -34,7 +34,7 @@ extern "C" {
 #define FORMULA_CODE_BYTES        16384u /* the least size of a code buffer to compile into */
 #define FORMULA_INSTRUCTION_BYTES 8u
 #define FORMULA_INSTRUCTIONS      2048u  /* the most that are accepted or compiled */
-#define FORMULA_STACK_BYTES       65536u /* the deepest call that was found takes 62,432 */
+#define FORMULA_STACK_BYTES       61440u /* the deepest call that was found takes 51,824 */
 
 /* Where the banks and the fault flags stand in the memory. All numbers are little-endian. */
 #define FORMULA_X 0u    /* X0-X63, inputs, one byte each: any non-zero byte reads 1 */
