@@ -207,7 +207,7 @@ static inline const char *formula_answer_text(uint32_t answer)
     case FORMULA_BAD_GRAMMAR: return "not in the grammar";
     case FORMULA_TOO_DEEP: return "more than eight open ( and [";
     case FORMULA_BAD_KIND: return "a real where an integer is needed";
-    case FORMULA_SMALL_BUFFER: return "compiling into fewer than 16,384 bytes";
+    case FORMULA_SMALL_BUFFER: return "compiling into fewer than 16,384 bytes, or a file that does not fit";
     case FORMULA_DIVIDE_FAULT: return "divided by zero";
     case FORMULA_OVERFLOW_FAULT: return "overflow";
     case FORMULA_RANGE_FAULT: return "out of range";
