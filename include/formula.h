@@ -88,9 +88,9 @@ enum formula_bank {
 struct formula_report {
     uint32_t answer;  /* one of enum formula_answer */
     uint32_t place;   /* answers 4 to 9: the byte of the expression that it is about; else 0 */
-    uint32_t kind;    /* one of enum formula_kind: the value's. 0 on a refusal or fault, and where nothing is run */
+    uint32_t kind;    /* one of enum formula_kind: the value's. 0 on a refusal or fault, and for compiling and checking */
     uint32_t bits;    /* the value's 32-bit pattern, before the store; 0 where kind is 0 for want of a value */
-    uint32_t count;   /* compiling: instructions written; running: instructions begun, the index's included; else 0 */
+    uint32_t count;   /* compiling: instructions written; running: instructions begun and cells visited, the index's included; else 0 */
     uint32_t bank;    /* one of enum formula_bank, and the element of it: the cell that was stored to, or that */
     uint32_t element; /* formula_compile_target found; 0 and 0 otherwise */
 };
@@ -133,8 +133,9 @@ void formula_evaluate(const uint8_t *code, uint64_t code_len, uint64_t instructi
                       uint64_t memory_len, uint32_t tick, struct formula_report *report);
 
 /* Stores a value, as kind and bits of a report, into a target of the form that formula_run takes. Any kind but 0 is a real; one
- * that is infinite or NaN is 13 into any target, before the index is worked out. formula_evaluate, then this, is formula_run:
- * its count is the sum of theirs. Answers: 0, 1, 2, 11 to 15. */
+ * that is infinite or NaN is 13 into any target, before the index is worked out. Where formula_evaluate
+ * answers 0, this with its kind and bits, the same memory and tick, does what formula_run does, whose count is the sum of both. A fault
+ * of formula_evaluate sets no flag; formula_run would. Answers: 0, 1, 2, 11 to 15. */
 void formula_store(uint32_t kind, uint32_t bits, uint8_t *memory, uint64_t memory_len, const uint8_t *target,
                    uint64_t target_len, const uint8_t *index_code, uint64_t index_len, uint64_t index_instructions,
                    uint32_t tick, struct formula_report *report);
