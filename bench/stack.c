@@ -62,6 +62,25 @@ static void store(void) {
     formula_store(FORMULA_INTEGER, 0, memory, sizeof memory, target, 1, code, sizeof code, count, tick, &report);
 }
 
+/* The target and the text as a card: written, and read again where that was done. */
+static uint8_t texts[2 * FORMULA_TEXT_BYTES], file[3 * FORMULA_TEXT_BYTES];
+static uint32_t card[5];
+static struct formula_written written;
+static struct formula_cards cards;
+
+static void cards_write(void) {
+    formula_cards_write(texts, target_len + expr_len, card, 5, file, sizeof file, &written);
+}
+
+static void cards_read(void) {
+    formula_cards_read(file, written.length, &cards);
+}
+
+static void cells(void) {
+    static uint16_t list[1152];
+    formula_cells(code, sizeof code, count, index_code, 0, 0, list, 1152);
+}
+
 static size_t painted_depth(void (*operation)(void), uint8_t paint) {
     size_t low = 0;
     memset(stack, paint, STACK);
@@ -98,6 +117,9 @@ static struct measured measured[] = {
     {"formula_compile_target", compile_target, 0, ""},
     {"formula_evaluate", evaluate, 0, ""},
     {"formula_store", store, 0, ""},
+    {"formula_cards_write", cards_write, 0, ""},
+    {"formula_cards_read", cards_read, 0, ""},
+    {"formula_cells", cells, 0, ""},
 };
 
 #define OPERATIONS (sizeof measured / sizeof measured[0])
@@ -112,6 +134,11 @@ static void measure(const char *name, const char *target_text, const char *expr_
     target_len = strlen(target_text);
     expr = (const uint8_t *)expr_text;
     expr_len = strlen(expr_text);
+    memcpy(texts, target, target_len);
+    memcpy(texts + target_len, expr, expr_len);
+    card[0] = 1;
+    card[2] = card[3] = (uint32_t)target_len;
+    card[4] = (uint32_t)expr_len;
     for (size_t i = 0; i < OPERATIONS; i++) {
         size_t deep = depth(measured[i].operation) - base;
         if (measured[i].operation == compile) {

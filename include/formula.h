@@ -4,9 +4,10 @@
  * libformula_bare.a has formula_remainder in its place and wants no library. Beside that they call memset and memcpy alone.
  *
  * Buffers. Each is lent for the call only. One passed as const is never written. No pointer may be null, also where its length
- * is 0, and no two buffers of a call may overlap, the report included. They need no alignment but the report, which is a struct.
+ * is 0, and no two buffers of a call may overlap, the report included. Byte buffers
+ * need no alignment; reports, results, words and lists that of their type.
  *
- * Calls. Each ends and fills in the whole report. There is no static data: calls on buffers of their own may interrupt one another
+ * Calls. Each ends and fills in its whole report or result. There is no static data: calls on buffers of their own may interrupt one another
  * or run side by side.
  *
  * Tick. The caller's counter of milliseconds, any 32 bits, which goes on from 0xFFFFFFFF to 0. TICKms() is this pattern and SINCE(x) the tick
