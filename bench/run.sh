@@ -41,10 +41,13 @@ part() {
     echo "$1" | awk -v budget="$budget" '{ printf "%.1f", 100 * $1 / budget }'
 }
 
-# The instructions of one function of a scan. Valgrind counts each byte that `rep stosb` clears as an instruction; with the
-# tunable memset is a loop of stores, as it is on a controller.
+# Valgrind counts each byte that `rep stosb` clears or `rep movsb` copies as an instruction; with these memset and memcpy are loops
+# of stores, as they are on a controller.
+tunables=glibc.cpu.x86_rep_stosb_threshold=100000000:glibc.cpu.x86_rep_movsb_threshold=100000000
+
+# The instructions of one function of a scan.
 counted() {
-    GLIBC_TUNABLES=glibc.cpu.x86_rep_stosb_threshold=100000000 valgrind --tool=callgrind --callgrind-out-file=/dev/null \
+    GLIBC_TUNABLES=$tunables valgrind --tool=callgrind --callgrind-out-file=/dev/null \
         --toggle-collect="$2" "$out/bench_bare" scan "$1" 2>&1 |
         sed -n 's/.*Collected *: *//p'
 }

@@ -34,7 +34,7 @@ module _ (E : Environment) where
   begun-most (JumpIf t d) st = omega arith
   begun-most Tick st = omega arith
   begun-most Since st = omega arith
-  begun-most (Total o b i n) st = total-laws .total-cells E o b i n
+  begun-most (Total o b i n) st = omega (arith, total-laws .total-cells E o b i n)
   begun-most (Match o b i n) [] = omega arith
   begun-most (Match o b i n) (v ∷ st) = total-laws .match-cells E o v b i n
   begun-most Unknown st = omega arith

@@ -4,7 +4,7 @@ use mathlib.Core.Path.{_≡_}
 use mathlib.Core.Logic.{_⊎_, inl, inr}
 use mathlib.Core.Bool.{Bool, true, false, cond, Bool·beq}
 use mathlib.Core.List.{List, [], _∷_}
-use Prim.Native.Nat.{ℕ, zero, suc, _^_, _<_}
+use Prim.Native.Nat.{ℕ, zero, suc}
 use lib.Dec.{ltb}
 use lib.ListN.{length}
 use Rattle.words.specs.Laws.{Bytes}
@@ -110,5 +110,5 @@ module _ (tick : ℕ) (m : List ℕ) (bytes : Bytes m) where
       goes-on (cost (memoryAt tick m) (decodeAt code p) st) (decodeFrom code (suc p) n) (act (memoryAt tick m) (decodeAt code p) st) (from code b (suc p) n)
       (decoded (decodeAt code p) (decode-encodable code p b) s)
 
-pub runs-proper : (code : List ℕ) (n tick : ℕ) (m : List ℕ) → Bytes code → tick < 2 ^ 32 → Bytes m → ProperEnd (runsAt tick code n m .end)
-runs-proper code n tick m b l h = from tick m h code b 0 n 0 [] none
+pub runs-proper : (code : List ℕ) (n tick : ℕ) (m : List ℕ) → Bytes code → Bytes m → ProperEnd (runsAt tick code n m .end)
+runs-proper code n tick m b h = from tick m h code b 0 n 0 [] none

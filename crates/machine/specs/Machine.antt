@@ -139,6 +139,3 @@ exec E (i ∷ c) zero st = elim (act E i st) [ goes k st′ ↦ counting (cost E
 -- the first n instructions of the code at the tick t, from no values held
 abbrev pub runsAt : ℕ → List ℕ → ℕ → List ℕ → Ran
 runsAt t code n memory = exec (memoryAt t memory) (instructions code n) 0 []
-
-abbrev pub runs : List ℕ → ℕ → List ℕ → Ran
-runs code n memory = runsAt 0 code n memory

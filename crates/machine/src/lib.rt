@@ -29,9 +29,6 @@ use values::Fault;
 use values::Outcome;
 use values::Value;
 
-// The tick at which paper 01's operations run.
-pub const FIRST_TICK: u32 = 0;
-
 // How a run ends: with the one value held, with a fault, or stuck: short of a value, given one of a wrong kind, past 128 held, at
 // bytes that are no instruction, or past the end.
 pub enum Ended {
@@ -390,7 +387,8 @@ fn finished(n: usize, place: usize, h: usize, v: Value, count: usize) -> Ran
 }
 
 // The first n instructions of the code, from no values held. They are no more than the check takes, so that the count fits. Bytes beyond
-// the code are no instruction. A jump past the end leaves the loop as the end does, and is told from it afterwards.
+// the code are no instruction. A jump past the end leaves the loop as the end does, and is told from it afterwards. The match stands whole:
+// with some of its arms in a function of their own a run takes a tenth to a half more machine instructions.
 pub fn run(code: &[u8], n: usize, image: &[u8], tick: u32) -> Ran
     requires { ⌜ n ≤ 2048 ⌝ }
     ensures { λ r. ⌜ r ≡ runsAt tick (now (code .entry)) n (now (image .entry)) ⌝ }

@@ -108,7 +108,7 @@ destinationOf E (toCell b i) = cell b i
 destinationOf E (toIndexed b t) = reached b (endOf (eval E t))
 destinationOf E noTarget = lost
 
--- with the instructions of the index begun on the way
+-- with what the index counted on the way: its instructions begun and the cells that they visited
 pub record Arrival : Type 0 where
   pub destination : Destination
   pub count : ℕ
@@ -181,12 +181,14 @@ abbrev pub indexPasses : List ℕ → Element → Bool
 indexPasses index (Is i) = true
 indexPasses index (By k) = isAccepted (verdict (instructions index k))
 
-abbrev pub ifAccepted : Verdict → Goal → Goal
-ifAccepted (Verdict.Accepted k) g = g
-ifAccepted Verdict.Refused g = none 15
+-- of the target and the index code
+abbrev pub givenGoalOf : List ℕ → Found → Goal
+givenGoalOf index (Found.In b e) = cond (indexPasses index e) (to b e) (none 15)
+givenGoalOf index Found.Other = none 2
 
+-- and of the code, which is looked at between them
 abbrev pub goalOf : List ℕ → Verdict → Found → Goal
-goalOf index v (Found.In b e) = ifAccepted v (cond (indexPasses index e) (to b e) (none 15))
+goalOf index v (Found.In b e) = cond (isAccepted v) (givenGoalOf index (Found.In b e)) (none 15)
 goalOf index v Found.Other = none 2
 
 -- the code, the number of its instructions, the target, the index code, the number of its instructions, the memory
@@ -230,10 +232,6 @@ bitsOf (Real x) = Ieee.toBits binary32 x
 -- and back: any kind but 0 is a real
 abbrev pub givenValue : ℕ → ℕ → Value
 givenValue kind bits = cond (eqb kind 0) (Int (signedOf 32 bits)) (Real (Ieee.ofBits binary32 bits))
-
-abbrev pub givenGoalOf : List ℕ → Found → Goal
-givenGoalOf index (Found.In b e) = cond (indexPasses index e) (to b e) (none 15)
-givenGoalOf index Found.Other = none 2
 
 abbrev pub givenGoal : List ℕ → List ℕ → ℕ → List ℕ → Goal
 givenGoal target index k m = cond (eqb (length m) imageSize) (givenGoalOf index (foundToRun k target)) (none 1)

@@ -4,16 +4,17 @@ ghost use mathlib.Core.Path.{_≡_};
 ghost use mathlib.Core.Bool.{true};
 ghost use Prim.Native.Nat.{_≤_};
 ghost use lib.ListN.{length};
-ghost use Rattle.memory.specs.Store.{isFinite, withFlag, storeImage};
+ghost use Rattle.memory.specs.Store.{isFinite, withFlag};
 ghost use Rattle.text.specs.Targets.{targetOf};
 ghost use Rattle.compiler.specs.Compile.{compiling, codedBytes};
+ghost use Rattle.targets.specs.declared.Element.the-variants.{By};
 ghost use Rattle.targets.specs.Found.{foundOf, indexBytes};
 ghost use Rattle.operations.specs.Operations.{reportOf, compileAnswer, checkAnswer, compileTargetAnswer, compileTargetCode};
-ghost use Rattle.operations.specs.Operations.{storedAnswer, reached, arrivedAnswer, arrivedMemory, arrival, followAnswer, followMemory};
+ghost use Rattle.operations.specs.Operations.{afterStore, reached, arrivedAnswer, arrivedMemory, arrival, followAnswer, followMemory};
 ghost use Rattle.operations.specs.Operations.{finished, memoryAfter, indexPasses, runAnswer, runMemory};
 ghost use Rattle.operations.specs.Operations.{evaluateAnswer, givenValue, givenAnswer, givenMemory};
 ghost use Rattle.operations.specs.Operations.{request, requestAnswer, requestMemory, requestCode, requestIndex};
-ghost use Rattle.operations.specs.private.Bounds.{mostBegun, Few};
+ghost use Rattle.operations.specs.private.Bounds.{mostBegun, Few, FiniteEnd};
 use compiler::Coded;
 use machine::Ended;
 use machine::Ran;
@@ -27,15 +28,15 @@ use values::Fault;
 use values::Value;
 use verifier::Verdict;
 
-// Done with a value, the instructions executed and the cell stored to; a fault and the instructions begun; or a refusal's number and
-// place.
+// Done with a value, a count and a cell: after a run what its instructions counted, the cells that they visited included, and the cell
+// stored to. A fault and what was counted until then; or a refusal's number and place.
 pub enum Answer {
     Done(Value, usize, Bank, u32),
     Fault(Fault, usize),
     Refused(u32, usize),
 }
 
-// The answer as paper 01 counts it.
+// The answer by its number, as paper 01 returns it, with the cell that paper 02 adds.
 pub struct Report {
     pub answer: u32,
     pub place: usize,
@@ -119,12 +120,11 @@ fn flagged(memory: &mut [u8], f: Fault, count: usize) -> Answer
     Answer::Fault(f, count)
 }
 
-// The value that was worked out goes to its cell.
-fn stored(memory: &mut [u8], bank: Bank, element: u32, v: Value, count: usize) -> Answer
-    ensures { λ r. ⌜ r ≡ storedAnswer (now (memory .entry)) bank element v count ⌝ }
-    ensures { λ r. ⌜ now (memory .exit) ≡ storeImage (now (memory .entry)) bank element v ⌝ }
+// The answer after a store. Each way calls the store itself: a function around both would give the whole answer back through memory.
+fn after_store(s: Stored, v: Value, count: usize, bank: Bank, element: u32) -> Answer
+    ensures { λ r. ⌜ r ≡ afterStore v count bank element s ⌝ }
 {
-    match memory::store::store(memory, bank, element, v) {
+    match s {
         Stored::Done => Answer::Done(v, count, bank, element),
         Stored::Stopped(f) => Answer::Fault(f, count),
     }
@@ -137,7 +137,10 @@ fn arrived(memory: &mut [u8], bank: Bank, end: Ended, v: Value, count: usize) ->
 {
     match end {
         Ended::Done(index) => match cells::position(bank, index) {
-            Position::At(i) => stored(memory, bank, i, v, count),
+            Position::At(i) => {
+                let s = memory::store::store(memory, bank, i, v);
+                after_store(s, v, count, bank, i)
+            }
             Position::Stopped(f) => flagged(memory, f, count),
         },
         Ended::Stopped(f) => flagged(memory, f, count),
@@ -145,43 +148,26 @@ fn arrived(memory: &mut [u8], bank: Bank, end: Ended, v: Value, count: usize) ->
     }
 }
 
-fn is_finite(v: Value) -> bool
-    ensures { λ r. ⌜ r ≡ isFinite v ⌝ }
-{
-    match v {
-        Value::Int(_) => true,
-        Value::Real(x) => values::singles::is_finite(x),
-    }
-}
-
-// What follows a value that so many instructions gave: 13 if it is infinite or NaN, then the index, then the store.
-fn follow(
+// A value that so many instructions gave goes to the element of its bank that k instructions of the index code give.
+fn to_element(
     memory: &mut [u8],
     bank: Bank,
-    element: Element,
     index: &[u8],
+    k: usize,
     v: Value,
     count: usize,
     tick: u32,
 ) -> Answer
-    requires { ⌜ Few element × (count ≤ mostBegun) ⌝ }
-    ensures { λ r. ⌜ r ≡ followAnswer (now (memory .entry)) v count (arrival tick (now (index .entry)) (now (memory .entry)) bank element) ⌝ }
-    ensures { λ r. ⌜ now (memory .exit) ≡ followMemory (now (memory .entry)) v (arrival tick (now (index .entry)) (now (memory .entry)) bank element) ⌝ }
+    requires { ⌜ (k ≤ 2048) × (count ≤ mostBegun) × (isFinite v ≡ true) ⌝ }
+    ensures { λ r. ⌜ r ≡ followAnswer (now (memory .entry)) v count (arrival tick (now (index .entry)) (now (memory .entry)) bank (By k)) ⌝ }
+    ensures { λ r. ⌜ now (memory .exit) ≡ followMemory (now (memory .entry)) v (arrival tick (now (index .entry)) (now (memory .entry)) bank (By k)) ⌝ }
 {
-    if !is_finite(v) {
-        return flagged(memory, Fault::OutOfRange, count);
-    }
-    match element {
-        Element::Is(i) => stored(memory, bank, i, v, count),
-        Element::By(k) => {
-            let ran = machine::run(index, k, memory, tick);
-            let end = ran.end;
-            arrived(memory, bank, end, v, count + ran.count)
-        }
-    }
+    let ran = machine::run(index, k, memory, tick);
+    let end = ran.end;
+    arrived(memory, bank, end, v, count + ran.count)
 }
 
-// After a run: what follows its value, or its fault's flag.
+// After a run: its value goes to the target, or its fault sets its flag. No run of bytes gives an infinity or a NaN, so none is looked for.
 fn finish(
     memory: &mut [u8],
     bank: Bank,
@@ -190,15 +176,21 @@ fn finish(
     ran: Ran,
     tick: u32,
 ) -> Answer
-    requires { ⌜ Few element × (ran .count ≤ mostBegun) ⌝ }
+    requires { ⌜ Few element × (ran .count ≤ mostBegun) × FiniteEnd (ran .end) ⌝ }
     ensures { λ r. ⌜ r ≡ finished (now (memory .entry)) (arrival tick (now (index .entry)) (now (memory .entry)) bank element) (ran .end) (ran .count) ⌝ }
     ensures { λ r. ⌜ now (memory .exit) ≡ memoryAfter (now (memory .entry)) (arrival tick (now (index .entry)) (now (memory .entry)) bank element) (ran .end) ⌝ }
 {
     let count = ran.count;
     let end = ran.end;
     match end {
-        Ended::Done(v) => follow(memory, bank, element, index, v, count, tick),
-        Ended::Stopped(f) => flagged(memory, f, count),
+        Ended::Done(v) => match element {
+            Element::Is(i) => {
+                let s = memory::store::store(memory, bank, i, v);
+                after_store(s, v, count, bank, i)
+            }
+            Element::By(k) => to_element(memory, bank, index, k, v, count, tick),
+        },
+        Ended::Stopped(fault) => flagged(memory, fault, count),
         Ended::Stuck => Answer::Refused(15, 0),
     }
 }
@@ -281,7 +273,14 @@ pub fn store(
     if !is_finite_given(kind, bits) {
         return flagged(memory, Fault::OutOfRange, 0);
     }
-    follow(memory, bank, element, index, given(kind, bits), 0, tick)
+    let v = given(kind, bits);
+    match element {
+        Element::Is(i) => {
+            let s = memory::store::store(memory, bank, i, v);
+            after_store(s, v, 0, bank, i)
+        }
+        Element::By(k) => to_element(memory, bank, index, k, v, 0, tick),
+    }
 }
 
 // The target is a cell, or a bank letter alone whose element the first k instructions of the index code give. The tick is the caller's, the same throughout.

@@ -116,7 +116,7 @@ run-sound k target tick index m {b} (By j) f h = by (verdict (instructions index
 -- ---- the end
 
 module _ (m : List ℕ) (size : length m ≡ imageSize) where
-  flag : (f : FaultName) → withFlag m f ≡ set m (flagAt f) 1
+  pub flag : (f : FaultName) → withFlag m f ≡ set m (flagAt f) 1
   flag f = rw (eq-eqb (length m) imageSize size)
 
   pub there : (b : Bank) (i : ℕ) → i < layoutOf b .elements → hasCell m b i ≡ true

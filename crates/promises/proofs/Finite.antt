@@ -1,7 +1,7 @@
 -- A value that is given is an integer of 32 bits or a finite single: of any code, and so of a formula, whose code is bytes like any other.
 use mathlib.Core.Path.{_≡_, subst}
 use mathlib.Core.List.{List, [], _∷_, _++_}
-use Prim.Native.Nat.{ℕ, zero, suc, _^_, _≤_, _<_}
+use Prim.Native.Nat.{ℕ, zero, suc, _≤_, _<_}
 use native.Mathlib.Omega.{arith}
 use lib.Dec.{lit<}
 use lib.ListN.{length, set, replicate, length-replicate}
@@ -33,8 +33,8 @@ finite-end e (value {v = w} p) v q = let z : w ≡ v = cc in subst Proper z p
 finite-end e fault v q = let z : _≡_ {A = ℕ} 0 1 = cc in absurd (omega arith)
 finite-end e stuck v q = let z : _≡_ {A = ℕ} 0 1 = cc in absurd (omega arith)
 
-pub finite-code : (code : List ℕ) (n tick : ℕ) (m : List ℕ) → Bytes code → tick < 2 ^ 32 → Bytes m → Finite (runsAt tick code n m .end)
-finite-code code n tick m b l h = finite-end (runsAt tick code n m .end) (runs-proper code n tick m b l h)
+pub finite-code : (code : List ℕ) (n tick : ℕ) (m : List ℕ) → Bytes code → Bytes m → Finite (runsAt tick code n m .end)
+finite-code code n tick m b h = finite-end (runsAt tick code n m .end) (runs-proper code n tick m b h)
 
 -- ---- compiled code is bytes
 
@@ -69,10 +69,10 @@ enough n = omega (arith, length-replicate {A = ℕ} n 0)
 
 -- ---- a formula
 
-pub finite : {text : List ℕ} {t : Tree} (tick : ℕ) (m : List ℕ) → AcceptedFormula text t → tick < 2 ^ 32 → Bytes m → Finite (endOf (eval (memoryAt tick m) t))
-finite {text} {t} tick m a l h =
+pub finite : {text : List ℕ} {t : Tree} (tick : ℕ) (m : List ℕ) → AcceptedFormula text t → Bytes m → Finite (endOf (eval (memoryAt tick m) t))
+finite {text} {t} tick m a h =
     let code : List ℕ = replicate 16384 0 in
     let long : 16384 ≤ length code = enough 16384 in
     let same = run-tree 0 text t (is-formula a) tick m code long in
     let bytes = all-set code 0 (encodeAll (codeOf t)) (zeros 16384) (subst Bytes (words-encoded (codeOf t)) (of-words (codeWords (codeOf t)))) in
-    subst Finite same (finite-code (codedBytes code (accepted t)) (length (codeOf t)) tick m bytes l h)
+    subst Finite same (finite-code (codedBytes code (accepted t)) (length (codeOf t)) tick m bytes h)

@@ -2,7 +2,7 @@
 use mathlib.Core.Path.{_≡_, refl, sym, ap, ap₂, subst⁻¹, _∙_}
 use mathlib.Core.Bool.{Bool, true, false, cond}
 use mathlib.Core.List.{List}
-use Prim.Native.Nat.{ℕ, _+_, _^_, _<_}
+use Prim.Native.Nat.{ℕ, _+_}
 use native.Mathlib.Nat.{add-zero, zero-add}
 use native.Mathlib.Omega.{arith}
 use lib.Dec.{eqb, lit<}
@@ -46,6 +46,8 @@ use Rattle.operations.specs.Operations.{valueAnswer, evaluateAnswer, kindWord, 
 use Rattle.operations.specs.Operations.{stores, request, requestAnswer, requestMemory}
 use Rattle.promises.specs.Halves.{counted, Halves}
 use Rattle.promises.proofs.Finite.{finite-code}
+use Rattle.promises.proofs.Alone.{evaluate-wrong-memory, evaluate-wrong-code, evaluates, evaluates-formula, evaluate-listed}
+use Rattle.promises.proofs.Alone.{store-wrong-memory, store-bad-target, store-wrong-index, stores-given, stores-infinite}
 
 -- ---- the counts are added
 
@@ -135,6 +137,16 @@ reads-back v (real x S) = ap Real (real-laws .decode-encode x S)
 
 pub halves : Halves
 halves = record {
+  evaluate-wrong-memory = evaluate-wrong-memory;
+  evaluate-wrong-code = evaluate-wrong-code;
+  evaluates = evaluates;
+  evaluates-formula = λ code m tick h a c. evaluates-formula code m tick h a c;
+  evaluate-listed = evaluate-listed;
+  store-wrong-memory = store-wrong-memory;
+  store-bad-target = store-bad-target;
+  store-wrong-index = λ v index k j tick {target} {m} ready h. store-wrong-index v target index m k tick j ready h;
+  stores-given = λ v index k tick {target} {m} ready p. stores-given v target index m k tick ready p;
+  stores-infinite = λ v index k tick {target} {m} ready p h. stores-infinite v target index m k tick ready p h;
   faults = λ code target index m n k tick g q. faults code target index m n k tick g q;
   gives = λ code target index m n k tick q. gives code target index m n k tick q;
   request-faults = λ target text m code index tick g t code′ index′ q d. (
@@ -147,8 +159,8 @@ halves = record {
     ap (requestMemory tick m) q ∙ ap (memoryAfter m (arrivalOf tick index′ m g)) d,
   );
   reads-back = reads-back;
-  evaluate-then-store = λ code target index m n k tick {v} {c} b l h q.
+  evaluate-then-store = λ code target index m n k tick {v} {c} b h q.
       let x = runsAt tick code n m in
       let e = ended code target index m n k tick (x .end) (x .count) v c (eqb (length m) imageSize) (verdict (instructions code n)) q in
-      rw (reads-back v (finite-code code n tick m b l h v e)) (gives code target index m n k tick q);
+      rw (reads-back v (finite-code code n tick m b h v e)) (gives code target index m n k tick q);
 }

@@ -240,6 +240,10 @@ pub runs-to : (code index target m : List ℕ) (n k tick : ℕ) → let x = resu
     answerNumber (x .answer) ≡ 0 → Names (foundToRun k target) (reportOf (x .answer) .bank) (reportOf (x .answer) .element)
 runs-to code index target m n k tick = names (sorted-run m code index target n k tick)
 
+pub given-to : (code index target m : List ℕ) (kind bits k tick : ℕ) → let x = resultOf (store kind bits k tick) target m code index in
+    answerNumber (x .answer) ≡ 0 → Names (foundToRun k target) (reportOf (x .answer) .bank) (reportOf (x .answer) .element)
+given-to code index target m kind bits k tick = names (sorted-store m code index target (givenValue kind bits) k tick)
+
 pub stores-to : (text code index target m : List ℕ) (tick : ℕ) → let x = resultOf (compile-and-run text tick) target m code index in
     answerNumber (x .answer) ≡ 0 → Names (foundOf (targetOf target)) (reportOf (x .answer) .bank) (reportOf (x .answer) .element)
 stores-to text code index target m tick = names (sorted-request m code index target text tick)

@@ -9,5 +9,7 @@ mod Plain
 mod Finite
 mod Endings
 mod Numbers
+pub mod Targets
 pub mod Halves
+mod Alone
 pub mod Sheet

@@ -55,7 +55,7 @@ module _ (text code index target m : List ℕ) (n k tick : ℕ) where
   bad-run-target h e = ap (ranAnswer tick index m (runsAt tick code n m)) (run.named code n target index k m h e refl)
 
 -- the check's verdict on code that is not accepted
-refused : (code : List ℕ) (n : ℕ) → ((k : Kind) → Accepts (instructions code n) k → ⊥) → verdict (instructions code n) ≡ Verdict.Refused
+pub refused : (code : List ℕ) (n : ℕ) → ((k : Kind) → Accepts (instructions code n) k → ⊥) → verdict (instructions code n) ≡ Verdict.Refused
 refused code n h = by (verdict (instructions code n)) refl
   where
     by : (v : Verdict) → verdict (instructions code n) ≡ v → v ≡ Verdict.Refused

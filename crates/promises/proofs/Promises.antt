@@ -3,9 +3,9 @@ use Rattle.text.proofs.Theorems.{text-theorems}
 use Rattle.targets.proofs.Theorems.{target-theorems}
 use Rattle.operations.proofs.Verdicts.{accepted-by, passes}
 use Rattle.promises.specs.Promises.{Promises}
-use Rattle.promises.proofs.Keeping.{kept, runs-to, stores-to}
+use Rattle.promises.proofs.Keeping.{kept, runs-to, given-to, stores-to}
 use Rattle.promises.proofs.Order.{wrong-memory, small-buffer, small-index, bad-target, bad-run-target, wrong-code, wrong-index}
-use Rattle.promises.proofs.Texts.{compiles, performs, answers, same-code, same-refusal}
+use Rattle.promises.proofs.Texts.{compiles, performs, answers, same-code, same-index, same-refusal}
 use Rattle.promises.proofs.Codes.{only-code, only-index, faithful, faithful-index, ends}
 use Rattle.promises.proofs.Running.{runs-code, desk-and-box}
 use Rattle.promises.proofs.Plain.{plain-run, plain-request}
@@ -15,6 +15,7 @@ pub promises : Promises
 promises = record {
   keeps = kept;
   runs-to = runs-to;
+  given-to = given-to;
   stores-to = stores-to;
   only-code = only-code;
   only-index = only-index;
@@ -32,13 +33,14 @@ promises = record {
   judged-only = text-theorems .only;
   places = λ text a p e. (text-theorems .place-inside text a p e, text-theorems .place-small text a p e);
   answers = λ code index tick ready more a e. answers tick ready code index more a e;
-  finite = λ tick m a l h. finite tick m a l h;
+  finite = λ tick m a h. finite tick m a h;
   finite-code = finite-code;
   faithful = λ code a e. faithful code a e;
   faithful-index = faithful-index;
   desk-and-box = λ text desk box di bi tick ready room rd rb e. desk-and-box tick ready text desk box di bi room rd rb e;
   same-refusal = λ text desk box index tick ready here there more e. same-refusal tick ready text desk box index here there more e;
   same-code = λ text code index tick ready room more. same-code tick ready text code index room more;
+  same-index = λ code index tick ready room more a. same-index tick ready code index room more a;
   checks = λ code n. (accepted-by code n, λ x. passes code n (x .1));
   safe = ends;
   runs-code = λ code index n k tick ready c p. runs-code k tick ready index p code n c;

@@ -26,7 +26,7 @@ use Rattle.targets.specs.declared.Element.{Element}
 use Rattle.targets.specs.Found.{indexBytes}
 use Rattle.operations.specs.declared.Answer.{Answer}
 use Rattle.operations.specs.declared.Answer.the-variants.{Refused}
-use Rattle.operations.specs.Operations.{doneWith, compileAnswer, compileTargetCode, Arrival, arrivalOf, ofText, request, requestAnswer, requestMemory, requestCode}
+use Rattle.operations.specs.Operations.{doneWith, compileAnswer, compileTargetCode, Arrival, arrivalOf, ofText, request, requestAnswer, requestMemory, requestCode, requestIndex}
 use Rattle.operations.proofs.Requests.{kinded, named, good-target, with-room}
 use Rattle.promises.specs.Terms.{compileAnswerOf, compiledCode, answerNumber, Refusal, Ready, Room, StoredOrFault, stored, unstored, no-element, infinite, stopped}
 use Rattle.promises.proofs.Numbers.{Numbered, three-to-nine, numbered, no-fault}
@@ -121,6 +121,10 @@ module _ {target m : List ℕ} {b : Bank} {e : Element} (tick : ℕ) (ready : Re
       by : (j : Judgement) → requestCode code (ofText code index (targetOf target) j) ≡ codedBytes code j
       by (accepted t) = refl
       by (refused a p) = refl
+
+  pub same-index : {text : List ℕ} {t : Tree} (code index : List ℕ) → Room code → Room index → AcceptedFormula text t
+      → requestIndex index (request target text m code index) ≡ compileTargetCode index target
+  same-index code index room more a = ap (requestIndex index) (the-tree code index room more a) ∙ sym (index-code target index more)
 
   pub same-refusal : (text desk box index : List ℕ) {a p : ℕ} → Room desk → Room box → Room index → compileAnswerOf text desk ≡ Refused a p
       → requestAnswer tick m (request target text m box index) ≡ Refused a p

@@ -1,4 +1,5 @@
 pub mod Terms
 pub mod Promises
+pub mod Targets
 pub mod Halves
 pub mod Sheet

@@ -1,11 +1,11 @@
 -- The user's three demands, as theorems about the operations: read this first. `resultOf` gathers the contracts of the crate operations; that each of
 -- them ends, whatever it is given, is part of every function's proof. What is written, the demands' word, is `AcceptedFormula` and `HasJudgement` for texts,
--- `targetOf` for targets, `eval` for trees and `Code.Accepts` for code. proofs/Promises.antt proves `Promises`.
+-- `CellTarget` and `IndexedTarget` of Targets.antt for targets, `eval` for trees and `Code.Accepts` for code. proofs/Promises.antt proves `Promises`.
 use mathlib.Core.Path.{_≡_}
 use mathlib.Core.Bool.{true}
 use mathlib.Core.Logic.{_↔_}
 use mathlib.Core.List.{List}
-use Prim.Native.Nat.{ℕ, _+_, _*_, _^_, _≤_, _<_}
+use Prim.Native.Nat.{ℕ, _+_, _*_, _≤_, _<_}
 use lib.ListN.{length, getD, set, take}
 use Rattle.words.specs.Laws.{Bytes}
 use Rattle.values.specs.declared.Kind.{Kind}
@@ -116,6 +116,8 @@ pub record Promises : Type 0 where
   -- the cell stored to: a plain target's own, otherwise one of the target's bank
   pub runs-to : (code index target m : List ℕ) (n k tick : ℕ) → let x = resultOf (run n k tick) target m code index in
       answerNumber (x .answer) ≡ 0 → Names (foundToRun k target) (reportOf (x .answer) .bank) (reportOf (x .answer) .element)
+  pub given-to : (code index target m : List ℕ) (kind bits k tick : ℕ) → let x = resultOf (store kind bits k tick) target m code index in
+      answerNumber (x .answer) ≡ 0 → Names (foundToRun k target) (reportOf (x .answer) .bank) (reportOf (x .answer) .element)
   pub stores-to : (text code index target m : List ℕ) (tick : ℕ) → let x = resultOf (compile-and-run text tick) target m code index in
       answerNumber (x .answer) ≡ 0 → Names (foundOf (targetOf target)) (reportOf (x .answer) .bank) (reportOf (x .answer) .element)
   -- "Compiling writes only its code, into the buffer lent for it.": a formula, and a target's index
@@ -161,8 +163,8 @@ pub record Promises : Type 0 where
       StoredOrFault m (runsAt tick (compiledCode text code) n m .count) (arrivalOf tick (compileTargetCode index target) m (targetOf target))
       (endOf (eval (memoryAt tick m) t)) (x .answer) (x .memory)
   -- "an infinite result is 12", "Reading an R cell that holds an infinity or NaN is 13": so a formula gives none, and nor does any code
-  pub finite : {text : List ℕ} {t : Tree} (tick : ℕ) (m : List ℕ) → AcceptedFormula text t → tick < 2 ^ 32 → Bytes m → Finite (endOf (eval (memoryAt tick m) t))
-  pub finite-code : (code : List ℕ) (n tick : ℕ) (m : List ℕ) → Bytes code → tick < 2 ^ 32 → Bytes m → Finite (runsAt tick code n m .end)
+  pub finite : {text : List ℕ} {t : Tree} (tick : ℕ) (m : List ℕ) → AcceptedFormula text t → Bytes m → Finite (endOf (eval (memoryAt tick m) t))
+  pub finite-code : (code : List ℕ) (n tick : ℕ) (m : List ℕ) → Bytes code → Bytes m → Finite (runsAt tick code n m .end)
   -- 3. "For every accepted formula, and whatever a memory of the right size holds"; paper 02: "demand 3 then holds for every tick", and "for each code"
   pub faithful : {text : List ℕ} {t : Tree} {n : ℕ} (code : List ℕ) → AcceptedFormula text t → compileAnswerOf text code ≡ doneWith n
       → Faithful text t (compiledCode text code) n
@@ -178,6 +180,8 @@ pub record Promises : Type 0 where
       → Room index → compileAnswerOf text desk ≡ Refused a p → resultOf (compile-and-run text tick) target m box index .answer ≡ Refused a p
   pub same-code : (text code index : List ℕ) (tick : ℕ) {target m : List ℕ} {b : Bank} {e : Element} → Ready target m b e → Room code → Room index
       → resultOf (compile-and-run text tick) target m code index .code ≡ compiledCode text code
+  pub same-index : {text : List ℕ} {t : Tree} (code index : List ℕ) (tick : ℕ) {target m : List ℕ} {b : Bank} {e : Element} → Ready target m b e → Room code
+      → Room index → AcceptedFormula text t → resultOf (compile-and-run text tick) target m code index .index ≡ compileTargetCode index target
   -- "The check accepts exactly code of ..", and "Every other code is 15."
   pub checks : (code : List ℕ) (n : ℕ) → checkAnswer code n ≡ doneWith 0 ↔ ((k : Kind) × Code.Accepts (instructions code n) k)
   -- "Any other code that the code check accepts, whatever the memory holds, also reaches its end or a fault. It executes at most as many instructions as it

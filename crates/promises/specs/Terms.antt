@@ -102,8 +102,8 @@ plainMemory m b i Ended.Stuck = m
 abbrev pub Finite : Ended → Type 0
 Finite e = (v : Value) → e ≡ Ended.Done v → Proper v
 
--- n instructions of the code, whatever the memory holds and whatever the tick: they end with a value of the kind k or a fault, so many are begun at most, and no
--- moment is short of a value or holds more than 128
+-- n instructions of the code, whatever the memory holds and whatever the tick: they end with a value of the kind k or a fault; the count, one for each
+-- instruction begun and each cell that a total visited, is at most so much; and no moment is short of a value or holds more than 128
 pub record Ends (code : List ℕ) (n most : ℕ) (k : Kind) : Type 0 where
   pub well : (tick : ℕ) (m : List ℕ) → EndsWell k (runsAt tick code n m .end)
   pub quick : (tick : ℕ) (m : List ℕ) → runsAt tick code n m .count ≤ most

@@ -1,5 +1,6 @@
 -- `arrived` meets its contract: an element of the bank, or a fault of the index.
 use mathlib.Core.Path.{refl, sym, _∙_}
+use Rattle.operations.proofs.Following.{stores}
 use borrow.Author.Needs.{needs}
 use Rattle.operations.proofs.arrived.Statement.{statement}
 use Rattle.operations.proofs.arrived.Tie as tie
@@ -13,8 +14,11 @@ position-requires c κs = search needs
 enum-known-i : tie.Need-enum-known-i
 enum-known-i c = search needs
 
-stored-requires : tie.Need-stored-requires
-stored-requires c κs = search needs
+store-requires : tie.Need-store-requires
+store-requires c κs = search needs
+
+after-store-requires : tie.Need-after-store-requires
+after-store-requires c κs = search needs
 
 enum-known-f : tie.Need-enum-known-f
 enum-known-f c = search needs
@@ -35,7 +39,7 @@ same-length : tie.Need-same-length
 same-length c = search needs
 
 returns : tie.Need-returns
-returns c = rw (c .before .before .before .before .before .before .before .before .before .end .given .1, sym (c .before .before .before .before .before .before .before .position .ensures) ∙ c .before .before .before .before .before .i .given .1) (c .before .before .stored .ensures)
+returns c = rw (c .before .before .before .before .before .before .before .before .before .before .end .given .1, sym (c .before .before .before .before .before .before .before .before .position .ensures) ∙ c .before .before .before .before .before .before .i .given .1) (stores (c .before .before .before .before .before .before .before .before .before .before .before .before .before .args .memory .now) (c .before .before .before .before .before .before .before .before .before .before .before .before .before .args .bank) (c .before .before .before .before .before .before .i .given .0 .0) (c .before .before .before .before .before .before .before .before .before .before .before .before .before .args .v) (c .before .before .before .before .before .before .before .before .before .before .before .before .before .args .count) (c .before .before .before .store .ensures) (c .after-store .ensures))
 
 same-length-2 : tie.Need-same-length-2
 same-length-2 c = search needs
@@ -59,7 +63,8 @@ arrived-spec =
     enum-known-end
     position-requires
     enum-known-i
-    stored-requires
+    store-requires
+    after-store-requires
     enum-known-f
     flagged-requires
     enum-known-end-2

@@ -6,7 +6,8 @@ use Rattle.text.specs.Judge.{judge}
 use Rattle.text.specs.Targets.{targetOf}
 use Rattle.machine.specs.declared.Ran.{Ran}
 use Rattle.compiler.specs.Compile.{codedAnswer, codedBytes}
-use Rattle.operations.specs.private.Bounds.{mostBegun}
+use Rattle.operations.specs.private.Bounds.{mostBegun, FiniteEnd}
+use Rattle.operations.proofs.Following.{runs-finite}
 use Rattle.operations.proofs.Verdicts.{few-begun}
 use Rattle.operations.proofs.Requests.{no-memory, no-room, no-index-room, named, bad-target, good-target, few-compiled, few-coded, arrives, with-room, refuses, refuses-text, performs}
 use borrow.Author.Needs.{needs}
@@ -55,6 +56,7 @@ finish-requires c κs =
     let done = sym (c .before .before .before .before .before .before .before .before .before .before .count .given .1) ∙ c .before .before .before .before .before .before .before .before .before .before .before .before .before .before .compile .ensures .0 ∙ ap codedAnswer (with-room (c .before .before .before .before .before .before .before .before .before .before .before .before .before .before .before .before .before .before .before .before .before .before .before .before .before .before .before .before .args .code .now) (c .before .before .before .before .before .before .before .before .before .before .before .before .before .before .before .before .before .before .before .before .before .before .before .before .before .before .before .before .args .text .now) (omega arith)) in (
       few-compiled (c .before .before .before .before .before .before .before .before .before .before .before .before .before .before .before .before .before .before .before .before .before .before .before .before .before .before .before .before .args .target .now) (targetOf (c .before .before .before .before .before .before .before .before .before .before .before .before .before .before .before .before .before .before .before .before .before .before .before .before .before .before .before .before .args .target .now)) refl (sym (c .before .before .before .before .before .before .before .before .before .before .before .before .before .before .before .before .before .before .before .judge .ensures) ∙ c .before .before .before .before .before .before .before .before .before .before .before .before .before .before .before .before .before .bank .given .1),
       subst⁻¹ (λ (x : Ran). x .count ≤ mostBegun) (c .before .before .run .ensures) (few-begun _ _ (c .before .before .before .before .before .before .before .before .before .before .before .before .before .before .before .before .before .before .before .before .before .before .before .before .before .before .before .before .args .tick) (c .before .before .before .before .before .before .before .before .before .before .before .before .before .before .before .before .before .before .before .before .before .before .before .before .before .before .before .before .args .memory .now) (few-coded (c .before .before .before .before .before .before .before .before .before .before .before .before .before .before .before .before .before .before .before .before .before .before .before .before .before .before .before .before .args .text .now) (judge (c .before .before .before .before .before .before .before .before .before .before .before .before .before .before .before .before .before .before .before .before .before .before .before .before .before .before .before .before .args .text .now)) refl done)),
+      runs-finite _ _ (c .before .before .before .before .before .before .before .before .before .before .before .before .before .before .before .before .before .before .before .before .before .before .before .before .before .before .before .before .args .tick) (c .before .before .before .before .before .before .before .before .before .before .before .before .before .before .before .before .before .before .before .before .before .before .before .before .before .before .before .before .args .memory .now) (λ j. omega (arith, c .before .before .before .before .before .before .before .before .before .before .before .before .slice-known4 .given j)) (λ j. omega (arith, c .before .before .before .before .before .before .before .before .before .before .before .before .before .before .before .before .before .before .before .before .before .before .before .before .before .slice-known .given j)) (c .before .before .run .ensures),
     )
 
 enum-known-a : tie.Need-enum-known-a

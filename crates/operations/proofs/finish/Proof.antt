@@ -1,5 +1,7 @@
--- `finish` meets its contract, by the end of the run.
+-- `finish` meets its contract, by the end of the run and the element.
 use mathlib.Core.Path.{refl}
+use native.Mathlib.Omega.{arith}
+use Rattle.operations.proofs.Following.{few-index, given-finite, stores, to-cell, by-index}
 use borrow.Author.Needs.{needs}
 use Rattle.operations.proofs.finish.Statement.{statement}
 use Rattle.operations.proofs.finish.Tie as tie
@@ -7,8 +9,20 @@ use Rattle.operations.proofs.finish.Tie as tie
 enum-known-end : tie.Need-enum-known-end
 enum-known-end c = search needs
 
-follow-requires : tie.Need-follow-requires
-follow-requires c κs = search needs
+enum-known-element : tie.Need-enum-known-element
+enum-known-element c = search needs
+
+store-requires : tie.Need-store-requires
+store-requires c κs = search needs
+
+after-store-requires : tie.Need-after-store-requires
+after-store-requires c κs = search needs
+
+enum-known-element-2 : tie.Need-enum-known-element-2
+enum-known-element-2 c = search needs
+
+to-element-requires : tie.Need-to-element-requires
+to-element-requires c κs = (few-index (c .before .before .before .before .before .before .before .before .before .pre .0) (c .before .before .element2 .given .1), omega (arith, c .before .before .before .before .before .before .before .before .before .pre .1), given-finite (c .before .before .before .before .before .before .before .before .before .pre .2) (c .before .before .before .before .before .end .given .1))
 
 enum-known-end-2 : tie.Need-enum-known-end-2
 enum-known-end-2 c = search needs
@@ -23,23 +37,33 @@ same-length : tie.Need-same-length
 same-length c = search needs
 
 returns : tie.Need-returns
-returns c = rw (c .before .before .before .before .before .end .given .1) (c .before .before .follow .ensures)
+returns c = rw (c .before .before .before .before .before .before .before .before .before .end .given .1) (to-cell (c .before .before .before .before .before .before .before .before .before .before .before .before .before .args .tick) (c .before .before .before .before .before .before .before .before .before .before .before .before .before .args .index .now) (c .before .before .before .before .before .before .before .before .before .before .before .before .before .args .memory .now) (c .before .before .before .before .before .before .before .before .before .before .before .before .before .args .bank) (c .before .before .before .before .before .before .before .before .before .before .before .before .before .args .element) (c .before .before .before .before .before .before .before .before .before .end .given .0 .0) (c .before .before .before .before .before .before .before .before .before .before .before .before .before .args .ran .count) (given-finite (c .before .before .before .before .before .before .before .before .before .before .before .before .before .pre .2) (c .before .before .before .before .before .before .before .before .before .end .given .1)) (c .before .before .before .before .before .before .element .given .1) (stores (c .before .before .before .before .before .before .before .before .before .before .before .before .before .args .memory .now) (c .before .before .before .before .before .before .before .before .before .before .before .before .before .args .bank) (c .before .before .before .before .before .before .element .given .0 .0) (c .before .before .before .before .before .before .before .before .before .end .given .0 .0) (c .before .before .before .before .before .before .before .before .before .before .before .before .before .args .ran .count) (c .before .before .before .store .ensures) (c .after-store .ensures)))
 
 same-length-2 : tie.Need-same-length-2
 same-length-2 c = search needs
 
 returns-2 : tie.Need-returns-2
-returns-2 c = rw (c .before .before .before .before .before .end2 .given .1) (c .before .before .flagged .ensures)
+returns-2 c = rw (c .before .before .before .before .before .before .before .before .end .given .1) (by-index (c .before .before .before .before .before .before .before .before .before .before .before .before .args .tick) (c .before .before .before .before .before .before .before .before .before .before .before .before .args .index .now) (c .before .before .before .before .before .before .before .before .before .before .before .before .args .memory .now) (c .before .before .before .before .before .before .before .before .before .before .before .before .args .bank) (c .before .before .before .before .before .before .before .before .before .before .before .before .args .element) (c .before .before .before .before .before .before .before .before .end .given .0 .0) (c .before .before .before .before .before .before .before .before .before .before .before .before .args .ran .count) (c .before .before .before .before .before .element2 .given .1) (c .before .before .to-element .ensures))
+
+same-length-3 : tie.Need-same-length-3
+same-length-3 c = search needs
 
 returns-3 : tie.Need-returns-3
-returns-3 c = rw (c .enum-told .given .1) (refl, refl)
+returns-3 c = rw (c .before .before .before .before .before .end2 .given .1) (c .before .before .flagged .ensures)
+
+returns-4 : tie.Need-returns-4
+returns-4 c = rw (c .enum-told .given .1) (refl, refl)
 
 pub finish-spec : {M : Type 1} → statement M
 finish-spec =
     tie.close
     (tie.spec
     enum-known-end
-    follow-requires
+    enum-known-element
+    store-requires
+    after-store-requires
+    enum-known-element-2
+    to-element-requires
     enum-known-end-2
     flagged-requires
     enum-told
@@ -47,4 +71,6 @@ finish-spec =
     returns
     same-length-2
     returns-2
-    returns-3)
+    same-length-3
+    returns-3
+    returns-4)

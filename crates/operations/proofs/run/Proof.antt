@@ -4,7 +4,8 @@ use Prim.Native.Nat.{_≤_}
 use native.Mathlib.Omega.{arith}
 use borrow.Author.Tests.{not-true, not-false}
 use Rattle.machine.specs.declared.Ran.{Ran}
-use Rattle.operations.specs.private.Bounds.{mostBegun}
+use Rattle.operations.specs.private.Bounds.{mostBegun, FiniteEnd}
+use Rattle.operations.proofs.Following.{runs-finite}
 use Rattle.operations.proofs.Verdicts.{the-verdict, few-accepted, few-begun, few-checked, no-memory, named, aimed, refuses, after-run}
 use borrow.Author.Needs.{needs}
 use Rattle.operations.proofs.run.Statement.{statement}
@@ -54,6 +55,7 @@ finish-requires c κs = (
   subst⁻¹ (λ (x : Ran). x .count ≤ mostBegun) (c .before .run .ensures)
       (few-begun (c .before .before .before .before .before .before .before .before .before .before .before .before .before .before .before .before .before .args .code .now) (c .before .before .before .before .before .before .before .before .before .before .before .before .before .before .before .before .before .args .n) (c .before .before .before .before .before .before .before .before .before .before .before .before .before .before .before .before .before .args .tick) (c .before .before .before .before .before .before .before .before .before .before .before .before .before .before .before .before .before .args .memory .now)
       (few-accepted (c .before .before .before .before .before .before .before .before .before .before .before .before .before .before .before .before .before .args .code .now) (c .before .before .before .before .before .before .before .before .before .before .before .before .before .before .before .before .before .args .n) (the-verdict (c .before .before .before .before .before .before .before .check .ensures) (c .before .before .before .before .before .enum-told2 .given .1)))),
+  runs-finite (c .before .before .before .before .before .before .before .before .before .before .before .before .before .before .before .before .before .args .code .now) (c .before .before .before .before .before .before .before .before .before .before .before .before .before .before .before .before .before .args .n) (c .before .before .before .before .before .before .before .before .before .before .before .before .before .before .before .before .before .args .tick) (c .before .before .before .before .before .before .before .before .before .before .before .before .before .before .before .before .before .args .memory .now) (λ j. omega (arith, c .before .before .before .before .before .before .before .before .before .before .before .before .before .before .before .before .shared-slice-known .given j)) (λ j. omega (arith, c .before .before .before .before .before .before .before .before .before .before .before .before .before .before .before .slice-known .given j)) (c .before .run .ensures),
 )
 
 same-length : tie.Need-same-length

@@ -1,10 +1,12 @@
--- `store` meets its contract: its refusals in their order, then what follows a value.
-use mathlib.Core.Path.{_≡_, sym, _∙_}
+-- `store` meets its contract: its refusals in their order, then the store or the index.
+use mathlib.Core.Path.{_≡_, sym, ap, _∙_}
 use native.Mathlib.Omega.{arith}
 use borrow.Author.Tests.{not-true, not-false}
 use Rattle.operations.specs.Operations.{givenValue}
 use Rattle.operations.proofs.Verdicts.{few-checked}
 use Rattle.operations.proofs.Giving.{no-image, found, aims, refuses, infinite, follows}
+use Rattle.memory.specs.Store.{isFinite}
+use Rattle.operations.proofs.Following.{few-index, stores, to-cell, by-index}
 use borrow.Author.Needs.{needs}
 use Rattle.operations.proofs.store.Statement.{statement}
 use Rattle.operations.proofs.store.Tie as tie
@@ -43,16 +45,34 @@ returns-4 : tie.Need-returns-4
 returns-4 c = infinite (c .before .before .before .before .before .before .before .before .before .before .before .before .before .before .before .before .args .tick) (givenValue (c .before .before .before .before .before .before .before .before .before .before .before .before .before .before .before .before .args .kind) (c .before .before .before .before .before .before .before .before .before .before .before .before .before .before .before .before .args .bits)) (c .before .before .before .before .before .before .before .before .before .before .before .before .before .before .before .before .args .target .now) (c .before .before .before .before .before .before .before .before .before .before .before .before .before .before .before .before .args .index .now) (c .before .before .before .before .before .before .before .before .before .before .before .before .before .before .before .before .args .k) (c .before .before .before .before .before .before .before .before .before .before .before .before .before .before .before .before .args .memory .now) (aims (c .before .before .before .before .before .before .before .before .before .before .before .before .before .before .before .before .args .tick) (givenValue (c .before .before .before .before .before .before .before .before .before .before .before .before .before .before .before .before .args .kind) (c .before .before .before .before .before .before .before .before .before .before .before .before .before .before .before .before .args .bits)) (c .before .before .before .before .before .before .before .before .before .before .before .before .before .before .before .before .args .target .now) (c .before .before .before .before .before .before .before .before .before .before .before .before .before .before .before .before .args .index .now) (c .before .before .before .before .before .before .before .before .before .before .before .before .before .before .before .before .args .k) (c .before .before .before .before .before .before .before .before .before .before .before .before .before .before .before .before .args .memory .now) (omega arith) (sym (c .before .before .before .before .before .before .before .before .before .before .before .to-run .ensures) ∙ c .before .before .before .before .before .before .before .before .before .bank .given .1) (sym (c .before .before .before .before .before .before .before .index-passes .ensures) ∙ not-false _ (c .before .before .before .before .before .before .if2 .left))) (sym (c .before .before .before .before .before .is-finite-given .ensures) ∙ not-true _ (c .before .before .before .before .if3 .taken)) (c .before .before .flagged .ensures)
 
 given-requires : tie.Need-given-requires
-given-requires c κs = sym (c .before .before .is-finite-given .ensures) ∙ not-false _ (c .before .if3 .left)
+given-requires c κs = sym (c .before .is-finite-given .ensures) ∙ not-false _ (c .if3 .left)
 
-follow-requires : tie.Need-follow-requires
-follow-requires c κs = (few-checked (c .before .before .before .before .before .before .before .before .before .before .before .before .before .before .args .index .now) _ (sym (c .before .before .before .before .before .index-passes .ensures) ∙ not-false _ (c .before .before .before .before .if2 .left)), omega arith)
+enum-known-element : tie.Need-enum-known-element
+enum-known-element c = search needs
+
+store-requires : tie.Need-store-requires
+store-requires c κs = search needs
+
+after-store-requires : tie.Need-after-store-requires
+after-store-requires c κs = search needs
+
+enum-known-element-2 : tie.Need-enum-known-element-2
+enum-known-element-2 c = search needs
+
+to-element-requires : tie.Need-to-element-requires
+to-element-requires c κs = (few-index (few-checked (c .before .before .before .before .before .before .before .before .before .before .before .before .before .before .before .before .before .args .index .now) _ (sym (c .before .before .before .before .before .before .before .before .index-passes .ensures) ∙ not-false _ (c .before .before .before .before .before .before .before .if2 .left))) (c .before .before .element2 .given .1), omega arith, ap isFinite (c .before .before .before .before .given .ensures) ∙ sym (c .before .before .before .before .before .before .is-finite-given .ensures) ∙ not-false _ (c .before .before .before .before .before .if3 .left))
 
 same-length-2 : tie.Need-same-length-2
 same-length-2 c = search needs
 
 returns-5 : tie.Need-returns-5
-returns-5 c = follows (c .before .before .before .before .before .before .before .before .before .before .before .before .before .before .before .before .before .args .tick) (givenValue (c .before .before .before .before .before .before .before .before .before .before .before .before .before .before .before .before .before .args .kind) (c .before .before .before .before .before .before .before .before .before .before .before .before .before .before .before .before .before .args .bits)) (c .before .before .before .before .before .before .before .before .before .before .before .before .before .before .before .before .before .args .target .now) (c .before .before .before .before .before .before .before .before .before .before .before .before .before .before .before .before .before .args .index .now) (c .before .before .before .before .before .before .before .before .before .before .before .before .before .before .before .before .before .args .k) (c .before .before .before .before .before .before .before .before .before .before .before .before .before .before .before .before .before .args .memory .now) (aims (c .before .before .before .before .before .before .before .before .before .before .before .before .before .before .before .before .before .args .tick) (givenValue (c .before .before .before .before .before .before .before .before .before .before .before .before .before .before .before .before .before .args .kind) (c .before .before .before .before .before .before .before .before .before .before .before .before .before .before .before .before .before .args .bits)) (c .before .before .before .before .before .before .before .before .before .before .before .before .before .before .before .before .before .args .target .now) (c .before .before .before .before .before .before .before .before .before .before .before .before .before .before .before .before .before .args .index .now) (c .before .before .before .before .before .before .before .before .before .before .before .before .before .before .before .before .before .args .k) (c .before .before .before .before .before .before .before .before .before .before .before .before .before .before .before .before .before .args .memory .now) (omega arith) (sym (c .before .before .before .before .before .before .before .before .before .before .before .before .to-run .ensures) ∙ c .before .before .before .before .before .before .before .before .before .before .bank .given .1) (sym (c .before .before .before .before .before .before .before .before .index-passes .ensures) ∙ not-false _ (c .before .before .before .before .before .before .before .if2 .left))) (c .before .before .before .given .ensures) (c .before .before .follow .ensures)
+returns-5 c = follows (c .before .before .before .before .before .before .before .before .before .before .before .before .before .before .before .before .before .before .before .before .before .args .tick) (givenValue (c .before .before .before .before .before .before .before .before .before .before .before .before .before .before .before .before .before .before .before .before .before .args .kind) (c .before .before .before .before .before .before .before .before .before .before .before .before .before .before .before .before .before .before .before .before .before .args .bits)) (c .before .before .before .before .before .before .before .before .before .before .before .before .before .before .before .before .before .before .before .before .before .args .target .now) (c .before .before .before .before .before .before .before .before .before .before .before .before .before .before .before .before .before .before .before .before .before .args .index .now) (c .before .before .before .before .before .before .before .before .before .before .before .before .before .before .before .before .before .before .before .before .before .args .k) (c .before .before .before .before .before .before .before .before .before .before .before .before .before .before .before .before .before .before .before .before .before .args .memory .now) (aims (c .before .before .before .before .before .before .before .before .before .before .before .before .before .before .before .before .before .before .before .before .before .args .tick) (givenValue (c .before .before .before .before .before .before .before .before .before .before .before .before .before .before .before .before .before .before .before .before .before .args .kind) (c .before .before .before .before .before .before .before .before .before .before .before .before .before .before .before .before .before .before .before .before .before .args .bits)) (c .before .before .before .before .before .before .before .before .before .before .before .before .before .before .before .before .before .before .before .before .before .args .target .now) (c .before .before .before .before .before .before .before .before .before .before .before .before .before .before .before .before .before .before .before .before .before .args .index .now) (c .before .before .before .before .before .before .before .before .before .before .before .before .before .before .before .before .before .before .before .before .before .args .k) (c .before .before .before .before .before .before .before .before .before .before .before .before .before .before .before .before .before .before .before .before .before .args .memory .now) (omega arith) (sym (c .before .before .before .before .before .before .before .before .before .before .before .before .before .before .before .before .to-run .ensures) ∙ c .before .before .before .before .before .before .before .before .before .before .before .before .before .before .bank .given .1) (sym (c .before .before .before .before .before .before .before .before .before .before .before .before .index-passes .ensures) ∙ not-false _ (c .before .before .before .before .before .before .before .before .before .before .before .if2 .left))) (c .before .before .before .before .before .before .before .before .given .ensures) (to-cell (c .before .before .before .before .before .before .before .before .before .before .before .before .before .before .before .before .before .before .before .before .before .args .tick) (c .before .before .before .before .before .before .before .before .before .before .before .before .before .before .before .before .before .before .before .before .before .args .index .now) (c .before .before .before .before .before .before .before .before .before .before .before .before .before .before .before .before .before .before .before .before .before .args .memory .now) (c .before .before .before .before .before .before .before .before .before .before .before .before .before .before .bank .given .0 .0) (c .before .before .before .before .before .before .before .before .before .before .before .before .before .before .bank .given .0 .1 .0) (c .before .before .before .before .before .before .before .before .given .result) 0 (ap isFinite (c .before .before .before .before .before .before .before .before .given .ensures) ∙ sym (c .before .before .before .before .before .before .before .before .before .before .is-finite-given .ensures) ∙ not-false _ (c .before .before .before .before .before .before .before .before .before .if3 .left)) (c .before .before .before .before .before .before .element .given .1) (stores (c .before .before .before .before .before .before .before .before .before .before .before .before .before .before .before .before .before .before .before .before .before .args .memory .now) (c .before .before .before .before .before .before .before .before .before .before .before .before .before .before .bank .given .0 .0) (c .before .before .before .before .before .before .element .given .0 .0) (c .before .before .before .before .before .before .before .before .given .result) 0 (c .before .before .before .store .ensures) (c .after-store .ensures)))
+
+same-length-3 : tie.Need-same-length-3
+same-length-3 c = search needs
+
+returns-6 : tie.Need-returns-6
+returns-6 c = follows (c .before .before .before .before .before .before .before .before .before .before .before .before .before .before .before .before .before .before .before .before .args .tick) (givenValue (c .before .before .before .before .before .before .before .before .before .before .before .before .before .before .before .before .before .before .before .before .args .kind) (c .before .before .before .before .before .before .before .before .before .before .before .before .before .before .before .before .before .before .before .before .args .bits)) (c .before .before .before .before .before .before .before .before .before .before .before .before .before .before .before .before .before .before .before .before .args .target .now) (c .before .before .before .before .before .before .before .before .before .before .before .before .before .before .before .before .before .before .before .before .args .index .now) (c .before .before .before .before .before .before .before .before .before .before .before .before .before .before .before .before .before .before .before .before .args .k) (c .before .before .before .before .before .before .before .before .before .before .before .before .before .before .before .before .before .before .before .before .args .memory .now) (aims (c .before .before .before .before .before .before .before .before .before .before .before .before .before .before .before .before .before .before .before .before .args .tick) (givenValue (c .before .before .before .before .before .before .before .before .before .before .before .before .before .before .before .before .before .before .before .before .args .kind) (c .before .before .before .before .before .before .before .before .before .before .before .before .before .before .before .before .before .before .before .before .args .bits)) (c .before .before .before .before .before .before .before .before .before .before .before .before .before .before .before .before .before .before .before .before .args .target .now) (c .before .before .before .before .before .before .before .before .before .before .before .before .before .before .before .before .before .before .before .before .args .index .now) (c .before .before .before .before .before .before .before .before .before .before .before .before .before .before .before .before .before .before .before .before .args .k) (c .before .before .before .before .before .before .before .before .before .before .before .before .before .before .before .before .before .before .before .before .args .memory .now) (omega arith) (sym (c .before .before .before .before .before .before .before .before .before .before .before .before .before .before .before .to-run .ensures) ∙ c .before .before .before .before .before .before .before .before .before .before .before .before .before .bank .given .1) (sym (c .before .before .before .before .before .before .before .before .before .before .before .index-passes .ensures) ∙ not-false _ (c .before .before .before .before .before .before .before .before .before .before .if2 .left))) (c .before .before .before .before .before .before .before .given .ensures) (by-index (c .before .before .before .before .before .before .before .before .before .before .before .before .before .before .before .before .before .before .before .before .args .tick) (c .before .before .before .before .before .before .before .before .before .before .before .before .before .before .before .before .before .before .before .before .args .index .now) (c .before .before .before .before .before .before .before .before .before .before .before .before .before .before .before .before .before .before .before .before .args .memory .now) (c .before .before .before .before .before .before .before .before .before .before .before .before .before .bank .given .0 .0) (c .before .before .before .before .before .before .before .before .before .before .before .before .before .bank .given .0 .1 .0) (c .before .before .before .before .before .before .before .given .result) 0 (c .before .before .before .before .before .element2 .given .1) (c .before .before .to-element .ensures))
 
 pub store-spec : {M : Type 1} → statement M
 store-spec =
@@ -70,6 +90,12 @@ store-spec =
     same-length
     returns-4
     given-requires
-    follow-requires
+    enum-known-element
+    store-requires
+    after-store-requires
+    enum-known-element-2
+    to-element-requires
     same-length-2
-    returns-5)
+    returns-5
+    same-length-3
+    returns-6)

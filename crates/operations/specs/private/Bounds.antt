@@ -1,5 +1,13 @@
--- For the contracts of private functions: the counts of the value's code and of the index's are small, so their sum is a number of the machine.
+-- For the contracts of private functions: the counts of the value's code and of the index's are small, so their sum is a number of the machine; a run gives
+-- no infinity and no NaN.
+use mathlib.Core.Path.{_≡_}
+use mathlib.Core.Bool.{true}
 use Prim.Native.Nat.{ℕ, _^_, _≤_}
+use Rattle.values.specs.declared.Value.{Value}
+use Rattle.values.specs.declared.Fault.{Fault}
+use Rattle.memory.specs.Store.{isFinite}
+use Rattle.machine.specs.declared.Ended.{Ended}
+use Rattle.machine.specs.declared.Ended.the-variants.{Done, Stopped, Stuck}
 use Rattle.targets.specs.declared.Element.{Element}
 use Rattle.targets.specs.declared.Element.the-variants.{Is, By}
 
@@ -11,3 +19,9 @@ mostBegun = 2 ^ 32
 pub data Few : Element → Type 0 where
   none : {i : ℕ} → Few (Is i)
   some : {k : ℕ} → k ≤ 2048 → Few (By k)
+
+-- the value of a run, where it gives one, is finite
+pub data FiniteEnd : Ended → Type 0 where
+  value : {v : Value} → isFinite v ≡ true → FiniteEnd (Done v)
+  fault : {f : Fault} → FiniteEnd (Stopped f)
+  stuck : FiniteEnd Stuck
