@@ -1,5 +1,5 @@
 -- The tree of a formula (paper 01: "Its tree is what the grammar and grouping make of its tokens, parentheses that only enclose left out"), its kind, and its
--- diagnostic. A node that comes from a literal, an operator or a function keeps its token's place.
+-- diagnostic. A node keeps the place of its literal, operator or function, a total that of its count; cells and TICKms() keep none.
 use mathlib.Core.Bool.{Bool, true, false, _&&_, _||_, cond}
 use Prim.Native.Nat.{ℕ}
 use lib.Dec.{eqb, ltb, leb}

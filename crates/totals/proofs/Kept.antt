@@ -1,6 +1,6 @@
 -- What totals keep, over any property S of values by kind that their combinations keep: where S is the kind, the law of kinds; where it is properness,
 -- that values stay proper.
-use mathlib.Core.Path.{_≡_, refl, sym, subst}
+use mathlib.Core.Path.{_≡_, refl, subst}
 use mathlib.Core.Bool.{Bool, true, false, cond}
 use Prim.Native.Nat.{ℕ, _≤_}
 use native.Mathlib.Omega.{arith}
@@ -13,12 +13,11 @@ use Rattle.reals.specs.declared.ArithOp.the-variants.{Add, Div}
 use Rattle.values.specs.declared.Kind.{Kind}
 use Rattle.values.specs.declared.Kind.the-variants as K
 use Rattle.values.specs.declared.Value.{Value}
-use Rattle.values.specs.declared.Value.the-variants.{Int, Real}
+use Rattle.values.specs.declared.Value.the-variants.{Int}
 use Rattle.values.specs.declared.Outcome.{Outcome}
 use Rattle.values.specs.declared.Outcome.the-variants.{Done}
 use Rattle.values.specs.declared.ChoiceOp.{ChoiceOp}
 use Rattle.values.specs.Values.{kindOf}
-use Rattle.values.specs.Integers.{inRange}
 use Rattle.operators.specs.declared.BinaryOp.{BinaryOp}
 use Rattle.operators.specs.declared.BinaryOp.the-variants as B
 use Rattle.operators.specs.Operators.{arithRule, compareRule, choiceRule, binaryRule, fromBool}
@@ -32,7 +31,7 @@ use Rattle.totals.specs.declared.TotalOp.{TotalOp}
 use Rattle.totals.specs.declared.TotalOp.the-variants as T'
 use Rattle.totals.specs.declared.MatchOp.{MatchOp}
 use Rattle.totals.specs.declared.MatchOp.the-variants as M'
-use Rattle.totals.specs.Totals.{foldCells, zeroOf, choosing, countIf, sumIf, totalOver, matchOver, totalKind, matchKind}
+use Rattle.totals.specs.Totals.{zeroOf, choosing, countIf, sumIf, totalOver, matchOver, totalKind, matchKind}
 use Rattle.totals.proofs.Folds.{Gets, done, stopped, wrong, then-gets, fold-gets, first-gets}
 
 record Kept (W : Type 0) (S : Kind → Value → Type 0) (divisor : ℕ → Type 0) : Type 0 where
@@ -67,7 +66,8 @@ module _ {W : Type 0} {S : Kind → Value → Type 0} {divisor : ℕ → Type 0}
   match-gets : (o : MatchOp) (v : Value) (i n : ℕ) → Gets W (S (matchKind o b)) (matchOver E o v b i n .result)
   unfolding matchOver
   match-gets (M'.Count o) v i n =
-      fold-gets (E .cell b) (countIf o v) cell (λ a c s t. adds-same K.Int a (fromBool (compareRule o c v)) s (kept .bit (compareRule o c v))) (zeroOf K.Int) i n
+      fold-gets (E .cell b) (countIf o v) cell (λ a c s t. adds-same K.Int a (fromBool (compareRule o c v)) s (kept .bit (compareRule o c v)))
+      (zeroOf K.Int) i n
       (kept .zero K.Int)
   match-gets (M'.Sum o) v i n =
       fold-gets (E .cell b) (sumIf o v) cell (λ a c s t. if-gets (compareRule o c v) (adds-same (bankKind b) a c s t) (done s)) (zeroOf (bankKind b)) i n
@@ -96,7 +96,8 @@ bit-kind true = refl
 bit-kind false = refl
 
 -- a rule that takes every kind
-ruled : (o : BinaryOp) (j k : Kind) (a c : Value) → ((x y : Kind) → T (binaryTakes o x y)) → kindOf a ≡ j → kindOf c ≡ k → OfKind (binaryKind o j k) (binaryRule o a c)
+ruled : (o : BinaryOp) (j k : Kind) (a c : Value) → ((x y : Kind) → T (binaryTakes o x y)) → kindOf a ≡ j → kindOf c ≡ k → OfKind (binaryKind o j k)
+    (binaryRule o a c)
 ruled o j k a c t e g = rw (← e, ← g) (rule-laws .binary-kind o a c (t (kindOf a) (kindOf c)))
 
 kind-of-done : {k : Kind} {v : Value} → OfKind k (Done v) → kindOf v ≡ k
@@ -111,10 +112,12 @@ kinds-kept = record {
   chooses = λ o k a c e g. subst (λ (j : Kind). kindOf (choiceRule o a c) ≡ j) (join-same k) (kind-of-done (ruled (B.Choice o) k k a c (λ x y. tt) e g));
 }
 
-pub total-kind : (E : Environment) (o : TotalOp) (b : Bank) (i n : ℕ) → ((j : ℕ) → OfKind (bankKind b) (E .cell b j)) → OfKind (totalKind o b) (totalOver E o b i n .result)
+pub total-kind : (E : Environment) (o : TotalOp) (b : Bank) (i n : ℕ) → ((j : ℕ) → OfKind (bankKind b) (E .cell b j)) → OfKind (totalKind o b)
+    (totalOver E o b i n .result)
 total-kind E o b i n h = to-kind (total-gets kinds-kept E b (λ j. from-kind (h j)) o i n tt)
 
-pub match-kind : (E : Environment) (o : MatchOp) (v : Value) (b : Bank) (i n : ℕ) → ((j : ℕ) → OfKind (bankKind b) (E .cell b j)) → OfKind (matchKind o b) (matchOver E o v b i n .result)
+pub match-kind : (E : Environment) (o : MatchOp) (v : Value) (b : Bank) (i n : ℕ) → ((j : ℕ) → OfKind (bankKind b) (E .cell b j)) → OfKind
+    (matchKind o b) (matchOver E o v b i n .result)
 match-kind E o v b i n h = to-kind (match-gets kinds-kept E b (λ j. from-kind (h j)) o v i n)
 
 -- ---- properness
@@ -154,8 +157,10 @@ proper-kept = record {
   chooses = λ o k a c p q. proper-of-done (rule-laws .binary-proper (B.Choice o) a c p q);
 }
 
-pub total-proper : (E : Environment) (o : TotalOp) (b : Bank) (i n : ℕ) → n ≤ 256 → ((j : ℕ) → AllProper (E .cell b j)) → AllProper (totalOver E o b i n .result)
+pub total-proper : (E : Environment) (o : TotalOp) (b : Bank) (i n : ℕ) → n ≤ 256 → ((j : ℕ) → AllProper (E .cell b j)) → AllProper
+    (totalOver E o b i n .result)
 total-proper E o b i n d h = to-proper (total-gets proper-kept E b (λ j. from-proper (h j)) o i n d)
 
-pub match-proper : (E : Environment) (o : MatchOp) (v : Value) (b : Bank) (i n : ℕ) → ((j : ℕ) → AllProper (E .cell b j)) → AllProper (matchOver E o v b i n .result)
+pub match-proper : (E : Environment) (o : MatchOp) (v : Value) (b : Bank) (i n : ℕ) → ((j : ℕ) → AllProper (E .cell b j)) → AllProper
+    (matchOver E o v b i n .result)
 match-proper E o v b i n h = to-proper (match-gets proper-kept E b (λ j. from-proper (h j)) o v i n)

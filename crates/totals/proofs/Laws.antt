@@ -1,10 +1,10 @@
 -- What holds of totals, for the layers above and for a reader.
 use mathlib.Core.Path.{_≡_, refl, sym, ap}
-use mathlib.Core.Bool.{Bool, true, false, _&&_, cond}
+use mathlib.Core.Bool.{Bool, true, false, cond}
 use Prim.Native.Nat.{ℕ, suc, _+_, _-_, _^_, _≤_, _<_}
 use native.Mathlib.Omega.{arith}
-use lib.Dec.{T, leb, ltb, leb→le}
-use lib.IntN.{ℤ, pos, negsuc, natAbs}
+use lib.Dec.{T, ltb}
+use lib.IntN.{ℤ, pos, negsuc}
 use borrow.Author.Tests.{le-leb, lt-leb, ltb-false}
 use Rattle.reals.specs.declared.ArithOp.the-variants.{Add}
 use Rattle.values.specs.declared.Value.{Value}
@@ -21,12 +21,13 @@ use Rattle.totals.specs.declared.TotalOp.{TotalOp}
 use Rattle.totals.specs.declared.TotalOp.the-variants as T'
 use Rattle.totals.specs.declared.MatchOp.{MatchOp}
 use Rattle.totals.specs.declared.MatchOp.the-variants as M'
-use Rattle.totals.specs.declared.Visited.{Visited}
-use Rattle.totals.specs.Totals.{foldCells, zeroOf, average, choosing, countIf, sumIf, totalOver, matchOver, rangeWithin, goodRange, goodCount, spanOf, spanWithin}
+use Rattle.totals.specs.Totals.{zeroOf, average, choosing, countIf, sumIf, totalOver, matchOver}
+use Rattle.totals.specs.Totals.{rangeWithin, goodRange, goodCount, spanOf, spanWithin}
 use Rattle.totals.specs.Laws.{SameCells, TotalLaws}
 use Rattle.totals.proofs.Folds.{fold-cells, first-cells, fold-same, first-same}
 use Rattle.totals.proofs.Kept.{total-kind, match-kind, total-proper, match-proper}
-use Rattle.totals.proofs.Sums.{infinite-stays, settled-from}
+use Rattle.totals.proofs.Sums.{infinite-stays, settled-from, stops-from}
+use Rattle.totals.proofs.Within.{range-in}
 
 module _ (E : Environment) where
   total-cells : (o : TotalOp) (b : Bank) (i n : ℕ) → totalOver E o b i n .cells ≤ n
@@ -53,13 +54,6 @@ module _ (E F : Environment) where
   match-same (M'.Sum o) v b i n h = fold-same (E .cell b) (F .cell b) (sumIf o v) (zeroOf (bankKind b)) i n h
 
 -- ---- ranges
-
-both : (a b : Bool) → T (a && b) → T a × T b
-both true b t = (tt, t)
-both false b t = absurd t
-
-range-in : (m i n : ℕ) → T (rangeWithin m i n) → (1 ≤ n) × (i + n ≤ m)
-range-in m i n t = let p = both (leb 1 n) (leb (i + n) m) t in (leb→le 1 n (p .0), leb→le (i + n) m (p .1))
 
 bank-small : (b : Bank) → layoutOf b .elements ≤ 256
 bank-small X = omega arith
@@ -121,4 +115,5 @@ total-laws = record {
   range-small = range-small;
   infinite-stays = infinite-stays;
   settled-once = λ read i xs h g. settled-from read zeroReal i xs tt h g;
+  stops-there = λ read i xs c b n h g t q e. stops-from read zeroReal i xs c b n h g t q e;
 }

@@ -5,6 +5,7 @@ use mathlib.Core.List.{List}
 use Prim.Native.Nat.{ℕ}
 use Rattle.values.specs.declared.Kind.the-variants as K
 use Rattle.values.specs.declared.Value.{Value}
+use Rattle.values.specs.declared.Outcome.{Outcome}
 use Rattle.values.specs.declared.ChoiceOp.{ChoiceOp}
 use Rattle.values.specs.declared.CompareOp.{CompareOp}
 use Rattle.memory.specs.declared.Bank.{Bank}
@@ -36,6 +37,11 @@ whole-bank N e = refl
 whole-bank D e = refl
 whole-bank R e = absurd (false≢true (rw e))
 
+-- an average is real, whatever the bank
+pub any-kind : (b : Bank) (read : ℕ → Outcome) (i n : ℕ) → runOver S.Average K.Real read i n ≡ runOver S.Average (bankKind b) read i n
+unfolding runOver
+any-kind b read i n = refl
+
 -- r is what the run gave, whatever the tick
 module _ (image : List ℕ) (b : Bank) (i n : ℕ) {r : Visited} where
   module _ (op : TotalOp) where
@@ -43,7 +49,7 @@ module _ (image : List ℕ) (b : Bank) (i n : ℕ) {r : Visited} where
     unfolding totalOver runOver
     sums e h tick = rw e h
 
-    pub averages : op ≡ T'.Average → r ≡ runOver S.Average K.Real (readRule image b) i n → (tick : ℕ) → r ≡ totalOver (memoryAt tick image) op b i n
+    pub averages : op ≡ T'.Average → r ≡ runOver S.Average (bankKind b) (readRule image b) i n → (tick : ℕ) → r ≡ totalOver (memoryAt tick image) op b i n
     unfolding totalOver runOver
     averages e h tick = rw e h
 

@@ -1,8 +1,9 @@
 -- Real sums: an infinity stays, so the sum settled at each cell is the sum settled once.
-use mathlib.Core.Path.{_≡_, refl, sym, ap, _∙_}
-use mathlib.Core.Bool.{Bool, true, false}
+use mathlib.Core.Path.{_≡_, refl, sym, ap, subst, _∙_}
+use mathlib.Core.Bool.{Bool}
 use mathlib.Core.List.{List, [], _∷_}
-use Prim.Native.Nat.{ℕ, suc}
+use Prim.Native.Nat.{ℕ, suc, _+_}
+use native.Mathlib.Omega.{arith}
 use lib.Dec.{T}
 use lib.ListN.{length}
 use lib.Ieee.{Float, nan, inf, fin, binary32, add}
@@ -11,7 +12,8 @@ use Rattle.reals.specs.declared.ArithOp.the-variants.{Add}
 use Rattle.values.specs.declared.Value.{Value}
 use Rattle.values.specs.declared.Value.the-variants.{Int, Real}
 use Rattle.values.specs.declared.Outcome.{Outcome}
-use Rattle.values.specs.declared.Outcome.the-variants.{Done}
+use Rattle.values.specs.declared.Fault.the-variants.{Overflow}
+use Rattle.values.specs.declared.Outcome.the-variants.{Done, Stopped}
 use Rattle.values.specs.Singles.{settle}
 use Rattle.operators.specs.Operators.{asReal, arithRule}
 use Rattle.totals.specs.declared.Visited.{Visited}
@@ -63,3 +65,32 @@ module _ (read : ℕ → Outcome) where
       go nan ih = ap settle (sym (nan-stays xs))
       go (inf b) ih = ap settle (sym (infinite-stays b xs g))
       go (fin b m e) ih = ih (fin b m e) tt h g
+
+  -- the sum becomes infinite at the cell c, with n cells behind it
+  pub stops-from : (s : Float) (i : ℕ) (xs : List Float) (c : Value) (b : Bool) (n : ℕ) → AllRead read i xs → AllFinite xs → T (finite (addedUp s xs))
+      → read (i + length xs) ≡ Done c → add binary32 (addedUp s xs) (asReal c) ≡ inf b
+      → foldCells read (arithRule Add) (Real s) i (suc (length xs + n)) ≡ record { result = Stopped Overflow; cells = suc (length xs) }
+  unfolding foldCells
+  stops-from s i [] c b n AllRead.none AllFinite.none t q e =
+      let z : i ≡ i + 0 = omega arith in
+      let rest : Value → Visited = λ v. foldCells read (arithRule Add) v (suc i) (0 + n) in
+      ap (λ (r : Outcome). visiting (then r (arithRule Add (Real s))) rest) (ap read z ∙ q)
+      ∙ ap (λ (r : Outcome). visiting r rest) (real-added s c ∙ ap settle e)
+  stops-from s i (_ ∷ xs) c b n (AllRead.more {c = d} q h) (AllFinite.more u g) t r e =
+      let z : suc (length xs) + n ≡ suc (length xs + n) = omega arith in
+      let w : suc i + length xs ≡ i + suc (length xs) = omega arith in
+      ap (λ (m : ℕ). foldCells read (arithRule Add) (Real s) i (suc m)) z
+      ∙ ap (λ (o : Outcome). visiting (then o (arithRule Add (Real s))) rest) q
+      ∙ ap (λ (o : Outcome). visiting o rest) (real-added s d)
+      ∙ go (add binary32 s (asReal d)) t e (λ y v k. stops-from y (suc i) xs c b n h g v (ap read w ∙ r) k)
+    where
+      rest : Value → Visited
+      rest v = foldCells read (arithRule Add) v (suc i) (suc (length xs + n))
+
+      go : (y : Float) → T (finite (addedUp y xs)) → add binary32 (addedUp y xs) (asReal c) ≡ inf b
+          → ((z : Float) → T (finite (addedUp z xs)) → add binary32 (addedUp z xs) (asReal c) ≡ inf b
+          → rest (Real z) ≡ record { result = Stopped Overflow; cells = suc (length xs) })
+          → visiting (settle y) rest ≡ record { result = Stopped Overflow; cells = suc (suc (length xs)) }
+      go nan v w ih = absurd (subst (λ (z : Float). T (finite z)) (nan-stays xs) v)
+      go (inf a) v w ih = absurd (subst (λ (z : Float). T (finite z)) (infinite-stays a xs g) v)
+      go (fin a m k) v w ih = ap (λ (x : Visited). record { result = x .result; cells = suc (x .cells) }) (ih (fin a m k) v w)

@@ -1,9 +1,9 @@
 -- The test that a range lies within a bank.
-use mathlib.Core.Path.{_≡_, refl, _∙_}
-use mathlib.Core.Bool.{Bool, true, false}
+use mathlib.Core.Path.{_≡_, refl}
+use mathlib.Core.Bool.{Bool, true, false, _&&_}
 use Prim.Native.Nat.{ℕ, _+_, _-_, _≤_, _<_}
 use native.Mathlib.Omega.{arith}
-use lib.Dec.{leb}
+use lib.Dec.{T, leb, leb→le}
 use borrow.Author.Tests.{le-leb, lt-leb, leb-true, leb-false}
 use Rattle.totals.specs.Totals.{rangeWithin}
 
@@ -23,3 +23,10 @@ module _ (m i n : ℕ) where
 
   pub within : 1 ≤ n → i ≤ m → leb n (m - i) ≡ rangeWithin m i n
   within h l = rw (le-leb 1 n h) (same l)
+
+both : (a b : Bool) → T (a && b) → T a × T b
+both true b t = (tt, t)
+both false b t = absurd t
+
+pub range-in : (m i n : ℕ) → T (rangeWithin m i n) → (1 ≤ n) × (i + n ≤ m)
+range-in m i n t = let p = both (leb 1 n) (leb (i + n) m) t in (leb→le 1 n (p .0), leb→le (i + n) m (p .1))

@@ -1,3 +1,2 @@
 -- Laws of the module integers.
-mod Cells
-mod Whole
+pub mod Whole

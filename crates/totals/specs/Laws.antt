@@ -13,7 +13,8 @@ use Rattle.reals.specs.declared.ArithOp.the-variants.{Add}
 use Rattle.values.specs.declared.Value.{Value}
 use Rattle.values.specs.declared.Value.the-variants.{Real}
 use Rattle.values.specs.declared.Outcome.{Outcome}
-use Rattle.values.specs.declared.Outcome.the-variants.{Done}
+use Rattle.values.specs.declared.Fault.the-variants.{Overflow}
+use Rattle.values.specs.declared.Outcome.the-variants.{Done, Stopped}
 use Rattle.values.specs.Patterns.{signedOf}
 use Rattle.values.specs.Singles.{zeroReal, settle}
 use Rattle.operators.specs.Operators.{asReal, arithRule}
@@ -71,7 +72,11 @@ pub record TotalLaws : Type 0 where
   pub range-small : (b : Bank) (i n : ℕ) → T (goodRange b i n) → (1 ≤ n) × (i + n ≤ 256)
   -- a real sum that became infinite stays that infinity, whatever finite cells follow: it does not come back, and is never a NaN
   pub infinite-stays : (s : Bool) (xs : List Float) → AllFinite xs → addedUp (inf s) xs ≡ inf s
-  -- so settling the real sum at each cell or once at the end is the same where every cell can be read. It is not for the count of cells begun, and a cell
-  -- behind that cannot be read would give 13 for 12: the rule is at each cell
+  -- so settling the real sum at each cell or once at the end gives the same where every cell can be read
   pub settled-once : (read : ℕ → Outcome) (i : ℕ) (xs : List Float) → AllRead read i xs → AllFinite xs
       → foldCells read (arithRule Add) (Real zeroReal) i (length xs) .result ≡ settle (addedUp zeroReal xs)
+  -- but not the same count of cells, nor the same fault: the run ends where its sum becomes infinite, and of the n cells behind none is begun, so that one
+  -- of them that cannot be read gives no 13. The rule is at each cell
+  pub stops-there : (read : ℕ → Outcome) (i : ℕ) (xs : List Float) (c : Value) (s : Bool) (n : ℕ) → AllRead read i xs → AllFinite xs
+      → T (finite (addedUp zeroReal xs)) → read (i + length xs) ≡ Done c → Ieee.add binary32 (addedUp zeroReal xs) (asReal c) ≡ inf s
+      → foldCells read (arithRule Add) (Real zeroReal) i (suc (length xs + n)) ≡ record { result = Stopped Overflow; cells = suc (length xs) }

@@ -1,13 +1,11 @@
 // Totals over a run of cells (paper 02, Ask 2): specs/Totals.antt.
 ghost use mathlib.Core.Path.{_≡_};
-ghost use mathlib.Core.Bool.{false};
 ghost use Prim.Native.Nat.{ℕ};
 ghost use lib.Dec.{T};
-ghost use Rattle.values.specs.declared.Kind.the-variants.{Real};
 ghost use Rattle.memory.specs.Cells.{bankKind, readRule};
 ghost use Rattle.memory.specs.Environment.{memoryAt};
 ghost use Rattle.totals.specs.Totals.{totalOver, matchOver, goodRange};
-ghost use Rattle.totals.specs.private.Steps.{endedWith, isReal, runOver, averages};
+ghost use Rattle.totals.specs.private.Steps.{endedWith, isReal, matchStep, runOver};
 use memory::Bank;
 use values::ChoiceOp;
 use values::CompareOp;
@@ -67,27 +65,80 @@ fn is_real(bank: Bank) -> bool
     }
 }
 
-// A run that has its bank's kind, or counts.
-fn run(step: Step, image: &[u8], bank: Bank, first: u32, count: u32) -> Visited
-    requires { ⌜ T (goodRange bank first count) × (averages step ≡ false) ⌝ }
-    ensures { λ r. ⌜ r ≡ runOver step (bankKind bank) (readRule (now (image .entry)) bank) first count ⌝ }
+// SUMR. Here and in `choose` an arm for each bank, so that its layout is known in the loop.
+fn sum(image: &[u8], bank: Bank, first: u32, count: u32) -> Visited
+    requires { ⌜ T (goodRange bank first count) ⌝ }
+    ensures { λ r. ⌜ r ≡ runOver Step.Add (bankKind bank) (readRule (now (image .entry)) bank) first count ⌝ }
 {
-    if is_real(bank) {
-        tally::run(step, image, first, count)
-    } else {
-        integers::run(step, image, bank, first, count)
+    match bank {
+        Bank::X => integers::sum(image, Bank::X, first, count),
+        Bank::C => integers::sum(image, Bank::C, first, count),
+        Bank::V => integers::sum(image, Bank::V, first, count),
+        Bank::N => integers::sum(image, Bank::N, first, count),
+        Bank::D => integers::sum(image, Bank::D, first, count),
+        Bank::R => tally::sum(false, image, first, count),
     }
 }
 
-// AVGR, which is real: R has a loop of its own.
+// AVGR, which is real: the cells of the other banks are promoted.
 fn average(image: &[u8], bank: Bank, first: u32, count: u32) -> Visited
     requires { ⌜ T (goodRange bank first count) ⌝ }
-    ensures { λ r. ⌜ r ≡ runOver Step.Average Real (readRule (now (image .entry)) bank) first count ⌝ }
+    ensures { λ r. ⌜ r ≡ runOver Step.Average (bankKind bank) (readRule (now (image .entry)) bank) first count ⌝ }
 {
     if is_real(bank) {
-        tally::run(Step::Average, image, first, count)
+        tally::sum(true, image, first, count)
     } else {
         tally::average(image, bank, first, count)
+    }
+}
+
+// MAXR and MINR.
+fn choose(o: ChoiceOp, image: &[u8], bank: Bank, first: u32, count: u32) -> Visited
+    requires { ⌜ T (goodRange bank first count) ⌝ }
+    ensures { λ r. ⌜ r ≡ runOver (Step.Choose o) (bankKind bank) (readRule (now (image .entry)) bank) first count ⌝ }
+{
+    match bank {
+        Bank::X => integers::choose(o, image, Bank::X, first, count),
+        Bank::C => integers::choose(o, image, Bank::C, first, count),
+        Bank::V => integers::choose(o, image, Bank::V, first, count),
+        Bank::N => integers::choose(o, image, Bank::N, first, count),
+        Bank::D => integers::choose(o, image, Bank::D, first, count),
+        Bank::R => tally::choose(o, image, first, count),
+    }
+}
+
+// The IF forms: of cells that compare so with v the count, or the sum.
+fn matched(
+    counts: bool,
+    o: CompareOp,
+    v: Value,
+    image: &[u8],
+    bank: Bank,
+    first: u32,
+    count: u32,
+) -> Visited
+    requires { ⌜ T (goodRange bank first count) ⌝ }
+    ensures { λ r. ⌜ r ≡ runOver (matchStep counts o v) (bankKind bank) (readRule (now (image .entry)) bank) first count ⌝ }
+{
+    if is_real(bank) {
+        tally::matching(counts, o, v, image, first, count)
+    } else {
+        integers::matching(counts, o, v, image, bank, first, count)
+    }
+}
+
+// A run of any kind. The loops come together here and not at their callers, so that the machine, which has one call of each, does not
+// take them into its own loop.
+fn run(step: Step, image: &[u8], bank: Bank, first: u32, count: u32) -> Visited
+    requires { ⌜ T (goodRange bank first count) ⌝ }
+    ensures { λ r. ⌜ r ≡ runOver step (bankKind bank) (readRule (now (image .entry)) bank) first count ⌝ }
+{
+    match step {
+        Step::Add => sum(image, bank, first, count),
+        Step::Average => average(image, bank, first, count),
+        Step::Choose(o) => choose(o, image, bank, first, count),
+        Step::CountIf(o, v) => matched(true, o, v, image, bank, first, count),
+        Step::AddIf(o, v) => matched(false, o, v, image, bank, first, count),
     }
 }
 
@@ -98,7 +149,7 @@ pub fn total(op: TotalOp, image: &[u8], bank: Bank, first: u32, count: u32) -> V
 {
     match op {
         TotalOp::Sum => run(Step::Add, image, bank, first, count),
-        TotalOp::Average => average(image, bank, first, count),
+        TotalOp::Average => run(Step::Average, image, bank, first, count),
         TotalOp::Choice(o) => run(Step::Choose(o), image, bank, first, count),
     }
 }

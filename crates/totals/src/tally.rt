@@ -1,16 +1,21 @@
 // Runs that are real: sum, least and greatest as singles beside the count.
 ghost use mathlib.Core.Path.{_≡_};
 ghost use Prim.Native.Nat.{_+_, _≤_, _<_};
+ghost use lib.Dec.{T};
+ghost use Rattle.values.specs.declared.Kind.the-variants as K;
 ghost use Rattle.values.specs.declared.Kind.the-variants.{Real};
-ghost use Rattle.memory.specs.Cells.{readRule};
-ghost use Rattle.totals.specs.private.Steps.{runOver};
-ghost use Rattle.totals.specs.private.Tally.{begun, stepped, firstReal, takes, sums, reading};
+ghost use Rattle.memory.specs.Cells.{bankKind, readRule};
+ghost use Rattle.totals.specs.Totals.{goodRange};
+ghost use Rattle.totals.specs.private.Steps.{sumStep, matchStep, runOver};
+ghost use Rattle.totals.specs.private.Tally.{begun, stepped, firstReal, reading};
 use crate::Step;
 use crate::Visited;
+use crate::integers;
 use memory::Bank;
 use memory::cells;
 use reals::ArithOp;
 use values::ChoiceOp;
+use values::CompareOp;
 use values::Outcome;
 use values::Value;
 use values::singles;
@@ -61,32 +66,6 @@ fn first_real(image: &[u8], first: u32) -> f32
     }
 }
 
-// The IF forms take matching cells only.
-fn takes(step: Step, x: f32) -> bool
-    ensures { λ r. ⌜ r ≡ takes step x ⌝ }
-{
-    match step {
-        Step::Add => true,
-        Step::Average => true,
-        Step::Choose(_) => true,
-        Step::CountIf(o, v) => singles::compare(o, x, operators::as_real(v)),
-        Step::AddIf(o, v) => singles::compare(o, x, operators::as_real(v)),
-    }
-}
-
-// Whether the run is about the sum: the others go on past an infinite one.
-fn sums(step: Step) -> bool
-    ensures { λ r. ⌜ r ≡ sums step ⌝ }
-{
-    match step {
-        Step::Add => true,
-        Step::Average => true,
-        Step::Choose(_) => false,
-        Step::CountIf(_, _) => false,
-        Step::AddIf(_, _) => true,
-    }
-}
-
 // What a run comes to whose last cell was taken.
 fn reading(step: Step, t: Tally) -> Outcome
     requires { ⌜ t .count ≤ 256 ⌝ }
@@ -108,49 +87,15 @@ fn reading(step: Step, t: Tally) -> Outcome
     }
 }
 
-// Cells of R from the first upwards. It ends at a cell that cannot be read, or whose addition makes the sum infinite that the run is
-// about.
-pub fn run(step: Step, image: &[u8], first: u32, count: u32) -> Visited
-    requires { ⌜ (1 ≤ count) × (first + count ≤ 256) ⌝ }
-    ensures { λ r. ⌜ r ≡ runOver step Real (readRule (now (image .entry)) Bank.R) first count ⌝ }
-{
-    let adding = sums(step);
-    let mut t = Tally::begin(first_real(image, first));
-    let mut k: u32 = 0;
-    while k < count {
-        let cell = cells::read(image, Bank::R, first + k);
-        k += 1;
-        match cell {
-            Outcome::Done(v) => {
-                let x = operators::as_real(v);
-                if takes(step, x) {
-                    t = t.step(x);
-                    if adding {
-                        if !singles::is_finite(t.sum) {
-                            return crate::ended(singles::settled(t.sum), k);
-                        }
-                    }
-                }
-            }
-            Outcome::Stopped(_) => {
-                return crate::ended(cell, k);
-            }
-            Outcome::WrongKind => {
-                return crate::ended(cell, k);
-            }
-        }
-    }
-    crate::ended(reading(step, t), count)
-}
-
-// AVGR of any bank: the cells are promoted.
-pub fn average(image: &[u8], bank: Bank, first: u32, count: u32) -> Visited
+// SUMR and AVGR of R. It ends at a cell that cannot be read, or whose addition makes the sum infinite. Here and below an outcome is made
+// anew, since a copy would keep that of every cell.
+pub fn sum(averaged: bool, image: &[u8], first: u32, count: u32) -> Visited
     requires { ⌜ first + count ≤ 256 ⌝ }
-    ensures { λ r. ⌜ r ≡ runOver Step.Average Real (readRule (now (image .entry)) bank) first count ⌝ }
+    ensures { λ r. ⌜ r ≡ runOver (sumStep averaged) Real (readRule (now (image .entry)) Bank.R) first count ⌝ }
 {
     let mut t = Tally::begin(0.0);
     while t.count < count {
-        let cell = cells::read(image, bank, first + t.count);
+        let cell = cells::read(image, Bank::R, first + t.count);
         match cell {
             Outcome::Done(v) => {
                 t = t.step(operators::as_real(v));
@@ -158,12 +103,101 @@ pub fn average(image: &[u8], bank: Bank, first: u32, count: u32) -> Visited
                     return crate::ended(singles::settled(t.sum), t.count);
                 }
             }
-            Outcome::Stopped(_) => {
-                return crate::ended(cell, t.count + 1);
+            Outcome::Stopped(f) => {
+                return crate::ended(Outcome::Stopped(f), t.count + 1);
             }
             Outcome::WrongKind => {
-                return crate::ended(cell, t.count + 1);
+                return crate::ended(Outcome::WrongKind, t.count + 1);
             }
+        }
+    }
+    if averaged {
+        return crate::ended(reading(Step::Average, t), count);
+    }
+    crate::ended(reading(Step::Add, t), count)
+}
+
+// MAXR and MINR of R, which go on past an infinite sum.
+pub fn choose(o: ChoiceOp, image: &[u8], first: u32, count: u32) -> Visited
+    requires { ⌜ (1 ≤ count) × (first + count ≤ 256) ⌝ }
+    ensures { λ r. ⌜ r ≡ runOver (Step.Choose o) Real (readRule (now (image .entry)) Bank.R) first count ⌝ }
+{
+    let mut t = Tally::begin(first_real(image, first));
+    while t.count < count {
+        let cell = cells::read(image, Bank::R, first + t.count);
+        match cell {
+            Outcome::Done(v) => {
+                t = t.step(operators::as_real(v));
+            }
+            Outcome::Stopped(f) => {
+                return crate::ended(Outcome::Stopped(f), t.count + 1);
+            }
+            Outcome::WrongKind => {
+                return crate::ended(Outcome::WrongKind, t.count + 1);
+            }
+        }
+    }
+    crate::ended(reading(Step::Choose(o), t), count)
+}
+
+// COUNTIF and SUMIF of R: matching cells are taken, and a count goes on past an infinite sum.
+pub fn matching(
+    counts: bool,
+    o: CompareOp,
+    v: Value,
+    image: &[u8],
+    first: u32,
+    count: u32,
+) -> Visited
+    requires { ⌜ (1 ≤ count) × (first + count ≤ 256) ⌝ }
+    ensures { λ r. ⌜ r ≡ runOver (matchStep counts o v) Real (readRule (now (image .entry)) Bank.R) first count ⌝ }
+{
+    let y = operators::as_real(v);
+    let mut t = Tally::begin(0.0);
+    let mut k: u32 = 0;
+    while k < count {
+        let cell = cells::read(image, Bank::R, first + k);
+        k += 1;
+        match cell {
+            Outcome::Done(c) => {
+                let x = operators::as_real(c);
+                if singles::compare(o, x, y) {
+                    t = t.step(x);
+                    if !counts {
+                        if !singles::is_finite(t.sum) {
+                            return crate::ended(singles::settled(t.sum), k);
+                        }
+                    }
+                }
+            }
+            Outcome::Stopped(f) => {
+                return crate::ended(Outcome::Stopped(f), k);
+            }
+            Outcome::WrongKind => {
+                return crate::ended(Outcome::WrongKind, k);
+            }
+        }
+    }
+    if counts {
+        return crate::ended(reading(Step::CountIf(o, v), t), count);
+    }
+    crate::ended(reading(Step::AddIf(o, v), t), count)
+}
+
+// AVGR of a bank of integers: the cells are promoted.
+pub fn average(image: &[u8], bank: Bank, first: u32, count: u32) -> Visited
+    requires { ⌜ T (goodRange bank first count) × (bankKind bank ≡ K.Int) ⌝ }
+    ensures { λ r. ⌜ r ≡ runOver Step.Average Real (readRule (now (image .entry)) bank) first count ⌝ }
+{
+    if !cells::has_cell(image, bank, first + (count - 1)) {
+        return integers::no_cells();
+    }
+    let mut t = Tally::begin(0.0);
+    while t.count < count {
+        let z = integers::whole_at(image, bank, first + t.count);
+        t = t.step(values::convert::promote(z));
+        if !singles::is_finite(t.sum) {
+            return crate::ended(singles::settled(t.sum), t.count);
         }
     }
     crate::ended(reading(Step::Average, t), count)

@@ -1,93 +1,180 @@
--- Runs over the banks of integers: where they begin, and what is held stays an integer.
-use mathlib.Core.Path.{_≡_, refl, sym, ap, subst, _∙_}
-use mathlib.Core.Bool.{Bool, true, false, cond, false≢true}
+-- Runs over the banks of integers: every cell of a good range can be read or none, and what is held stays an integer.
+use mathlib.Core.Path.{_≡_, refl, sym, ap, _∙_}
+use mathlib.Core.Bool.{Bool, true, false, false≢true, and-true}
 use mathlib.Core.List.{List}
-use Prim.Native.Nat.{ℕ, _+_, _≤_, _<_}
+use Prim.Native.Nat.{ℕ, _+_, _-_, _≤_, _<_}
 use native.Mathlib.Omega.{arith}
-use lib.IntN.{ℤ, pos}
+use lib.Dec.{T, eqb}
+use lib.IntN.{ℤ, pos, _+ℤ_, +ℤ-idr}
+use lib.ListN.{length}
+use borrow.Author.Tests.{lt-ltb}
+use mir.Syntax.{w32, w64}
+use mir.Val.{SFits, toZ, ofZ}
+use mir.ValLaws.{toZ-ofZ}
 use Rattle.reals.specs.declared.ArithOp.the-variants.{Add}
-use Rattle.values.specs.declared.Kind.{Kind}
 use Rattle.values.specs.declared.Kind.the-variants as K
 use Rattle.values.specs.declared.Value.{Value}
-use Rattle.values.specs.declared.Value.the-variants.{Int, Real}
+use Rattle.values.specs.declared.Value.the-variants.{Int}
+use Rattle.values.specs.declared.Fault.the-variants.{Overflow, IndexError}
+use Rattle.values.specs.declared.ChoiceOp.{ChoiceOp}
+use Rattle.values.specs.declared.ChoiceOp.the-variants.{Max, Min}
+use Rattle.values.specs.declared.CompareOp.{CompareOp}
 use Rattle.values.specs.declared.Outcome.{Outcome}
 use Rattle.values.specs.declared.Outcome.the-variants.{Done, Stopped, WrongKind}
-use Rattle.values.specs.Values.{kindOf}
-use Rattle.operators.specs.declared.BinaryOp.the-variants as B
-use Rattle.operators.specs.Operators.{arithRule, compareRule, fromBool}
-use Rattle.operators.specs.Laws.{OfKind, done, stopped}
-use Rattle.operators.proofs.Laws.{rule-laws}
+use Rattle.values.specs.Integers.{inRange, exactInt, choiceInt}
+use Rattle.values.proofs.Ranges.{sfits-range, read-wide}
+use Rattle.values.proofs.integers.Results.{wide, fits}
+use Rattle.operators.specs.Operators.{compareRule}
 use Rattle.memory.specs.declared.Bank.{Bank}
-use Rattle.memory.specs.Cells.{bankKind, readRule}
-use Rattle.memory.proofs.Laws.{memory-laws}
+use Rattle.memory.specs.declared.Bank.the-variants.{X, C, «V», N, D, R}
+use Rattle.memory.specs.Layout.{imageSize, layoutOf, hasCell}
+use Rattle.memory.specs.Cells.{bankKind, cellValue, readRule}
 use Rattle.totals.specs.declared.Step.{Step}
 use Rattle.totals.specs.declared.Step.the-variants as S
 use Rattle.totals.specs.declared.Visited.{Visited}
-use Rattle.totals.specs.Totals.{then, foldCells}
-use Rattle.totals.specs.private.Steps.{averages, stepRule, runOver}
-use Rattle.totals.specs.private.Integers.{wholeOf, firstWhole, startOf}
-use Rattle.totals.proofs.Middle.{Ends, Middle, ending, ending-done, middle-on, middle-stops, first-choice}
+use Rattle.totals.specs.Totals.{then, foldCells, goodRange}
+use Rattle.totals.specs.private.Steps.{matchStep, stepRule, runOver}
+use Rattle.totals.specs.private.Integers.{wholeIn, chosenOf, takenOf, noCells}
+use Rattle.totals.proofs.Within.{range-in}
+use Rattle.totals.proofs.Middle.{Middle, stopped, ending, ending-done, middle-begin, middle-on, middle-stops, middle-unread, middle-ends, first-choice}
 
-whole-int : (v : Value) → kindOf v ≡ K.Int → Int (wholeOf v) ≡ v
-whole-int (Int z) e = refl
-whole-int (Real x) e = absurd (no-int e)
+whole-cell : (b : Bank) (m : ℕ) → bankKind b ≡ K.Int → cellValue b m ≡ Done (Int (wholeIn (cellValue b m)))
+whole-cell X m e = refl
+whole-cell C m e = refl
+whole-cell «V» m e = refl
+whole-cell N m e = refl
+whole-cell D m e = refl
+whole-cell R m e = absurd (no-int e)
   where
     no-int : K.Real ≡ K.Int → ⊥
     no-int q = let z : _≡_ {A = ℕ} 0 1 = cc in omega arith
 
--- a value among outcomes of integers
-pub whole-done : {r : Outcome} (v : Value) → OfKind K.Int r → r ≡ Done v → Int (wholeOf v) ≡ v
-whole-done {r} v h e = go v (rw e at h)
-  where
-    go : (w : Value) → OfKind K.Int (Done w) → Int (wholeOf w) ≡ w
-    go w (done _ q) = whole-int w q
+-- ---- a run seen from the middle
 
-first-whole : (r : Outcome) → OfKind K.Int r → (c : Value) → r ≡ Done c → Int (firstWhole r) ≡ c
-first-whole r h c e = ap (λ (o : Outcome). Int (firstWhole o)) e ∙ whole-done c h e
-
-pub starts : (s : Step) (read : ℕ → Outcome) (i n : ℕ) → averages s ≡ false → 1 ≤ n → OfKind K.Int (read i)
-    → ending Done 0 (foldCells read (stepRule s) (Int (startOf s (firstWhole (read i)))) i n) ≡ runOver s K.Int read i n
-unfolding runOver
-starts S.Add read i n a h k = ending-done _
-starts S.Average read i n a h k = absurd (false≢true (sym a))
-starts (S.Choose o) read i n a h k = ending-done _ ∙ first-choice o (Int (firstWhole (read i))) K.Int read i n h (first-whole (read i) k)
-starts (S.CountIf o v) read i n a h k = ending-done _
-starts (S.AddIf o v) read i n a h k = ending-done _
-
--- what a step makes of integers is one
-pub step-kind : (s : Step) (a z : ℤ) → OfKind K.Int (stepRule s (Int a) (Int z))
-step-kind S.Add a z = rule-laws .binary-kind (B.Arith Add) (Int a) (Int z) tt
-step-kind S.Average a z = rule-laws .binary-kind (B.Arith Add) (Int a) (Int z) tt
-step-kind (S.Choose o) a z = rule-laws .binary-kind (B.Choice o) (Int a) (Int z) tt
-step-kind (S.CountIf o v) a z = by (compareRule o (Int z) v)
-  where
-    by : (t : Bool) → OfKind K.Int (arithRule Add (Int a) (fromBool t))
-    by true = rule-laws .binary-kind (B.Arith Add) (Int a) (Int (pos 1)) tt
-    by false = rule-laws .binary-kind (B.Arith Add) (Int a) (Int (pos 0)) tt
-step-kind (S.AddIf o v) a z = by (compareRule o (Int z) v)
-  where
-    by : (t : Bool) → OfKind K.Int (cond t (arithRule Add (Int a) (Int z)) (Done (Int a)))
-    by true = rule-laws .binary-kind (B.Arith Add) (Int a) (Int z) tt
-    by false = done (Int a) refl
-
--- ---- a turn of the loop: the cell v is read, and r is what combining it gave
-module _ (s : Step) (read : ℕ → Outcome) (all : Visited) (i n : ℕ) (kind : (j : ℕ) → OfKind K.Int (read j)) where
+module _ (s : Step) (read : ℕ → Outcome) (all : Visited) (i n : ℕ) where
   abbrev pub Held : ℤ → ℕ → Type 0
   Held a k = Middle read (stepRule s) Done all i n (Int a) k
 
-  module _ {a : ℤ} {k : ℕ} (m : Held a k) (l : k < n) (v : Value) (r : Outcome) (q : read (i + k) ≡ Done v)
-      (e : r ≡ stepRule s (Int a) (Int (wholeOf v))) where
-    combines : stepRule s (Int a) v ≡ r
-    combines = ap (stepRule s (Int a)) (sym (whole-done v (kind (i + k)) q)) ∙ sym e
+  pub held-ends : {a : ℤ} {k : ℕ} → Held a k → n ≤ k → k ≤ n → record { result = Done (Int a); cells = n } ≡ all
+  held-ends m l h = middle-ends read (stepRule s) Done all i n m l h
 
-    pub holds : (w : Value) → r ≡ Done w → Held (wholeOf w) (k + 1)
-    holds w d =
-        middle-on read (stepRule s) Done all i n m l v (Int (wholeOf w)) q
-        (combines ∙ d ∙ ap Done (sym (whole-done w (step-kind s a (wholeOf v)) (sym e ∙ d))))
+  -- the cell z is read
+  module _ {a : ℤ} {k : ℕ} (m : Held a k) (l : k < n) (z : ℤ) (q : read (i + k) ≡ Done (Int z)) where
+    pub holds : (w : ℤ) → stepRule s (Int a) (Int z) ≡ Done (Int w) → Held w (k + 1)
+    holds w e = middle-on read (stepRule s) Done all i n m l (Int z) (Int w) q e
 
-    pub leaves : Ends r → record { result = r; cells = k + 1 } ≡ all
-    leaves = middle-stops read (stepRule s) Done all i n m l r (ap (λ (o : Outcome). then o (stepRule s (Int a))) q ∙ combines)
+    -- the sum x leaves 32 bits
+    pub leaves : (x : ℤ) → stepRule s (Int a) (Int z) ≡ exactInt x → inRange x ≡ false → record { result = Stopped Overflow; cells = k + 1 } ≡ all
+    leaves x e f =
+        middle-stops read (stepRule s) Done all i n m l (Stopped Overflow)
+        (ap (λ (o : Outcome). then o (stepRule s (Int a))) q ∙ e ∙ rw f refl) (stopped Overflow)
 
--- what is read of a bank of integers
-pub read-whole : (image : List ℕ) (b : Bank) → bankKind b ≡ K.Int → (j : ℕ) → OfKind K.Int (readRule image b j)
-read-whole image b e j = subst (λ (k : Kind). OfKind k (readRule image b j)) e (memory-laws .read-kind image b j)
+    -- or does not
+    pub stays : (x : ℤ) → stepRule s (Int a) (Int z) ≡ exactInt x → inRange x ≡ true → Held x (k + 1)
+    stays x e f = holds x (e ∙ rw f refl)
+
+-- ---- where a run begins, and what it makes of a cell
+
+pub sum-begins : (read : ℕ → Outcome) (i n : ℕ) → ending Done 0 (foldCells read (stepRule S.Add) (Int (pos 0)) i n) ≡ runOver S.Add K.Int read i n
+unfolding runOver
+sum-begins read i n = ending-done _
+
+pub choice-begins : (o : ChoiceOp) (a : ℤ) (read : ℕ → Outcome) (i n : ℕ) → 1 ≤ n → ((c : Value) → read i ≡ Done c → Int a ≡ c)
+    → ending Done 0 (foldCells read (stepRule (S.Choose o)) (Int a) i n) ≡ runOver (S.Choose o) K.Int read i n
+unfolding runOver
+choice-begins o a read i n l h = ending-done _ ∙ first-choice o (Int a) K.Int read i n l h
+
+pub match-begins : (c : Bool) (o : CompareOp) (v : Value) (read : ℕ → Outcome) (i n : ℕ)
+    → ending Done 0 (foldCells read (stepRule (matchStep c o v)) (Int (pos 0)) i n) ≡ runOver (matchStep c o v) K.Int read i n
+unfolding runOver
+match-begins true o v read i n = ending-done _
+match-begins false o v read i n = ending-done _
+
+chosen-same : (o : ChoiceOp) (a : ℤ) → chosenOf o a a ≡ a
+chosen-same Max a = refl
+chosen-same Min a = refl
+
+pub chosen : (o : ChoiceOp) (a b z : ℤ) → stepRule (S.Choose o) (Int (chosenOf o a b)) (Int z) ≡ Done (Int (chosenOf o (choiceInt Min a z) (choiceInt Max b z)))
+chosen Max a b z = refl
+chosen Min a b z = refl
+
+module _ (c : Bool) (o : CompareOp) (v : Value) (a z : ℤ) where
+  pub taken : compareRule o (Int z) v ≡ true → stepRule (matchStep c o v) (Int a) (Int z) ≡ exactInt (a +ℤ takenOf c z)
+  taken e = go c
+    where
+      go : (c : Bool) → stepRule (matchStep c o v) (Int a) (Int z) ≡ exactInt (a +ℤ takenOf c z)
+      go true = rw e refl
+      go false = rw e refl
+
+  pub passed : compareRule o (Int z) v ≡ false → SFits w32 a → stepRule (matchStep c o v) (Int a) (Int z) ≡ Done (Int a)
+  passed e F = go c
+    where
+      go : (c : Bool) → stepRule (matchStep c o v) (Int a) (Int z) ≡ Done (Int a)
+      go true = rw (e, +ℤ-idr a, sfits-range a F) refl
+      go false = rw e refl
+
+-- ---- sums at 64 bits, of integers of 32
+
+pub wide-sum : (a z : ℤ) → SFits w32 a → SFits w32 z → SFits w64 (a +ℤ wide z)
+wide-sum a z F G = rw (read-wide z G) (fits a z F G Add)
+
+pub wide-back : (a z : ℤ) → SFits w32 a → SFits w32 z → toZ w64 (ofZ w64 (a +ℤ wide z)) ≡ a +ℤ z
+wide-back a z F G = rw (read-wide z G) (toZ-ofZ w64 (a +ℤ z) (fits a z F G Add))
+
+-- ---- the cells of a good range
+
+module _ (image : List ℕ) (b : Bank) (i n : ℕ) (g : T (goodRange b i n)) where
+  has : (k : ℕ) → k < n → hasCell image b (i + k) ≡ eqb (length image) imageSize
+  has k l =
+      let h = range-in (layoutOf b .elements) i n g in
+      rw (lt-ltb (i + k) (layoutOf b .elements) (omega (arith, h .1))) (and-true (eqb (length image) imageSize))
+
+  -- as the last cell is there, so is each
+  alike : {t : Bool} → hasCell image b (i + (n - 1)) ≡ t → (k : ℕ) → k < n → hasCell image b (i + k) ≡ t
+  alike e k l = let h = range-in (layoutOf b .elements) i n g in has k l ∙ sym (has (n - 1) (omega (arith, h .0))) ∙ e
+
+  pub all-read : bankKind b ≡ K.Int → hasCell image b (i + (n - 1)) ≡ true → (k : ℕ) → k < n
+      → readRule image b (i + k) ≡ Done (Int (wholeIn (readRule image b (i + k))))
+  all-read w e k l = rw (alike e k l) (whole-cell b _ w)
+
+  pub none-read : hasCell image b (i + (n - 1)) ≡ false → readRule image b (i + 0) ≡ Stopped IndexError
+  none-read e = let h = range-in (layoutOf b .elements) i n g in rw (alike e 0 (omega (arith, h .0)))
+
+  -- what a run comes to that begins at v, where the image has no cell
+  pub none-held : hasCell image b (i + (n - 1)) ≡ false → (s : Step) (v : Value) (all : Visited)
+      → ending Done 0 (foldCells (readRule image b) (stepRule s) v i n) ≡ all → noCells ≡ all
+  none-held e s v all q =
+      let h = range-in (layoutOf b .elements) i n g in
+      middle-unread (readRule image b) (stepRule s) Done all i n (middle-begin (readRule image b) (stepRule s) Done all i n v q) (omega (arith, h .0))
+      (Stopped IndexError) (none-read e) (stopped IndexError)
+
+  pub choice-none : hasCell image b (i + (n - 1)) ≡ false → (o : ChoiceOp) → noCells ≡ runOver (S.Choose o) K.Int (readRule image b) i n
+  choice-none e o =
+      let h = range-in (layoutOf b .elements) i n g in
+      let z : i + 0 ≡ i = omega arith in
+      none-held e (S.Choose o) (Int (pos 0)) _ (choice-begins o (pos 0) (readRule image b) i n (h .0)
+      (λ c q. absurd (not-done c (sym (rw z at (none-read e)) ∙ q))))
+    where
+      isDone : Outcome → Bool
+      isDone (Done v) = true
+      isDone (Stopped f) = false
+      isDone WrongKind = false
+
+      not-done : (c : Value) → Stopped IndexError ≡ Done c → ⊥
+      not-done c q = false≢true (ap isDone q)
+
+  pub choice-held : bankKind b ≡ K.Int → hasCell image b (i + (n - 1)) ≡ true → (o : ChoiceOp) (a : ℤ) → a ≡ wholeIn (readRule image b i)
+      → Held (S.Choose o) (readRule image b) (runOver (S.Choose o) K.Int (readRule image b) i n) i n (chosenOf o a a) 0
+  choice-held w e o a q =
+      let h = range-in (layoutOf b .elements) i n g in
+      let z : i + 0 ≡ i = omega arith in
+      let r : readRule image b i ≡ Done (Int a) =
+      ap (λ (j : ℕ). readRule image b j) (sym z) ∙ all-read w e 0 (omega (arith, h .0)) ∙ ap (λ (j : ℕ). Done (Int (wholeIn (readRule image b j)))) z
+      ∙ ap (λ (y : ℤ). Done (Int y)) (sym q) in
+      middle-begin (readRule image b) (stepRule (S.Choose o)) Done _ i n (Int (chosenOf o a a))
+      (rw (chosen-same o a) (choice-begins o a (readRule image b) i n (h .0) (λ c p. ap value (sym r ∙ p))))
+    where
+      value : Outcome → Value
+      value (Done v) = v
+      value (Stopped f) = Int (pos 0)
+      value WrongKind = Int (pos 0)

@@ -18,12 +18,24 @@ run-requires-2 : tie.Need-run-requires-2
 run-requires-2 c κs = search needs
 
 returns : tie.Need-returns
-returns c = counts-matches (now (c .before .before .before .before .before .args .image)) (c .before .before .before .before .before .args .bank) (c .before .before .before .before .before .args .first) (c .before .before .before .before .before .args .count) _ _ _ (c .before .before .op .given .1) (c .run .ensures)
+returns c =
+    counts-matches (now (c .before .before .before .before .before .args .image)) (c .before .before .before .before .before .args .bank)
+    (c .before .before .before .before .before .args .first) (c .before .before .before .before .before .args .count) _ _ _
+    (c .before .before .op .given .1) (c .run .ensures)
 
 returns-2 : tie.Need-returns-2
-returns-2 c = sums-matches (now (c .before .before .before .before .before .args .image)) (c .before .before .before .before .before .args .bank) (c .before .before .before .before .before .args .first) (c .before .before .before .before .before .args .count) _ _ _ (c .before .before .op2 .given .1) (c .run2 .ensures)
+returns-2 c =
+    sums-matches (now (c .before .before .before .before .before .args .image)) (c .before .before .before .before .before .args .bank)
+    (c .before .before .before .before .before .args .first) (c .before .before .before .before .before .args .count) _ _ _
+    (c .before .before .op2 .given .1) (c .run2 .ensures)
 
 pub matching-spec : {M : Type 1} → statement M
 matching-spec =
     tie.close
-    (tie.spec enum-known-op run-requires enum-known-op-2 run-requires-2 returns returns-2)
+    (tie.spec
+    enum-known-op
+    run-requires
+    enum-known-op-2
+    run-requires-2
+    returns
+    returns-2)

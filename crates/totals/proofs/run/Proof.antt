@@ -1,25 +1,69 @@
--- `totals::run` meets its contract: R by the tally, the others as integers.
-use mathlib.Core.Path.{sym, _∙_}
+-- `totals::run` meets its contract: an arm for each step.
 use borrow.Author.Needs.{needs}
-use Rattle.totals.proofs.Laws.{total-laws}
-use Rattle.totals.proofs.Runs.{real-bank, whole-bank}
 use Rattle.totals.proofs.run.Statement.{statement}
 use Rattle.totals.proofs.run.Tie as tie
 
-is-real-requires : tie.Need-is-real-requires
-is-real-requires c κs = search needs
+enum-told : tie.Need-enum-told
+enum-told c = search needs
 
-run-requires : tie.Need-run-requires
-run-requires c κs = total-laws .range-small (c .before .before .before .args .bank) (c .before .before .before .args .first) (c .before .before .before .args .count) (c .before .before .before .pre .0)
+sum-requires : tie.Need-sum-requires
+sum-requires c κs = search needs
 
-run-requires-2 : tie.Need-run-requires-2
-run-requires-2 c κs = let h = total-laws .range-small (c .before .before .before .args .bank) (c .before .before .before .args .first) (c .before .before .before .args .count) (c .before .before .before .pre .0) in (h .0, h .1, whole-bank (c .before .before .before .args .bank) (sym (c .before .is-real .ensures) ∙ c .if1 .left), c .before .before .before .pre .1)
+enum-told-2 : tie.Need-enum-told-2
+enum-told-2 c = search needs
+
+average-requires : tie.Need-average-requires
+average-requires c κs = search needs
+
+enum-known-step : tie.Need-enum-known-step
+enum-known-step c = search needs
+
+choose-requires : tie.Need-choose-requires
+choose-requires c κs = search needs
+
+enum-known-step-2 : tie.Need-enum-known-step-2
+enum-known-step-2 c = search needs
+
+matched-requires : tie.Need-matched-requires
+matched-requires c κs = search needs
+
+enum-known-step-3 : tie.Need-enum-known-step-3
+enum-known-step-3 c = search needs
+
+matched-requires-2 : tie.Need-matched-requires-2
+matched-requires-2 c κs = search needs
 
 returns : tie.Need-returns
-returns c = rw (real-bank (c .before .before .before .before .args .bank) (sym (c .before .before .is-real .ensures) ∙ c .before .if1 .taken)) (c .run .ensures)
+returns c = rw (c .before .enum-told .given .1) (c .sum .ensures)
 
 returns-2 : tie.Need-returns-2
-returns-2 c = rw (whole-bank (c .before .before .before .before .args .bank) (sym (c .before .before .is-real .ensures) ∙ c .before .if1 .left)) (c .run2 .ensures)
+returns-2 c = rw (c .before .enum-told2 .given .1) (c .average .ensures)
+
+returns-3 : tie.Need-returns-3
+returns-3 c = rw (c .before .before .step .given .1) (c .choose .ensures)
+
+returns-4 : tie.Need-returns-4
+returns-4 c = rw (c .before .before .step2 .given .1) (c .matched .ensures)
+
+returns-5 : tie.Need-returns-5
+returns-5 c = rw (c .before .before .step3 .given .1) (c .matched2 .ensures)
 
 pub run-spec : {M : Type 1} → statement M
-run-spec = tie.close (tie.spec is-real-requires run-requires run-requires-2 returns returns-2)
+run-spec =
+    tie.close
+    (tie.spec
+    enum-told
+    sum-requires
+    enum-told-2
+    average-requires
+    enum-known-step
+    choose-requires
+    enum-known-step-2
+    matched-requires
+    enum-known-step-3
+    matched-requires-2
+    returns
+    returns-2
+    returns-3
+    returns-4
+    returns-5)

@@ -1,34 +1,62 @@
 -- Runs as reals: what the tally holds after one cell more.
 use mathlib.Core.Path.{_≡_, refl, sym, ap, subst, _∙_}
-use mathlib.Core.Bool.{Bool, true, false, cond, false≢true}
+use mathlib.Core.Bool.{Bool, true, false, not, false≢true}
 use Prim.Native.Nat.{ℕ, _+_, _≤_, _<_}
 use native.Mathlib.Omega.{arith}
-use lib.IntN.{ℤ, pos}
-use lib.Ieee.{Float, nan, inf, fin, binary32, add}
+use lib.IntN.{pos}
+use lib.Ieee.{Float, nan, inf, fin}
 use lib.Ieee.Scale.{finite}
 use borrow.Author.Tests.{le-leb}
 use Rattle.reals.specs.declared.ArithOp.the-variants.{Add, Div}
 use Rattle.values.specs.declared.Kind.the-variants as K
 use Rattle.values.specs.declared.Value.{Value}
 use Rattle.values.specs.declared.Value.the-variants.{Int, Real}
-use Rattle.values.specs.declared.Fault.the-variants.{Overflow, OutOfRange}
+use Rattle.values.specs.declared.Fault.the-variants.{Overflow, OutOfRange, IndexError}
 use Rattle.values.specs.declared.ChoiceOp.the-variants.{Max, Min}
 use Rattle.values.specs.declared.CompareOp.{CompareOp}
 use Rattle.values.specs.declared.Outcome.{Outcome}
-use Rattle.values.specs.declared.Outcome.the-variants.{Done, Stopped, WrongKind}
+use Rattle.values.specs.declared.Outcome.the-variants.{Done, Stopped}
 use Rattle.values.specs.Values.{kindOf}
 use Rattle.values.specs.Singles.{zeroReal, settle, compareReal}
-use Rattle.operators.specs.Operators.{asReal, arithRule, fromBool}
-use Rattle.operators.specs.Laws.{OfKind, done, stopped}
+use Rattle.operators.specs.Operators.{asReal, arithRule}
+use Rattle.operators.specs.Laws.{OfKind, done}
 use Rattle.totals.specs.declared.Step.{Step}
 use Rattle.totals.specs.declared.Step.the-variants as S
 use Rattle.totals.specs.declared.tally.Tally.{Tally}
 use Rattle.totals.specs.declared.Visited.{Visited}
 use Rattle.totals.specs.Totals.{then, foldCells, average}
-use Rattle.totals.specs.private.Steps.{stepRule, runOver}
-use Rattle.totals.specs.private.Tally.{begun, stepped, firstReal, takes, sums, held, reading}
+use Rattle.totals.specs.private.Steps.{sumStep, matchStep, stepRule, runOver}
+use Rattle.totals.specs.private.Tally.{begun, stepped, firstReal, reading}
+use Rattle.totals.specs.private.Integers.{noCells}
 use Rattle.totals.proofs.Sums.{real-added}
 use Rattle.totals.proofs.Middle.{Ends, Middle, ending, ending-done, middle-begin, middle-on, middle-stops, middle-unread, middle-ends, first-choice}
+
+-- ---- what a run does with a tally
+
+-- the IF forms take matching cells only
+abbrev pub takes : Step → Float → Bool
+takes S.Add x = true
+takes S.Average x = true
+takes (S.Choose o) x = true
+takes (S.CountIf o v) x = compareReal o x (asReal v)
+takes (S.AddIf o v) x = compareReal o x (asReal v)
+
+-- whether the run is about the sum: the others go on past an infinite one
+abbrev pub sums : Step → Bool
+sums S.Add = true
+sums S.Average = true
+sums (S.Choose o) = false
+sums (S.CountIf o v) = false
+sums (S.AddIf o v) = true
+
+-- what the cells so far made
+abbrev pub held : Step → Tally → Value
+held S.Add t = Real (t .sum)
+held S.Average t = Real (t .sum)
+held (S.Choose Max) t = Real (t .greatest)
+held (S.Choose Min) t = Real (t .least)
+held (S.CountIf o v) t = Int (pos (t .count))
+held (S.AddIf o v) t = Real (t .sum)
 
 -- ---- a cell of a real bank
 
@@ -81,13 +109,22 @@ finishes (S.AddIf o v) t n h = refl
 
 -- ---- one cell more
 
--- it is compared with the expression as a real, y
-module _ (s : Step) (o : CompareOp) (v : Value) (x y : Float) {r : Bool} where
-  pub count-takes : s ≡ S.CountIf o v → y ≡ asReal v → r ≡ compareReal o x y → r ≡ takes s x
-  count-takes e q h = rw (e, ← q) h
+-- a match compares it with the expression as a real, y
+pub match-takes : (c : Bool) (o : CompareOp) (v : Value) (x y : Float) {r : Bool} → y ≡ asReal v → r ≡ compareReal o x y → takes (matchStep c o v) x ≡ r
+match-takes true o v x y q h = rw (← q, h)
+match-takes false o v x y q h = rw (← q, h)
 
-  pub sum-takes : s ≡ S.AddIf o v → y ≡ asReal v → r ≡ compareReal o x y → r ≡ takes s x
-  sum-takes e q h = rw (e, ← q) h
+pub match-sums : {t : Bool} (c : Bool) (o : CompareOp) (v : Value) → c ≡ t → sums (matchStep c o v) ≡ not t
+match-sums true o v e = rw (sym e)
+match-sums false o v e = rw (sym e)
+
+pub sum-takes : (a : Bool) (x : Float) → takes (sumStep a) x ≡ true
+sum-takes true x = refl
+sum-takes false x = refl
+
+pub sum-sums : (a : Bool) → sums (sumStep a) ≡ true
+sum-sums true = refl
+sum-sums false = refl
 
 pub settled-finite : (y : Float) → finite y ≡ true → settle y ≡ Done (Real y)
 settled-finite nan e = absurd (false≢true e)
@@ -213,9 +250,26 @@ module _ (s : Step) (read : ℕ → Outcome) (all : Visited) (i n : ℕ) where
         averages-all : s ≡ S.Average → takes s x ≡ false → ⊥
         averages-all a f = false≢true (sym f ∙ ap (λ (z : Step). takes z x) a)
 
--- ---- AVGR of any bank
+-- ---- sums of every cell, from any first one
 
-pub begins-average : (x : Float) (read : ℕ → Outcome) (i n : ℕ)
-    → ending (finish S.Average n) 0 (foldCells read (stepRule S.Average) (held S.Average (begun x)) i n) ≡ runOver S.Average K.Real read i n
+pub begins-sum : (a : Bool) (x : Float) (read : ℕ → Outcome) (i n : ℕ)
+    → ending (finish (sumStep a) n) 0 (foldCells read (stepRule (sumStep a)) (held (sumStep a) (begun x)) i n) ≡ runOver (sumStep a) K.Real read i n
 unfolding runOver
-begins-average x read i n = averaged n (foldCells read (arithRule Add) (Real zeroReal) i n)
+begins-sum true x read i n = averaged n (foldCells read (arithRule Add) (Real zeroReal) i n)
+begins-sum false x read i n = ending-done _
+
+-- where the first cell is not there
+pub average-none : (read : ℕ → Outcome) (i n : ℕ) → 1 ≤ n → read (i + 0) ≡ Stopped IndexError → noCells ≡ runOver S.Average K.Real read i n
+average-none read i n l q =
+    tallied-unread S.Average read (runOver S.Average K.Real read i n) i n
+    (tallied-begin S.Average read (runOver S.Average K.Real read i n) i n zeroReal (begins-sum true zeroReal read i n)) (omega arith)
+    (Stopped IndexError) q (Ends.stopped IndexError)
+
+-- ---- matches, from any first cell
+
+pub begins-match : (c : Bool) (o : CompareOp) (v : Value) (x : Float) (read : ℕ → Outcome) (i n : ℕ)
+    → ending (finish (matchStep c o v) n) 0 (foldCells read (stepRule (matchStep c o v)) (held (matchStep c o v) (begun x)) i n)
+    ≡ runOver (matchStep c o v) K.Real read i n
+unfolding runOver
+begins-match true o v x read i n = ending-done _
+begins-match false o v x read i n = ending-done _

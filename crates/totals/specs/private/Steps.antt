@@ -7,6 +7,7 @@ use Rattle.values.specs.declared.Kind.{Kind}
 use Rattle.values.specs.declared.Value.{Value}
 use Rattle.values.specs.declared.Value.the-variants.{Int, Real}
 use Rattle.values.specs.declared.Outcome.{Outcome}
+use Rattle.values.specs.declared.CompareOp.{CompareOp}
 use Rattle.values.specs.Singles.{zeroReal}
 use Rattle.operators.specs.Operators.{arithRule}
 use Rattle.memory.specs.declared.Bank.{Bank}
@@ -27,12 +28,15 @@ isReal N = false
 isReal D = false
 isReal R = true
 
-abbrev pub averages : Step → Bool
-averages S.Add = false
-averages S.Average = true
-averages (S.Choose o) = false
-averages (S.CountIf o v) = false
-averages (S.AddIf o v) = false
+-- SUMR, or AVGR where it is averaged
+abbrev pub sumStep : Bool → Step
+sumStep true = S.Average
+sumStep false = S.Add
+
+-- COUNTIF where it counts, else SUMIF
+abbrev pub matchStep : Bool → CompareOp → Value → Step
+matchStep true o v = S.CountIf o v
+matchStep false o v = S.AddIf o v
 
 abbrev pub stepRule : Step → Value → Value → Outcome
 stepRule S.Add = arithRule Add

@@ -1,16 +1,15 @@
--- The running tally of a real run (paper 02, Ask 2): "A running tally keeps sum, least and greatest as singles beside the count for real banks, the sum from 0.0".
-use mathlib.Core.Bool.{Bool, true, false}
-use Prim.Native.Nat.{ℕ, _+_}
+-- The running tally of a real run (paper 02, Ask 2): "A running tally keeps sum, least and greatest as singles beside the count for real banks,
+-- the sum from 0.0".
+use Prim.Native.Nat.{_+_}
 use lib.IntN.{pos}
 use lib.Ieee as Ieee
 use lib.Ieee.{Float, binary32}
 use Rattle.reals.specs.declared.ArithOp.the-variants.{Div}
-use Rattle.values.specs.declared.Value.{Value}
 use Rattle.values.specs.declared.Value.the-variants.{Int, Real}
 use Rattle.values.specs.declared.Outcome.{Outcome}
 use Rattle.values.specs.declared.Outcome.the-variants.{Done, Stopped, WrongKind}
 use Rattle.values.specs.declared.ChoiceOp.the-variants.{Max, Min}
-use Rattle.values.specs.Singles.{zeroReal, compareReal, choiceReal}
+use Rattle.values.specs.Singles.{zeroReal, choiceReal}
 use Rattle.operators.specs.Operators.{asReal, arithRule}
 use Rattle.totals.specs.declared.Step.{Step}
 use Rattle.totals.specs.declared.Step.the-variants as S
@@ -32,29 +31,6 @@ abbrev pub firstReal : Outcome → Float
 firstReal (Done v) = asReal v
 firstReal (Stopped f) = zeroReal
 firstReal WrongKind = zeroReal
-
-abbrev pub takes : Step → Float → Bool
-takes S.Add x = true
-takes S.Average x = true
-takes (S.Choose o) x = true
-takes (S.CountIf o v) x = compareReal o x (asReal v)
-takes (S.AddIf o v) x = compareReal o x (asReal v)
-
-abbrev pub sums : Step → Bool
-sums S.Add = true
-sums S.Average = true
-sums (S.Choose o) = false
-sums (S.CountIf o v) = false
-sums (S.AddIf o v) = true
-
--- what the cells so far made
-abbrev pub held : Step → Tally → Value
-held S.Add t = Real (t .sum)
-held S.Average t = Real (t .sum)
-held (S.Choose Max) t = Real (t .greatest)
-held (S.Choose Min) t = Real (t .least)
-held (S.CountIf o v) t = Int (pos (t .count))
-held (S.AddIf o v) t = Real (t .sum)
 
 -- what a run comes to: "AVGR .. divided by the count"
 abbrev pub reading : Step → Tally → Outcome

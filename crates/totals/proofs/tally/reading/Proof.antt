@@ -40,7 +40,8 @@ returns : tie.Need-returns
 returns c = rw (c .enum-told .given .1)
 
 returns-2 : tie.Need-returns-2
-returns-2 c = rw (c .before .before .enum-told2 .given .1) (rw (toZ-pos w32 (c .before .before .before .before .args .t .count) (omega arith)) at (c .arith .ensures))
+returns-2 c =
+    rw (c .before .before .enum-told2 .given .1) (rw (toZ-pos w32 (c .before .before .before .before .args .t .count) (omega arith)) at (c .arith .ensures))
 
 returns-3 : tie.Need-returns-3
 returns-3 c = rw (c .before .before .before .step .given .1, c .enum-told3 .given .1)

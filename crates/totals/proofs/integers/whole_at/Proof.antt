@@ -1,11 +1,11 @@
--- `totals::integers::first_whole` meets its contract: the cell as it was read.
+-- `totals::integers::whole_at` meets its contract: the cell as it was read.
 use mathlib.Core.Path.{sym, _∙_}
 use mir.Syntax.{w32}
 use mir.Val.{SFits}
 use mir.ValLaws.{toZ-ofZ}
 use borrow.Author.Needs.{needs}
-use Rattle.totals.proofs.integers.first_whole.Statement.{statement}
-use Rattle.totals.proofs.integers.first_whole.Tie as tie
+use Rattle.totals.proofs.integers.whole_at.Statement.{statement}
+use Rattle.totals.proofs.integers.whole_at.Tie as tie
 
 read-requires : tie.Need-read-requires
 read-requires c κs = search needs
@@ -23,7 +23,9 @@ enum-told-2 : tie.Need-enum-told-2
 enum-told-2 c = search needs
 
 returns : tie.Need-returns
-returns c = let R : SFits w32 (c .whole-of .result) = search needs in rw (sym (c .before .before .before .before .read .ensures) ∙ c .before .before .v .given .1) (toZ-ofZ w32 (c .whole-of .result) R ∙ c .whole-of .ensures)
+returns c =
+    let R : SFits w32 (c .whole-of .result) = search needs in rw
+    (sym (c .before .before .before .before .read .ensures) ∙ c .before .before .v .given .1) (toZ-ofZ w32 (c .whole-of .result) R ∙ c .whole-of .ensures)
 
 returns-2 : tie.Need-returns-2
 returns-2 c = rw (sym (c .before .before .read .ensures) ∙ c .enum-told .given .1)
@@ -31,8 +33,8 @@ returns-2 c = rw (sym (c .before .before .read .ensures) ∙ c .enum-told .given
 returns-3 : tie.Need-returns-3
 returns-3 c = rw (sym (c .before .before .read .ensures) ∙ c .enum-told2 .given .1)
 
-pub first-whole-spec : {M : Type 1} → statement M
-first-whole-spec =
+pub whole-at-spec : {M : Type 1} → statement M
+whole-at-spec =
     tie.close
     (tie.spec
     read-requires
