@@ -141,7 +141,7 @@ void formula_store(uint32_t kind, uint32_t bits, uint8_t *memory, uint64_t memor
                    uint64_t target_len, const uint8_t *index_code, uint64_t index_len, uint64_t index_instructions,
                    uint32_t tick, struct formula_report *report);
 
-/* ---- Files of cards: docs/CARDS.md has the form. */
+/* ---- Files of cards: docs/CARDS.md has the form, examples/cards.c an example. */
 
 #define FORMULA_BAD_LINE 16
 #define FORMULA_BAD_CHECK 17
@@ -205,7 +205,7 @@ static inline const char *formula_answer_text(uint32_t answer)
     case FORMULA_BAD_LENGTH: return "the expression is empty or has over 1,024 bytes";
     case FORMULA_BAD_BYTES: return "bytes that form no token";
     case FORMULA_BAD_NUMBER: return "a number out of range";
-    case FORMULA_BAD_NAME: return "an unknown name, or a cell beyond its bank";
+    case FORMULA_BAD_NAME: return "no such name, cell or run of cells";
     case FORMULA_BAD_GRAMMAR: return "not in the grammar";
     case FORMULA_TOO_DEEP: return "more than eight open ( and [";
     case FORMULA_BAD_KIND: return "a real where an integer is needed";

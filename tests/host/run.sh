@@ -26,12 +26,14 @@ for archive in formula_c formula_bare; do
     "$out/remainder_$archive"
 done
 
-build_c recipe examples/recipe.c -lformula_c -lm
-build_c recipe_bare examples/recipe.c -lformula_bare
-for program in recipe recipe_bare; do
-    "$out/$program" > "$out/$program.out"
-    cmp examples/recipe.expected "$out/$program.out"
-    echo "$program prints recipe.expected"
+for example in recipe cards; do
+    build_c "$example" "examples/$example.c" -lformula_c -lm
+    build_c "${example}_bare" "examples/$example.c" -lformula_bare
+    for program in "$example" "${example}_bare"; do
+        "$out/$program" > "$out/$program.out"
+        cmp "examples/$example.expected" "$out/$program.out"
+        echo "$program prints $example.expected"
+    done
 done
 
 "$out/host" "$@"

@@ -4,7 +4,7 @@
 ghost use Prim.Native.Nat.{_≤_};
 ghost use lib.ListN.{length};
 use card_file::read::READ_WORDS;
-use card_file::write::Written;
+use card_write::Written;
 use libc::STDIN_FILENO;
 use libc::STDOUT_FILENO;
 
@@ -71,7 +71,7 @@ fn write_again(file: &[u8], words: &[u32; READ_WORDS]) {
     let given: &[u32] = words;
     let n = wide(words[2]);
     if n <= 64 {
-        tell_written(card_file::write::write(file, &given[3..3 + 5 * n], &mut out));
+        tell_written(card_write::write(file, &given[3..3 + 5 * n], &mut out));
     }
 }
 
@@ -142,9 +142,9 @@ fn every_byte(file: &mut [u8]) {
 
 // Writes into the beginning of a buffer of dots, and shows all of it.
 fn write_cards(texts: &[u8], cards: &[u32], room: usize)
-    requires { ⌜ room ≤ 64 ⌝ }
+    requires { ⌜ room ≤ 96 ⌝ }
 {
-    let mut out = [b'.'; 64];
+    let mut out = [b'.'; 96];
     write_into(texts, cards, &mut out, room);
     io::write_all(STDOUT_FILENO, &out);
     io::write_all(STDOUT_FILENO, b"\n");
@@ -153,14 +153,14 @@ fn write_cards(texts: &[u8], cards: &[u32], room: usize)
 fn write_into(texts: &[u8], cards: &[u32], out: &mut [u8], room: usize)
     requires { ⌜ room ≤ length (now out) ⌝ }
 {
-    tell_written(card_file::write::write(texts, cards, &mut out[..room]));
+    tell_written(card_write::write(texts, cards, &mut out[..room]));
 }
 
 // The second text is at 2; the line end is at 8.
 const TEXTS: [u8; 11] = *b"D0R1 + 1\nR2";
 
-// The first card has 41 bytes.
-fn writes() {
+// One card, of 41 bytes where it is good.
+fn writes_one() {
     write_cards(&TEXTS, &[9, 0, 2, 2, 6], 64);
     write_cards(&TEXTS, &[9, 0, 2, 2, 6], 41);
     write_cards(&TEXTS, &[9, 0, 2, 2, 6], 40);
@@ -178,6 +178,20 @@ fn writes() {
     write_cards(&TEXTS, &[9, 0, 2], 0);
 }
 
+// A good card, and a second one; then a refused one and a second.
+fn writes_two() {
+    write_cards(&TEXTS, &[9, 0, 2, 2, 6, 10, 9, 2, 2, 2], 79);
+    write_cards(&TEXTS, &[9, 0, 2, 2, 6, 10, 9, 2, 2, 2], 78);
+    write_cards(&TEXTS, &[9, 0, 2, 2, 6, 9, 9, 2, 2, 2], 96);
+    write_cards(&TEXTS, &[9, 0, 2, 2, 6, 10, 9, 2, 5, 1], 96);
+    write_cards(&TEXTS, &[9, 0, 2, 2, 6, 8, 9, 2, 5, 1], 96);
+    write_cards(&TEXTS, &[9, 0, 2, 2, 6, 9, 7, 2, 2, 2], 96);
+    write_cards(&TEXTS, &[9, 0, 2, 2, 6, 9, 9, 2, 7, 2], 96);
+    write_cards(&TEXTS, &[9, 0, 2, 2, 6, 65, 9, 2, 5, 1], 96);
+    write_cards(&TEXTS, &[9, 0, 2, 2, 6, 8, 9, 2, 5, 1], 76);
+    write_cards(&TEXTS, &[0, 0, 2, 5, 1, 9, 7, 2, 2, 6], 96);
+}
+
 fn first_file(input: &mut [u8]) {
     let end = file_end(input, 0);
     beginnings(&input[..end]);
@@ -189,5 +203,6 @@ fn main() {
     let n = io::read_full(STDIN_FILENO, &mut input);
     every_file(&input[..n]);
     first_file(&mut input[..n]);
-    writes();
+    writes_one();
+    writes_two();
 }

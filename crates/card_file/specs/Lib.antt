@@ -1,4 +1,2 @@
 pub mod Spans
 pub mod Words
-pub mod Given
-pub mod Reply

@@ -8,7 +8,7 @@ use Rattle.text.specs.Targets.{Target, toCell, toIndexed, noTarget, targetOf}
 use Rattle.card_laws.specs.declared.Verdict.{Verdict}
 use Rattle.card_laws.specs.declared.Verdict.the-variants.{Fine, Refusal}
 use Rattle.card_laws.specs.Lines as Lines
-use Rattle.card_laws.specs.Cards.{cardKey, targetKey, exprKey, checkKey, Form, formed, out}
+use Rattle.card_laws.specs.Cards.{cardKey, targetKey, exprKey, checkKey, cardNumber, Form, formed, out}
 use Rattle.card_laws.specs.Reading.{CardRead, taken, refused}
 use Rattle.card_file.specs.declared.form.Field.{Field}
 use Rattle.card_file.specs.declared.form.Field.the-variants.{Value, Wrong}
@@ -18,6 +18,14 @@ use Rattle.card_file.specs.declared.form.FourLines.{FourLines}
 abbrev pub lengthIn : Lines.Field → Field
 lengthIn (Lines.field v r) = Value (length v)
 lengthIn Lines.wrong = Wrong
+
+abbrev pub numberIn : Lines.Field → ℕ
+numberIn (Lines.field v r) = cardNumber v
+numberIn Lines.wrong = 0
+
+-- the number in a card's first line, 0 where that line has not its form
+unfoldable pub lineNumber : List ℕ → ℕ
+lineNumber s = numberIn (Lines.fieldOf cardKey s)
 
 -- ---- where the parts of a card stand: behind a number of w digits, a target of t bytes and an expression of e
 abbrev pub targetAt : ℕ → ℕ

@@ -1,4 +1,4 @@
--- Cards as words: what reading a file leaves in a table of 323 words, and the cards that a table of five words a card stands for.
+-- Cards as words: what reading a file leaves in a table of 323 words, five of them a card.
 use mathlib.Core.List.{List, [], _∷_, _++_}
 use Prim.Native.Nat.{ℕ, _+_, _-_, _≤_, _<_}
 use lib.ListN.{length, replicate}

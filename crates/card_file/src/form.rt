@@ -4,8 +4,7 @@ ghost use Prim.Native.Nat.{_≤_};
 ghost use lib.ListN.{length, drop};
 ghost use Rattle.card_laws.specs.Lines.{fieldOf};
 ghost use Rattle.card_laws.specs.Cards.{out, cardNumber, isCheck, cardForm};
-ghost use Rattle.card_file.specs.Reply.{lineNumber};
-ghost use Rattle.card_file.specs.Spans.{lengthIn, spans};
+ghost use Rattle.card_file.specs.Spans.{lengthIn, lineNumber, spans};
 use memory::names::Number;
 
 // The length of the value of a line that has its key and its end.

@@ -1,5 +1,6 @@
 // The judgement of a card: its form, its check, its number, and the formula.
 ghost use mathlib.Core.Path.{_≡_};
+ghost use lib.Dec.{ltb};
 ghost use Rattle.card_laws.specs.Cards.{cardForm};
 ghost use Rattle.card_laws.specs.Reading.{judged};
 ghost use Rattle.card_laws.specs.Formulas.{formulaAnswer};
@@ -34,6 +35,12 @@ pub fn formula_verdict(target: &[u8], expr: &[u8]) -> Verdict
     }
 }
 
+fn rises(last: u32, number: u32) -> bool
+    ensures { λ r. ⌜ r ≡ ltb last number ⌝ }
+{
+    last < number
+}
+
 // A text whose form has been found, behind a card with the number `last`.
 pub fn judged(s: &[u8], last: u32, f: FourLines) -> Verdict
     requires { ⌜ f ≡ spans (cardForm (now s)) ⌝ }
@@ -51,10 +58,12 @@ pub fn judged(s: &[u8], last: u32, f: FourLines) -> Verdict
     let digits = check::digits_of(check::sum_of(&s[lines..lines_end]));
     let from = f.check;
     let to = from + 5;
-    if !tokens::identifiers::same_bytes(&s[from..to], &digits) {
+    let same = tokens::identifiers::same_bytes(&s[from..to], &digits);
+    let above = rises(last, f.number);
+    if !same {
         return Verdict::Refusal(17);
     }
-    if f.number <= last {
+    if !above {
         return Verdict::Refusal(18);
     }
     formula_verdict(&s[target..target_end], &s[expr..expr_end])

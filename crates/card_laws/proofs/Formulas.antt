@@ -137,6 +137,23 @@ fine-of t e h = go (targetOf t) refl (judge e) refl h
 expr-text : (b : ℕ) → Unused b → (t e : List ℕ) → formulaAnswer t e ≡ Fine → Text b e
 expr-text b u t e h = let a : Accepted t e = fine-of t e h in text-of b 0 u (omega arith) e (a .tree) (a .formula)
 
+-- ---- a refusal
+own-answer : (t e : List ℕ) (a : ℕ) → formulaAnswer t e ≡ Refusal a → (2 ≤ a) × (a ≤ 9)
+unfolding formulaAnswer
+own-answer t e a h = by (targetOf t) (judge e) refl h
+  where
+    expr : (j : Judgement) → judge e ≡ j → judgedExpr j ≡ Refusal a → (2 ≤ a) × (a ≤ 9)
+    expr (accepted x) q w = absurd (let z : _≡_ {A = ℕ} 0 1 = cc in omega arith)
+    expr (refused b p) q w =
+        let z : b ≡ a = cc in
+        let k = text-from .theorems 0 (omega arith) .answers e b p q in
+        (omega (arith, k .0), omega (arith, k .1))
+
+    by : (x : Target) (j : Judgement) → judge e ≡ j → judgedTarget x (judgedExpr j) ≡ Refusal a → (2 ≤ a) × (a ≤ 9)
+    by (toCell b i) j q w = expr j q w
+    by (toIndexed b i) j q w = expr j q w
+    by noTarget j q w = let z : 2 ≡ a = cc in (omega arith, omega arith)
+
 pub judge-laws : JudgeLaws formulaAnswer
 judge-laws =
     record {
@@ -145,6 +162,7 @@ judge-laws =
       target-line = λ t e h. target-text t (fine-of t e h .is-target) .lacking;
       expr-line = λ t e h. expr-text 10 no-line-end t e h .lacking;
       no-k = λ t e h. expr-text 107 no-k t e h .lacking;
+      own-answer = own-answer;
     }
 
 pub formula-card-theorems : CardTheorems formulaAnswer

@@ -5,6 +5,7 @@ pub mod Lines
 pub mod Cards
 pub mod Reading
 pub mod Writing
+mod Refusals
 mod Absence
 mod Weights
 pub mod Damage

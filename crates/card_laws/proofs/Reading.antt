@@ -12,7 +12,7 @@ use Rattle.lines.proofs.printing.Widths.{at-most}
 use Rattle.card_laws.specs.Lines.{ended}
 use Rattle.card_laws.specs.Cards.{Card, card, numberOf, targetKey, exprKey, checkKey, checkedLines, checkText, cardLine, cardBytes, cardsBytes}
 use Rattle.card_laws.specs.declared.Verdict.{Verdict}
-use Rattle.card_laws.specs.Reading.{CardRead, taken, refused, readCard, CardsRead, good, bad, alsoCard, thenCards, isEmpty, readFrom, readCards, GoodCard, good-card, Valid, none, next}
+use Rattle.card_laws.specs.Reading.{CardRead, taken, refused, readCard, CardsRead, good, bad, alsoCard, thenCards, lastOf, isEmpty, readFrom, readCards, GoodCard, good-card, Valid, none, next}
 use Rattle.card_laws.specs.Theorems.{JudgeLaws}
 use Rattle.card_laws.proofs.Cards.{Stands, card-is, card-there, check-length, bytes-before}
 
@@ -40,14 +40,14 @@ empty-is : (s : List ℕ) → isEmpty s ≡ true → s ≡ []
 empty-is [] e = refl
 empty-is (c ∷ s) e = let z : _≡_ {A = ℕ} 0 1 = cc in absurd (omega arith)
 
+not-nothing : (s : List ℕ) → 0 < length s → isEmpty s ≡ false
+not-nothing [] h = absurd (omega arith)
+not-nothing (c ∷ s) h = refl
+
 -- ---- cards before others
 abbrev pub alsoCards : List Card → CardsRead → CardsRead
 alsoCards [] r = r
 alsoCards (c ∷ cs) r = alsoCard c (alsoCards cs r)
-
-abbrev pub lastOf : ℕ → List Card → ℕ
-lastOf last [] = last
-lastOf last (c ∷ cs) = lastOf (numberOf c) cs
 
 pub also-good : (ks bs : List Card) → alsoCards ks (good bs) ≡ good (ks ++ bs)
 also-good [] bs = refl
@@ -151,6 +151,20 @@ module _ (formula : List ℕ → List ℕ → Verdict) where
         ∙ ap (alsoCards cs) (end f (lastOf 0 cs) (0 + length (cardsBytes cs)))
         ∙ also-good cs []
         ∙ ap good (append-nil cs)
+
+    -- a refused card behind good ones decides
+    pub refused-behind : (ks : List Card) (s : List ℕ) (a : ℕ) → Valid formula 0 ks → 0 < length s → readCard formula (lastOf 0 ks) s ≡ refused a
+        → readCards formula (cardsBytes ks ++ s) ≡ bad a (length (cardsBytes ks))
+    refused-behind ks s a v long r =
+        let f : ℕ = length (cardsBytes ks ++ s) - length ks - 1 in
+        let g : ℕ = 0 + length (cardsBytes ks) in
+        let m : length (cardsBytes ks ++ s) ≡ length ks + suc f = omega (arith, cards-some ks, length-append (cardsBytes ks) s) in
+        let z : g ≡ length (cardsBytes ks) = omega arith in
+        ap (λ (k : ℕ). readFrom formula k 0 0 (cardsBytes ks ++ s)) m
+        ∙ through (suc f) 0 s v
+        ∙ ap (alsoCards ks) (step f (lastOf 0 ks) g s (not-nothing s long) ∙ ap (λ (w : CardRead). thenCards g w (λ k r. readFrom formula f (numberOf k) (g + length (cardBytes k)) r)) r)
+        ∙ also-bad ks a g
+        ∙ ap (bad a) z
 
     -- ---- how long good cards are: a card of two digits has at most 2,082 bytes
     pub record Sizes (last : ℕ) (cs : List Card) : Type 0 where

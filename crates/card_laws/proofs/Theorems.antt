@@ -16,12 +16,14 @@ use Rattle.card_laws.specs.Lines.{ended, Lacks}
 use Rattle.card_laws.specs.Cards.{Card, card, numberOf, targetKey, exprKey, checkKey, checkOf, checkedLines, checkText, cardLine, cardBytes, cardsBytes, Form, formed, out, cardForm}
 use Rattle.card_laws.specs.declared.Verdict.{Verdict}
 use Rattle.card_laws.specs.declared.Verdict.the-variants.{Fine}
-use Rattle.card_laws.specs.Reading.{CardRead, taken, refused, unlessRefused, judged, readCard, CardsRead, good, bad, thenCards, isEmpty, readFrom, readCards, GoodCard, good-card, Valid, none, next}
+use Rattle.card_laws.specs.Reading.{CardRead, taken, refused, unlessRefused, judged, readCard, CardsRead, good, bad, thenCards, lastOf, isEmpty, readFrom, readCards, GoodCard, good-card, Valid, none, next}
+use Rattle.card_laws.specs.Writing.{writtenBytes}
 use Rattle.card_laws.specs.Theorems.{JudgeLaws, Spoilt, linesAt, CardTheorems}
 use Rattle.card_laws.proofs.Lines.{lacks-append, same-bytes, same-line}
 use Rattle.card_laws.proofs.Cards.{Formed, form-is, five, check-lacks, check-is, number-there, bytes-before, ended-append}
-use Rattle.card_laws.proofs.Reading.{step, alsoCards, lastOf, also-bad, through, sound, back, cards-some, cards-append}
+use Rattle.card_laws.proofs.Reading.{sound, back, refused-behind, cards-append}
 use Rattle.card_laws.proofs.Writing.{written, writes}
+use Rattle.card_laws.proofs.Refusals.{check-first, first-refused, answers, first-unwritten}
 use Rattle.card_laws.proofs.Damage.{Follows, nothing, another, refuted}
 
 -- ---- five digits are those of one number
@@ -114,26 +116,10 @@ module _ (formula : List ℕ → List ℕ → Verdict) (laws : JudgeLaws formula
       l : ℕ
       l = lastOf 0 ks
 
-      g : ℕ
-      g = 0 + length (cardsBytes ks)
-
       go : GoodCard formula (lastOf 0 ks) (card n t e) → Spoilt (readCards formula (cardsBytes ks ++ replaced n t e p q x (cardsBytes bs))) (length (cardsBytes ks))
       go (good-card rises most a) =
           let r : Refusal (readCard formula l s) = card-refused l n t e (cardsBytes bs) p q x y (omega arith) most a (follows (c .after)) at d bx by in
-          let long : 0 < length s = omega arith in
-          let f : ℕ = length (cardsBytes ks ++ s) - length ks - 1 in
-          let m : length (cardsBytes ks ++ s) ≡ length ks + suc f = omega (arith, cards-some ks, length-append (cardsBytes ks) s) in
-          let z : g ≡ length (cardsBytes ks) = omega arith in
-          record {
-            answer = r .answer;
-            is =
-                ap (λ (k : ℕ). readFrom formula k 0 0 (cardsBytes ks ++ s)) m
-                ∙ through formula laws (suc f) 0 s (c .before)
-                ∙ ap (alsoCards ks) (step formula f l g s refl ∙ ap (λ (w : CardRead). thenCards g w (λ k r. readFrom formula f (numberOf k) (g + length (cardBytes k)) r)) (r .is))
-                ∙ also-bad ks (r .answer) g
-                ∙ ap (bad (r .answer)) z;
-            which = r .which;
-          }
+          record { answer = r .answer; is = refused-behind formula laws ks s (r .answer) (c .before) (omega arith) (r .is); which = r .which }
 
   whole : (n : ℕ) (t e r : List ℕ) → cardBytes (card n t e) ++ r ≡ ended (cardLine n) [] ++ (checkedLines t e ++ ended (checkKey ++ checkText t e) r)
   whole n t e r =
@@ -173,4 +159,9 @@ module _ (formula : List ℕ → List ℕ → Verdict) (laws : JudgeLaws formula
         damaged = damaged;
         written = written formula laws;
         writes = writes formula laws;
+        check-first = check-first formula;
+        first-refused = first-refused formula laws;
+        answers = answers formula laws;
+        first-unwritten = first-unwritten formula laws;
+        untouched = λ out cs a p h. ap (writtenBytes out) h;
       }

@@ -33,6 +33,11 @@ abbrev pub thenCards : ℕ → CardRead → (Card → List ℕ → CardsRead) �
 thenCards at (taken c r) rest = alsoCard c (rest c r)
 thenCards at (refused a) rest = bad a at
 
+-- the number of the last card; of none the given one
+abbrev pub lastOf : ℕ → List Card → ℕ
+lastOf last [] = last
+lastOf last (c ∷ cs) = lastOf (numberOf c) cs
+
 abbrev pub isEmpty : List ℕ → Bool
 isEmpty [] = true
 isEmpty (c ∷ s) = false

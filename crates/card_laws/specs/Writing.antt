@@ -5,6 +5,7 @@ use mathlib.Core.List.{List, [], _∷_}
 use Prim.Native.Nat.{ℕ, suc, _+_}
 use lib.Dec.{ltb}
 use lib.ListN.{length}
+use lib.Seq.{sets}
 use Rattle.card_laws.specs.Lines.{lineEnd, lacks}
 use Rattle.card_laws.specs.Cards.{Card, card, numberOf, cardBytes, cardsBytes, mostCards}
 use Rattle.card_laws.specs.declared.Verdict.{Verdict}
@@ -13,6 +14,11 @@ use Rattle.card_laws.specs.declared.Verdict.the-variants.{Fine, Refusal}
 pub data CardsWritten : Type 0 where
   done : List ℕ → CardsWritten
   unwritten : ℕ → ℕ → CardsWritten
+
+-- the lent buffer afterwards
+abbrev pub writtenBytes : List ℕ → CardsWritten → List ℕ
+writtenBytes out (done s) = sets out 0 s
+writtenBytes out (unwritten a p) = out
 
 -- the card's lines would be in form
 abbrev pub writable : Card → Bool

@@ -4,7 +4,7 @@ ghost use mathlib.Core.Path.{_≡_};
 use libc::STDIN_FILENO;
 use libc::STDOUT_FILENO;
 
-// Twice the longest good file.
+// More than the longest good file, 133,239 bytes, so that the refusal of a longer one can be told too.
 const MOST_BYTES: usize = 262144;
 
 // The ensures gives only the length: the list of zeros would be written out in every step.
@@ -16,7 +16,7 @@ fn input_buffer() -> [u8; MOST_BYTES]
 
 fn print_reply(file: &[u8]) {
     let mut out = [0u8; 128];
-    let n = card_file::reply::reply(file, &mut out);
+    let n = card_reply::reply(file, &mut out);
     io::write_all(STDOUT_FILENO, &out[..n]);
 }
 

@@ -1,11 +1,10 @@
 // Files of cards for C: a result is 323 words, five words a card.
 ghost use mathlib.Core.Path.{_≡_};
-ghost use lib.ListN.{length};
 ghost use Rattle.card_laws.specs.Reading.{readCards};
-ghost use Rattle.card_laws.specs.Writing.{writeCards};
+ghost use Rattle.card_laws.specs.Writing.{writtenBytes};
 ghost use Rattle.card_laws.specs.Formulas.{formulaAnswer};
 ghost use Rattle.card_file.specs.Words.{readWords};
-ghost use Rattle.card_file.specs.Given.{cardsIn, writtenBytes};
+ghost use Rattle.card_write.specs.Given.{writing};
 ghost use Rattle.formula_c.specs.Cards.{writtenWords};
 
 #[no_mangle]
@@ -22,9 +21,9 @@ pub extern "C" fn formula_cards_write(
     out: &mut [u8],
     result: &mut [u32; 3],
 )
-    ensures { λ _. ⌜ now (result .exit) ≡ writtenWords (writeCards formulaAnswer (length (now (out .entry))) (cardsIn (now (texts .entry)) (now (cards .entry)))) ⌝ }
-    ensures { λ _. ⌜ now (out .exit) ≡ writtenBytes (now (out .entry)) (writeCards formulaAnswer (length (now (out .entry))) (cardsIn (now (texts .entry)) (now (cards .entry)))) ⌝ }
+    ensures { λ _. ⌜ now (result .exit) ≡ writtenWords (writing (now (texts .entry)) (now (cards .entry)) (now (out .entry))) ⌝ }
+    ensures { λ _. ⌜ now (out .exit) ≡ writtenBytes (now (out .entry)) (writing (now (texts .entry)) (now (cards .entry)) (now (out .entry))) ⌝ }
 {
-    let w = card_file::write::write(texts, cards, out);
+    let w = card_write::write(texts, cards, out);
     *result = [w.answer, w.place, w.length];
 }

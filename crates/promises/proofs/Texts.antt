@@ -29,7 +29,7 @@ use Rattle.operations.specs.declared.Answer.the-variants.{Refused}
 use Rattle.operations.specs.Operations.{doneWith, compileAnswer, compileTargetCode, Arrival, arrivalOf, ofText, request, requestAnswer, requestMemory, requestCode, requestIndex}
 use Rattle.operations.proofs.Requests.{kinded, named, good-target, with-room}
 use Rattle.promises.specs.Terms.{compileAnswerOf, compiledCode, answerNumber, Refusal, Ready, Room, StoredOrFault, stored, unstored, no-element, infinite, stopped}
-use Rattle.promises.proofs.Numbers.{Numbered, three-to-nine, numbered, no-fault}
+use Rattle.promises.proofs.Numbers.{no-fault}
 use Rattle.promises.proofs.Endings.{target-sound, ends-well, gives}
 
 pub is-formula : {text : List ℕ} {t : Tree} → AcceptedFormula text t → judge text ≡ accepted t
@@ -37,10 +37,7 @@ is-formula {text} {t} a = text-theorems .accepts text t .1 a
 
 -- the number that refuses a text
 low : (text : List ℕ) {a p : ℕ} → judge text ≡ refused a p → (3 ≤ a) × (a ≤ 9)
-low text q = of (subst Numbered q (numbered (text-theorems .outcome text)))
-  where
-    of : {a p : ℕ} → Numbered (refused a p) → (3 ≤ a) × (a ≤ 9)
-    of (three-to-nine a p l h) = (l, h)
+low text q = text-theorems .answers text _ _ q
 
 pub compiles : (text code : List ℕ) → 16384 ≤ length code → answerNumber (compileAnswerOf text code) ≡ 0 ↔ ((t : Tree) × AcceptedFormula text t)
 compiles text code h = rw (with-room code text h) (only (judge text) refl, λ x. rw (is-formula (x .1)) refl)

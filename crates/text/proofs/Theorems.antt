@@ -16,6 +16,7 @@ use Rattle.grammar.proofs.Theorems.{grammar-from}
 use Rattle.text.specs.Judge.{Judgement, accepted, refused, judgeTree, judgeParse, judgeScan, judgeFrom}
 use Rattle.text.specs.Theorems.{Sized, ScansTo, AcceptedFrom, HasJudgementFrom, wrong-size, wrong-token, wrong-end, wrong-next, too-deep, diagnosed, formula, TextTheoremsFrom, TextTheorems, TextFrom}
 use Rattle.text.proofs.Only.{one-outcome}
+use Rattle.text.proofs.Numbers.{numbered, three-nine}
 use Rattle.text.proofs.Places.{placed}
 
 -- the test of the length
@@ -74,6 +75,7 @@ module _ (d : ℕ) (few : d ≤ mostOpen) where
         outcome = outcome;
         accepts = λ s t. (accepts-only s t, λ h. sym (only s (accepted t) (formula h)));
         only = only;
+        answers = λ s a p e. three-nine (numbered (subst (HasJudgementFrom d s) e (outcome s)));
         place-inside = λ s a p e. place s a p e .0;
         place-small = λ s a p e. place s a p e .1;
       }

@@ -60,6 +60,8 @@ pub record TextTheoremsFrom (d : ℕ) : Type 0 where
   pub accepts : (s : List ℕ) (t : Tree) → judgeFrom d s ≡ accepted t ↔ AcceptedFrom d s t
   -- "Given exactly if": a text has no outcome but its judgement
   pub only : (s : List ℕ) (j : Judgement) → HasJudgementFrom d s j → j ≡ judgeFrom d s
+  -- a refusal of a text is 3 to 9
+  pub answers : (s : List ℕ) (a p : ℕ) → judgeFrom d s ≡ refused a p → (3 ≤ a) × (a ≤ 9)
   -- the place of a refusal is that of a byte of the text, or its length; so no place is above 1,024
   pub place-inside : (s : List ℕ) (a p : ℕ) → judgeFrom d s ≡ refused a p → p ≤ length s
   pub place-small : (s : List ℕ) (a p : ℕ) → judgeFrom d s ≡ refused a p → p ≤ 1024

@@ -8,8 +8,8 @@ const END: u8 = 30;
 const OTHERS: [u8; 5] = [b'\n', b'0', b'=', b'k', 255];
 const AGAIN: usize = 8192;
 const TEXTS: &[u8] = b"D0R1 + 1\nR2";
-const ROOM: usize = 64;
-const WRITES: [(&[u32], usize); 15] = [
+const ROOM: usize = 96;
+const WRITES: [(&[u32], usize); 25] = [
     (&[9, 0, 2, 2, 6], 64),
     (&[9, 0, 2, 2, 6], 41),
     (&[9, 0, 2, 2, 6], 40),
@@ -25,6 +25,16 @@ const WRITES: [(&[u32], usize); 15] = [
     (&[9, 0, 2, 11, 1], 64),
     (&[9, 0, 2, 3, 2], 64),
     (&[9, 0, 2], 0),
+    (&[9, 0, 2, 2, 6, 10, 9, 2, 2, 2], 79),
+    (&[9, 0, 2, 2, 6, 10, 9, 2, 2, 2], 78),
+    (&[9, 0, 2, 2, 6, 9, 9, 2, 2, 2], 96),
+    (&[9, 0, 2, 2, 6, 10, 9, 2, 5, 1], 96),
+    (&[9, 0, 2, 2, 6, 8, 9, 2, 5, 1], 96),
+    (&[9, 0, 2, 2, 6, 9, 7, 2, 2, 2], 96),
+    (&[9, 0, 2, 2, 6, 9, 9, 2, 7, 2], 96),
+    (&[9, 0, 2, 2, 6, 65, 9, 2, 5, 1], 96),
+    (&[9, 0, 2, 2, 6, 8, 9, 2, 5, 1], 76),
+    (&[0, 0, 2, 5, 1, 9, 7, 2, 2, 6], 96),
 ];
 
 /// What the program reads, and what it prints.
@@ -149,7 +159,7 @@ fn all_files() -> Vec<Vec<u8>> {
         lines("2", &"D".repeat(1025), "1").replace("expr=1\n", "expr=2\n"),
         lines("2", "D0", &" ".repeat(1025)),
     ];
-    for card in bad {
+    for card in bad.into_iter().chain(together()) {
         files.push(card.clone());
         files.push([&good[..], &card, &last].concat());
     }
@@ -159,4 +169,16 @@ fn all_files() -> Vec<Vec<u8>> {
     files.push([&last[..], &good].concat());
     files.push([&good[..], &last, &last].concat());
     files.into_iter().map(String::into_bytes).collect()
+}
+
+// Behind the card 1: a number that is not above it, a formula that is refused, a wrong check and a last line without its end, each two of them and more.
+fn together() -> Vec<String> {
+    let card = |spoilt: u32| {
+        let is = |bit: u32| spoilt >> bit & 1 == 1;
+        let (number, expr) = (if is(0) { "1" } else { "2" }, if is(1) { "D0 2" } else { "D0 * 2" });
+        let whole = lines(number, "D5", expr);
+        let checked = if is(2) { whole.replace(&whole[whole.len() - 6..], "00000\n") } else { whole };
+        checked[..checked.len() - usize::from(is(3))].to_string()
+    };
+    (1..16u32).filter(|spoilt| spoilt.count_ones() > 1).map(card).collect()
 }

@@ -16,10 +16,10 @@ use Rattle.tokens.specs.Bytes.{runLen}
 use Rattle.tokens.specs.Symbols.{equalBytes}
 use Rattle.lines.specs.Lines.{except}
 use Rattle.card_laws.specs.Lines.{ended, Lacks, Field, field, wrong, toEnd, restOfLine, begins, fieldOf}
-use Rattle.card_laws.specs.Cards.{cardNumber, isCheck}
+use Rattle.card_laws.specs.Cards.{cardKey, cardNumber, isCheck}
 use Rattle.card_laws.proofs.Lines.{field-is}
 use Rattle.card_file.specs.declared.form.Field.the-variants.{Value, Wrong}
-use Rattle.card_file.specs.Spans.{lengthIn}
+use Rattle.card_file.specs.Spans.{lengthIn, numberIn, lineNumber}
 
 -- lists of two lengths are two
 unlike : (s t : List ℕ) → (length s ≡ length t → ⊥) → equalBytes s t ≡ false
@@ -140,3 +140,18 @@ check-digits s {e} h q = by (eqb (length (digitsOf s)) 5) refl
     by : (t : Bool) → eqb (length (digitsOf s)) 5 ≡ t → eqb e 5 ≡ (eqb (length s) 5 && allDigits s)
     by true f = rw (k, f, eq-eqb (length s) 5 h, digits-all s (eqb-true (length (digitsOf s)) 5 f ∙ sym h) .0)
     by false f = rw (k, f, eq-eqb (length s) 5 h, digits-not s (λ z. eqb-false (length (digitsOf s)) 5 f (z ∙ h)))
+
+-- ---- the number in the first line
+pub no-line : (s : List ℕ) → Wrong ≡ lengthIn (fieldOf cardKey (drop 0 s)) → 0 ≡ lineNumber s
+unfolding lineNumber
+no-line s e = sym (ap numberIn (no-field cardKey s e))
+
+pub line-in : (s : List ℕ) (n : ℕ) → Value n ≡ lengthIn (fieldOf cardKey (drop 0 s)) → FieldIn cardKey s n
+line-in s n e = field-in cardKey s n e
+
+pub line-number : (s : List ℕ) (n : ℕ) → Value n ≡ lengthIn (fieldOf cardKey (drop 0 s)) → cardNumber (take (5 + n - 5) (drop 5 s)) ≡ lineNumber s
+unfolding lineNumber
+line-number s n e =
+    let f : FieldIn cardKey s n = field-in cardKey s n e in
+    let k : 5 + n - 5 ≡ n = omega arith in
+    ap (λ (m : ℕ). cardNumber (take m (drop 5 s))) k ∙ ap cardNumber (f .text) ∙ sym (ap numberIn (f .is))

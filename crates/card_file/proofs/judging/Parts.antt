@@ -7,7 +7,6 @@ use native.Mathlib.Omega.{arith}
 use lib.Dec.{ltb}
 use lib.ListN.{length, take, drop, length-append}
 use lib.Seq.{take-at, drop-at}
-use borrow.Author.Tests.{lt-ltb, le-ltb}
 use Rattle.tokens.specs.Symbols.{equalBytes}
 use Rattle.lines.specs.Printing.{widthOf, decimalText, lowDigits}
 use Rattle.lines.proofs.printing.Digits.{length-digits}
@@ -152,21 +151,24 @@ module _ (s : List ℕ) (last : ℕ) (f : FourLines) (p : Parts s f) {ds : List 
     same : equalBytes (p .k) (checkText (p .t) (p .e)) ≡ t
     same = sym (w ∙ ap (λ (l : List ℕ). equalBytes l ds) (p .check) ∙ ap (equalBytes (p .k)) digits)
 
-    pub check-differs : t ≡ false → Refusal 17 ≡ verdictIn (judged formulaAnswer last (cardForm s))
+    pub check-differs : {a : ℕ} → a ≡ 17 → t ≡ false → Refusal a ≡ verdictIn (judged formulaAnswer last (cardForm s))
     unfolding judged
-    check-differs z = rw (p .form, same ∙ z)
+    check-differs is z = rw (p .form, same ∙ z) (ap Refusal is)
 
     module _ (z : t ≡ true) where
-      pub not-above : f .number ≤ last → Refusal 18 ≡ verdictIn (judged formulaAnswer last (cardForm s))
+      above : {x y : Bool} → y ≡ ltb last (f .number) → y ≡ x → ltb last (p .n) ≡ x
+      above e h = ap (ltb last) (sym (p .number)) ∙ sym e ∙ h
+
+      pub not-above : {y : Bool} → y ≡ ltb last (f .number) → y ≡ false → Refusal 18 ≡ verdictIn (judged formulaAnswer last (cardForm s))
       unfolding judged
-      not-above h = rw (p .form, same ∙ z, le-ltb last (p .n) (omega (arith, p .number)))
+      not-above e h = rw (p .form, same ∙ z, above e h)
 
       pub own : {r : Verdict} → r ≡ formulaAnswer (take (f .expr - 6 - f .target) (drop (f .target) s)) (take (f .check - 7 - f .expr) (drop (f .expr) s))
-          → last < f .number → r ≡ verdictIn (judged formulaAnswer last (cardForm s))
+          → {y : Bool} → y ≡ ltb last (f .number) → y ≡ true → r ≡ verdictIn (judged formulaAnswer last (cardForm s))
       unfolding judged
-      own {r} q h =
+      own {r} q {y} g h =
           let i : r ≡ formulaAnswer (p .t) (p .e) = q ∙ ap (λ (l : List ℕ). formulaAnswer l _) (p .target) ∙ ap (formulaAnswer (p .t)) (p .expr) in
-          i ∙ sym (rw (p .form, same ∙ z, lt-ltb last (p .n) (omega (arith, p .number))) (by (formulaAnswer (p .t) (p .e))))
+          i ∙ sym (rw (p .form, same ∙ z, above g h) (by (formulaAnswer (p .t) (p .e))))
         where
           by : (x : Verdict) → verdictIn (unlessRefused (card (p .n) (p .t) (p .e)) (p .r) x) ≡ x
           by Fine = refl

@@ -12,11 +12,11 @@ use Rattle.lines.specs.private.Steps.{Puts}
 use Rattle.lines.proofs.Stores.{then}
 use Rattle.card_laws.specs.declared.Verdict.the-variants.{Fine, Refusal}
 use Rattle.card_laws.specs.Cards.{Card, card, numberOf, cardBytes, cardsBytes, Form, formed, out, cardForm}
-use Rattle.card_laws.specs.Reading.{CardRead, taken, refused, CardsRead, good, bad, alsoCard, thenCards, isEmpty, judged, readCard, readFrom, readCards, GoodCard, Valid, none, next}
+use Rattle.card_laws.specs.Reading.{CardRead, taken, refused, CardsRead, good, bad, alsoCard, thenCards, lastOf, isEmpty, judged, readCard, readFrom, readCards, GoodCard, Valid, none, next}
 use Rattle.card_laws.specs.Formulas.{formulaAnswer}
 use Rattle.card_laws.proofs.Formulas.{judge-laws}
 use Rattle.card_laws.proofs.Cards.{Judged, judged-is, Stands, card-is}
-use Rattle.card_laws.proofs.Reading.{step, end, alsoCards, lastOf, also-good, also-bad, also-append, last-append, cards-append, card-size, card-some, valid-append, Sizes, sizes, good-size}
+use Rattle.card_laws.proofs.Reading.{step, end, alsoCards, also-good, also-bad, also-append, last-append, cards-append, card-size, card-some, valid-append, Sizes, sizes, good-size}
 use Rattle.card_file.specs.declared.form.FourLines.{FourLines}
 use Rattle.card_file.specs.Spans.{spans, verdictIn}
 use Rattle.card_file.specs.Words.{cardWords, cardsWords, readWords, spanWords, SmallSpans}

@@ -3,8 +3,8 @@ use mathlib.Core.Path.{_≡_, refl, ap, _∙_}
 use mathlib.Core.List.{List, [], _∷_}
 use Prim.Native.Nat.{ℕ}
 use Rattle.card_laws.specs.Writing.{CardsWritten, done, unwritten}
-use Rattle.card_file.specs.declared.write.Written.{Written}
-use Rattle.card_file.specs.Given.{writtenIn}
+use Rattle.card_write.specs.declared.Written.{Written}
+use Rattle.card_write.specs.Given.{writtenIn}
 use Rattle.formula_c.specs.Cards.{writtenWords}
 
 pub three : (w : Written) (x : CardsWritten) → w ≡ writtenIn x → w .answer ∷ w .place ∷ w .length ∷ [] ≡ writtenWords x

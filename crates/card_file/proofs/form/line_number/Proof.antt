@@ -1,5 +1,5 @@
 -- `form::line_number` meets its contract.
-use Rattle.card_file.proofs.reply.Lines.{no-line, line-in, line-number}
+use Rattle.card_file.proofs.form.Fields.{no-line, line-in, line-number}
 use native.Mathlib.Omega.{arith}
 use mathlib.Core.Path.{sym, _∙_}
 use borrow.Author.Needs.{needs}

@@ -54,11 +54,14 @@ slice-aggregate-same-bytes c = search needs
 same-bytes-requires : tie.Need-same-bytes-requires
 same-bytes-requires c κs = search needs
 
+rises-requires : tie.Need-rises-requires
+rises-requires c κs = search needs
+
 returns-2 : tie.Need-returns-2
-returns-2 c = check-differs (c .before .before .before .before .before .before .before .before .before .before .before .before .args .s .now) (c .before .before .before .before .before .before .before .before .before .before .before .before .args .last) (c .before .before .before .before .before .before .before .before .before .before .before .before .args .f) (parts (c .before .before .before .before .before .before .before .before .before .before .before .before .args .s .now) (c .before .before .before .before .before .before .before .before .before .before .before .before .args .f) (c .before .before .before .before .before .before .before .before .before .before .before .before .pre) (not-false _ (c .before .before .before .before .before .before .before .before .before .if1 .left))) (c .before .before .before .before .before .sum-of .ensures) (c .before .before .before .before .digits-of .ensures) (c .before .same-bytes .ensures) (not-true _ (c .if2 .taken))
+returns-2 c = check-differs (c .before .before .before .before .before .before .before .before .before .before .before .before .before .args .s .now) (c .before .before .before .before .before .before .before .before .before .before .before .before .before .args .last) (c .before .before .before .before .before .before .before .before .before .before .before .before .before .args .f) (parts (c .before .before .before .before .before .before .before .before .before .before .before .before .before .args .s .now) (c .before .before .before .before .before .before .before .before .before .before .before .before .before .args .f) (c .before .before .before .before .before .before .before .before .before .before .before .before .before .pre) (not-false _ (c .before .before .before .before .before .before .before .before .before .before .if1 .left))) (c .before .before .before .before .before .before .sum-of .ensures) (c .before .before .before .before .before .digits-of .ensures) (c .before .before .same-bytes .ensures) (omega arith) (not-true _ (c .if2 .taken))
 
 returns-3 : tie.Need-returns-3
-returns-3 c = not-above (c .before .before .before .before .before .before .before .before .before .before .before .before .before .before .args .s .now) (c .before .before .before .before .before .before .before .before .before .before .before .before .before .before .args .last) (c .before .before .before .before .before .before .before .before .before .before .before .before .before .before .args .f) (parts (c .before .before .before .before .before .before .before .before .before .before .before .before .before .before .args .s .now) (c .before .before .before .before .before .before .before .before .before .before .before .before .before .before .args .f) (c .before .before .before .before .before .before .before .before .before .before .before .before .before .before .pre) (not-false _ (c .before .before .before .before .before .before .before .before .before .before .before .if1 .left))) (c .before .before .before .before .before .before .before .sum-of .ensures) (c .before .before .before .before .before .before .digits-of .ensures) (c .before .before .before .same-bytes .ensures) (not-false _ (c .before .before .if2 .left)) (c .if3 .taken)
+returns-3 c = not-above (c .before .before .before .before .before .before .before .before .before .before .before .before .before .before .args .s .now) (c .before .before .before .before .before .before .before .before .before .before .before .before .before .before .args .last) (c .before .before .before .before .before .before .before .before .before .before .before .before .before .before .args .f) (parts (c .before .before .before .before .before .before .before .before .before .before .before .before .before .before .args .s .now) (c .before .before .before .before .before .before .before .before .before .before .before .before .before .before .args .f) (c .before .before .before .before .before .before .before .before .before .before .before .before .before .before .pre) (not-false _ (c .before .before .before .before .before .before .before .before .before .before .before .if1 .left))) (c .before .before .before .before .before .before .before .sum-of .ensures) (c .before .before .before .before .before .before .digits-of .ensures) (c .before .before .before .same-bytes .ensures) (not-false _ (c .before .if2 .left)) (c .before .before .rises .ensures) (not-true _ (c .if3 .taken))
 
 sub-formula-verdict : tie.Need-sub-formula-verdict
 sub-formula-verdict c = let p = (parts (c .before .before .before .before .before .before .before .before .before .before .before .before .before .before .args .s .now) (c .before .before .before .before .before .before .before .before .before .before .before .before .before .before .args .f) (c .before .before .before .before .before .before .before .before .before .before .before .before .before .before .pre) (not-false _ (c .before .before .before .before .before .before .before .before .before .before .before .if1 .left))) in omega (arith, p .target-at, p .expr-at, p .check-at, p .end-at, p .inside)
@@ -82,7 +85,7 @@ formula-verdict-requires : tie.Need-formula-verdict-requires
 formula-verdict-requires c κs = search needs
 
 returns-4 : tie.Need-returns-4
-returns-4 c = own (c .before .before .before .before .before .before .before .before .before .before .before .before .before .before .before .before .before .args .s .now) (c .before .before .before .before .before .before .before .before .before .before .before .before .before .before .before .before .before .args .last) (c .before .before .before .before .before .before .before .before .before .before .before .before .before .before .before .before .before .args .f) (parts (c .before .before .before .before .before .before .before .before .before .before .before .before .before .before .before .before .before .args .s .now) (c .before .before .before .before .before .before .before .before .before .before .before .before .before .before .before .before .before .args .f) (c .before .before .before .before .before .before .before .before .before .before .before .before .before .before .before .before .before .pre) (not-false _ (c .before .before .before .before .before .before .before .before .before .before .before .before .before .before .if1 .left))) (c .before .before .before .before .before .before .before .before .before .before .sum-of .ensures) (c .before .before .before .before .before .before .before .before .before .digits-of .ensures) (c .before .before .before .before .before .before .same-bytes .ensures) (not-false _ (c .before .before .before .before .before .if2 .left)) (c .formula-verdict .ensures) (c .before .before .before .if3 .left)
+returns-4 c = own (c .before .before .before .before .before .before .before .before .before .before .before .before .before .before .before .before .before .args .s .now) (c .before .before .before .before .before .before .before .before .before .before .before .before .before .before .before .before .before .args .last) (c .before .before .before .before .before .before .before .before .before .before .before .before .before .before .before .before .before .args .f) (parts (c .before .before .before .before .before .before .before .before .before .before .before .before .before .before .before .before .before .args .s .now) (c .before .before .before .before .before .before .before .before .before .before .before .before .before .before .before .before .before .args .f) (c .before .before .before .before .before .before .before .before .before .before .before .before .before .before .before .before .before .pre) (not-false _ (c .before .before .before .before .before .before .before .before .before .before .before .before .before .before .if1 .left))) (c .before .before .before .before .before .before .before .before .before .before .sum-of .ensures) (c .before .before .before .before .before .before .before .before .before .digits-of .ensures) (c .before .before .before .before .before .before .same-bytes .ensures) (not-false _ (c .before .before .before .before .if2 .left)) (c .formula-verdict .ensures) (c .before .before .before .before .before .rises .ensures) (not-false _ (c .before .before .before .if3 .left))
 
 pub judged-spec : {M : Type 1} → statement M
 judged-spec =
@@ -104,6 +107,7 @@ judged-spec =
     part-same-bytes-end
     slice-aggregate-same-bytes
     same-bytes-requires
+    rises-requires
     returns-2
     returns-3
     sub-formula-verdict
