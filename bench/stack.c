@@ -62,7 +62,7 @@ static void store(void) {
     formula_store(FORMULA_INTEGER, 0, memory, sizeof memory, target, 1, code, sizeof code, count, tick, &report);
 }
 
-/* The target and the text as a card: written, and read again where that was done. */
+/* The target and the text as a card: written, and read again and salvaged where that was done. */
 static uint8_t texts[2 * FORMULA_TEXT_BYTES], file[3 * FORMULA_TEXT_BYTES];
 static uint32_t card[5];
 static struct formula_written written;
@@ -74,6 +74,12 @@ static void cards_write(void) {
 
 static void cards_read(void) {
     formula_cards_read(file, written.length, &cards);
+}
+
+static void salvage(void) {
+    static uint8_t kept[sizeof file], named[6 * sizeof file + 64];
+    static struct formula_salvaged salvaged;
+    formula_salvage(file, written.length, kept, sizeof kept, named, sizeof named, &salvaged);
 }
 
 static void cells(void) {
@@ -119,6 +125,7 @@ static struct measured measured[] = {
     {"formula_store", store, 0, ""},
     {"formula_cards_write", cards_write, 0, ""},
     {"formula_cards_read", cards_read, 0, ""},
+    {"formula_salvage", salvage, 0, ""},
     {"formula_cells", cells, 0, ""},
 };
 

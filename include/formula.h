@@ -176,6 +176,18 @@ struct formula_written {
 void formula_cards_write(const uint8_t *texts, uint64_t texts_len, const uint32_t *cards, uint64_t words,
                          uint8_t *out, uint64_t out_len, struct formula_written *result);
 
+/* Bytes written to each output, 0 and 0 on answer 10. */
+struct formula_salvaged {
+    uint64_t answer, kept, named;
+};
+
+/* Salvages a spoiled file of cards: kept gets the cards that stand whole, unchanged in every byte, which are a good file; named gets for each part
+ * that is left out, in the file's order, the three lines first= (its first byte), length= and answer= (2 to 9, 16 to 18). kept never needs more
+ * than file_len; named never more than 6 times file_len plus 64 for files below 1,000,000 bytes. Answers: 0, and 10 if either does not fit; then
+ * neither is written. The bytes behind what is written are left alone. */
+void formula_salvage(const uint8_t *file, uint64_t file_len, uint8_t *kept, uint64_t kept_len, uint8_t *named,
+                     uint64_t named_len, struct formula_salvaged *result);
+
 /* Which cells the first instructions of a code, and of a target's index code, read, whatever the memory holds: cells are numbered X0 0, C0 64, V0 128,
  * N0 384, D0 640, R0 896. Returns how many there are, at most 1,152; list gets the numbers of the first of them, rising, as many as fit, and its
  * rest is left alone. Bytes that are no instruction read nothing. For a formula that is not stored, index_instructions is 0. */

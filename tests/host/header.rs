@@ -30,6 +30,14 @@ pub struct Written {
     pub length: u32,
 }
 
+#[derive(Clone, Copy, PartialEq, Debug)]
+#[repr(C)]
+pub struct Salvaged {
+    pub answer: u64,
+    pub kept: u64,
+    pub named: u64,
+}
+
 #[rustfmt::skip]
 #[link(name = "formula_c", kind = "static")]
 extern "C" {
@@ -59,5 +67,9 @@ extern "C" {
     pub fn formula_cards_write(
         texts: *const u8, texts_len: usize, cards: *const u32, words: usize, out: *mut u8, out_len: usize,
         result: *mut Written,
+    );
+    pub fn formula_salvage(
+        file: *const u8, file_len: usize, kept: *mut u8, kept_len: usize, named: *mut u8, named_len: usize,
+        result: *mut Salvaged,
     );
 }

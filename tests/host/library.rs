@@ -135,3 +135,10 @@ pub fn cards_write(texts: &Lent, words: &[u32], out: &mut Lent) -> Written {
     unsafe { formula_cards_write(texts.0, texts.1, words.as_ptr(), words.len(), out.0, out.1, &mut result) };
     result
 }
+
+pub fn salvage(file: &Lent, kept: &mut Lent, named: &mut Lent) -> Salvaged {
+    let mut result = Salvaged { answer: 77, kept: 77, named: 77 };
+    let (file, kept, named) = (file.lend(), kept.lend_to_write(), named.lend_to_write());
+    unsafe { formula_salvage(file.0, file.1, kept.0, kept.1, named.0, named.1, &mut result) };
+    result
+}

@@ -3,6 +3,7 @@
 //!   host [CASES [SEED [FIRST]]]   random cases, numbered from FIRST
 //!   host literals [NUMBER [SEED]] random real literals
 //!   host cards [NUMBER [SEED]]    files of cards
+//!   host salvage [NUMBER [SEED]]  spoiled files of cards
 //!   host examples DOCUMENT...     the examples of the documents
 
 mod cards;
@@ -13,6 +14,7 @@ mod library;
 mod literals;
 mod random;
 mod reference;
+mod salvage;
 mod stop;
 
 use std::process::exit;
@@ -40,6 +42,7 @@ fn main() {
         ["examples", ref documents @ ..] => try_examples(documents),
         ["literals", ref numbers @ ..] => random_literals(numbers),
         ["cards", ref numbers @ ..] => random_cards(numbers),
+        ["salvage", ref numbers @ ..] => random_salvage(numbers),
         _ => random_cases(&words),
     };
     if let Err(difference) = result {
@@ -65,6 +68,10 @@ fn random_literals(words: &[&str]) -> Result<(), String> {
 
 fn random_cards(words: &[&str]) -> Result<(), String> {
     cards::try_cards(argument(words, 0, DEFAULT_FILES)?, argument(words, 1, clock())?)
+}
+
+fn random_salvage(words: &[&str]) -> Result<(), String> {
+    salvage::try_salvage(argument(words, 0, DEFAULT_FILES)?, argument(words, 1, clock())?)
 }
 
 fn random_cases(words: &[&str]) -> Result<(), String> {

@@ -13,6 +13,7 @@ rustc --edition 2021 -O -L target/staticlib -o "$out/host" tests/host/main.rs
 "$out/host" examples docs/LANGUAGE.md docs/ANSWERS.md
 "$out/host" literals
 "$out/host" cards
+"$out/host" salvage
 
 # $1: the program to write, $2: its file, the rest: what it is linked with
 build_c() {

@@ -1,3 +1,1 @@
--- What other crates may cite; below it, the laws that lead there.
-pub mod Theorems
-pub mod Parts
+mod Results

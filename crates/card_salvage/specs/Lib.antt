@@ -1,3 +1,2 @@
-pub mod Cut
-pub mod Salvage
-pub mod Theorems
+pub mod Outputs
+pub mod private

@@ -1,2 +1,3 @@
 pub mod Words
 pub mod Cards
+pub mod Salvage

@@ -15,6 +15,7 @@ use values::Value;
 
 mod cards;
 pub mod cells;
+mod salvage;
 
 fn kind_number(v: Value) -> u32
     ensures { λ r. ⌜ r ≡ kindWord v ⌝ }

@@ -6,6 +6,7 @@ mod codes;
 mod literals;
 mod memory;
 mod replies;
+mod salvage;
 mod texts;
 mod values;
 
@@ -55,6 +56,7 @@ fn all() -> Result<Vec<Expected>, String> {
     let (texts_in, texts_out) = texts::files()?;
     let (codes_in, codes_out) = codes::files();
     let (cards_in, cards_out) = cards::files();
+    let (salvage_in, salvage_out) = salvage::files(&replies::stored("salvage/stdin")?);
     Ok(vec![
         ("value_cases/stdout", values::lines().into()),
         ("literal_cases/stdout", literals::lines().into()),
@@ -68,6 +70,9 @@ fn all() -> Result<Vec<Expected>, String> {
         ("vector_cases/stdout", replies::of_list("vector_cases/stdin")?.into()),
         ("formula/stdout", replies::of_one("formula/stdin")?.into()),
         ("cards/stdout", replies::of_cards("cards/stdin")?.into()),
+        ("salvage_cases/stdin", salvage_in),
+        ("salvage_cases/stdout", salvage_out),
+        ("salvage/stdout", replies::of_salvage("salvage/stdin")?),
     ])
 }
 

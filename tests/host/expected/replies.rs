@@ -3,6 +3,7 @@
 use crate::reference::cards::{form, read};
 use crate::reference::operations::compile_and_run;
 use crate::reference::program::{output, read_input};
+use crate::reference::salvage::outputs;
 
 // The program has no clock.
 const TICK: u32 = 0;
@@ -32,6 +33,11 @@ pub fn of_cards(name: &str) -> Result<String, String> {
     Ok(format!("answer={}\nplace={}\ncards=0\n{number}words={words}\n", refusal.answer, refusal.place))
 }
 
+/// The cards that the program `salvage` keeps.
+pub fn of_salvage(name: &str) -> Result<Vec<u8>, String> {
+    Ok(outputs(&stored(name)?).kept)
+}
+
 // An answer in words: those of a file of cards by the request, a formula's own by the header.
 fn words_of(answer: u32) -> Result<String, String> {
     const OF_CARDS: [&str; 3] = ["a line out of form or order", "the check differs", "the number is not above the one before"];
@@ -45,7 +51,8 @@ fn words_of(answer: u32) -> Result<String, String> {
     words.map(String::from).ok_or(format!("the header has no words for {answer}"))
 }
 
-fn stored(name: &str) -> Result<Vec<u8>, String> {
+/// A file under crates/.
+pub fn stored(name: &str) -> Result<Vec<u8>, String> {
     std::fs::read(format!("crates/{name}")).map_err(|error| format!("crates/{name}: {error}"))
 }
 

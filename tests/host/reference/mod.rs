@@ -12,6 +12,7 @@ pub mod memory;
 pub mod operations;
 pub mod operators;
 pub mod program;
+pub mod salvage;
 pub mod target;
 pub mod text;
 pub mod totals;

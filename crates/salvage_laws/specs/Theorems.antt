@@ -2,13 +2,15 @@
 use mathlib.Core.Path.{_≡_}
 use mathlib.Core.Bool.{true}
 use mathlib.Core.List.{List, [], _∷_, _++_}
-use Prim.Native.Nat.{ℕ, _+_}
+use mathlib.Core.Logic.{_⊎_}
+use Prim.Native.Nat.{ℕ, _+_, _*_, _≤_, _<_}
 use lib.ListN.{length, take, drop}
 use Rattle.card_laws.specs.declared.Verdict.{Verdict}
 use Rattle.card_laws.specs.Lines.{ended, begins}
 use Rattle.card_laws.specs.Cards.{Card, numberOf, cardKey, cardBytes, cardsBytes}
 use Rattle.card_laws.specs.Reading.{good, readCards, GoodCard, Valid}
-use Rattle.card_salvage.specs.Salvage.{parts, PartAnswer, keeps, leaves, Part, part, allBytes, keptBytes, keptCards, nameLines, namedBytes, partAnswer, salvaged}
+use Rattle.salvage_laws.specs.Cut.{joined}
+use Rattle.salvage_laws.specs.Salvage.{parts, PartAnswer, keeps, leaves, Part, part, allBytes, keptBytes, keptCards, nameLines, namedBytes, rescued, unfit, partAnswer, classifyParts, salvaged, salvage}
 
 -- each part begins where those before it end
 pub data Placed : ℕ → List Part → Type 0 where
@@ -26,6 +28,14 @@ pub record Spared (formula : List ℕ → List ℕ → Verdict) (ks bs : List Ca
   pub bytes : keptBytes (salvaged formula (cardsBytes ks ++ (p ++ cardsBytes bs))) ≡ cardsBytes ks ++ cardsBytes bs
   pub cards : keptCards (salvaged formula (cardsBytes ks ++ (p ++ cardsBytes bs))) ≡ ks ++ bs
   pub named : namedBytes (salvaged formula (cardsBytes ks ++ (p ++ cardsBytes bs))) ≡ nameLines (length (cardsBytes ks)) (length p) a
+
+-- good cards in turn, the first above a number, among parts that are left out
+pub data Among (formula : List ℕ → List ℕ → Verdict) : ℕ → List Card → List (List ℕ) → Type 0 where
+  no-more : {last : ℕ} → Among formula last [] []
+  kept-card : {last : ℕ} {c : Card} {cs : List Card} {ps : List (List ℕ)} → GoodCard formula last c → Among formula (numberOf c) cs ps
+      → Among formula last (c ∷ cs) (cardBytes c ∷ ps)
+  left-out : {last : ℕ} (l : List ℕ) {a : ℕ} {cs : List Card} {ps : List (List ℕ)} → begins cardKey (ended l []) ≡ true
+      → parts (ended l []) ≡ ended l [] ∷ [] → partAnswer formula last (ended l []) ≡ leaves a → Among formula last cs ps → Among formula last cs (ended l [] ∷ ps)
 
 -- the number of the last card
 abbrev pub lastNumber : ℕ → List Card → ℕ
@@ -46,6 +56,22 @@ pub record SalvageTheorems (formula : List ℕ → List ℕ → Verdict) : Type 
   pub intact : (f : List ℕ) (cs : List Card) → readCards formula f ≡ good cs → Untouched formula f cs
   -- "A second pass over the kept cards leaves nothing out"
   pub again : (f : List ℕ) → Untouched formula (keptBytes (salvaged formula f)) (keptCards (salvaged formula f))
-  -- a spoiled card costs no other
+  -- a part that is left out costs no card outside it
   pub isolated : (ks bs : List Card) (l : List ℕ) (a : ℕ) → Valid formula 0 ks → Valid formula (lastNumber 0 ks) bs → begins cardKey (ended l []) ≡ true
       → parts (ended l []) ≡ ended l [] ∷ [] → partAnswer formula (lastNumber 0 ks) (ended l []) ≡ leaves a → Spared formula ks bs (ended l []) a
+  -- nor do several: each is a part of its own, and every good card is kept
+  pub spares : (cs : List Card) (ps : List (List ℕ)) → Among formula 0 cs ps
+      → (salvaged formula (joined ps) ≡ classifyParts formula 0 0 ps) × (keptBytes (salvaged formula (joined ps)) ≡ cardsBytes cs)
+      × (keptCards (salvaged formula (joined ps)) ≡ cs)
+  -- a part's answer depends on its bytes and on the last kept number alone
+  pub judges : (f : List ℕ) (before after : List Part) (at : ℕ) (p : List ℕ) (a : PartAnswer) → salvaged formula f ≡ before ++ part at p a ∷ after
+      → a ≡ partAnswer formula (lastNumber 0 (keptCards before)) p
+  -- the kept cards are never longer than the file
+  pub shorter : (f : List ℕ) → length (keptBytes (salvaged formula f)) ≤ length f
+  -- nor are the names longer than six bytes a byte and 64 of a file below 1,000,000 bytes
+  pub names : (f : List ℕ) → length f < 1000000 → length (namedBytes (salvaged formula f)) ≤ 6 * length f + 64
+  -- "10 if either output would not fit its lent buffer"; else both are written
+  pub refuses : (room room′ : ℕ) (f : List ℕ) → (room < length (keptBytes (salvaged formula f))) ⊎ (room′ < length (namedBytes (salvaged formula f)))
+      → salvage formula room room′ f ≡ unfit
+  pub rescues : (room room′ : ℕ) (f : List ℕ) → length (keptBytes (salvaged formula f)) ≤ room → length (namedBytes (salvaged formula f)) ≤ room′
+      → salvage formula room room′ f ≡ rescued (keptBytes (salvaged formula f)) (namedBytes (salvaged formula f))

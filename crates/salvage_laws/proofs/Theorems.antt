@@ -1,9 +1,12 @@
 -- The theorems of the salvage: `again` is `intact` of `whole`.
 use mathlib.Core.Path.{_≡_, refl, sym, ap, subst, _∙_}
-use mathlib.Core.Bool.{true}
+use mathlib.Core.Logic.{_⊎_, ⊎-elim}
+use mathlib.Core.Bool.{Bool, true, false, _&&_, cond, and-false}
 use mathlib.Core.List.{List, [], _∷_, _++_, append-assoc, append-nil}
 use Prim.Native.Nat.{ℕ, zero, suc, _+_, _≤_, _<_}
 use native.Mathlib.Omega.{arith}
+use lib.Dec.{leb}
+use borrow.Author.Tests.{le-leb, lt-leb}
 use lib.ListN.{length, take, drop, length-append}
 use lib.Seq.{drop-append-seam, take-append-seam}
 use Rattle.card_laws.specs.declared.Verdict.{Verdict}
@@ -15,10 +18,11 @@ use Rattle.card_laws.specs.Formulas.{formulaAnswer}
 use Rattle.card_laws.proofs.Cards.{form-is, form-card, judged-is, judged-there, from-form, Stands}
 use Rattle.card_laws.proofs.Reading.{sound, back}
 use Rattle.card_laws.proofs.Formulas.{judge-laws}
-use Rattle.card_salvage.specs.Cut.{joined}
-use Rattle.card_salvage.specs.Salvage.{cardFollows, parts, exactForm, PartAnswer, keeps, leaves, answerOf, lastKept, Part, part, partBytes, allBytes, keptBefore, keptBytes, cardBefore, keptCards, nameLines, namedBefore, namedBytes, partAnswer, classifyParts, salvaged}
-use Rattle.card_salvage.specs.Theorems.{Placed, over, then, Untouched, Spared, lastNumber, SalvageTheorems}
-use Rattle.card_salvage.proofs.Parts.{Follows, nothing, another, cut-joined, card-part, cards-follow, parts-append, begins-append}
+use Rattle.salvage_laws.specs.Cut.{joined}
+use Rattle.salvage_laws.specs.Salvage.{cardFollows, parts, exactForm, PartAnswer, keeps, leaves, answerOf, lastKept, Part, part, partBytes, allBytes, keptBefore, keptBytes, cardBefore, keptCards, nameLines, namedBefore, namedBytes, fits, rescued, unfit, partAnswer, classifyParts, salvaged, salvage}
+use Rattle.salvage_laws.specs.Theorems.{Placed, over, then, Untouched, Spared, Among, no-more, kept-card, left-out, lastNumber, SalvageTheorems}
+use Rattle.salvage_laws.proofs.Names.{names}
+use Rattle.salvage_laws.proofs.Parts.{Follows, nothing, another, cut-joined, card-part, cards-follow, parts-append, begins-append}
 
 module _ (formula : List ℕ → List ℕ → Verdict) (laws : JudgeLaws formula) where
   abbrev classify : ℕ → ℕ → List (List ℕ) → List Part
@@ -136,6 +140,39 @@ module _ (formula : List ℕ → List ℕ → Verdict) (laws : JudgeLaws formula
             ∙ ap (λ (m : ℕ). nameLines m (length p) a) place;
       }
 
+  -- ---- several parts that are left out
+  among-follow : {last : ℕ} {cs : List Card} {ps : List (List ℕ)} → Among formula last cs ps → Follows (joined ps)
+  among-follow no-more = nothing
+  among-follow (kept-card {c = card n t e} g m) = another refl
+  among-follow (left-out l {ps = ps} b one x m) = another (begins-append cardKey (ended l []) (joined ps) b)
+
+  among-cuts : {last : ℕ} {cs : List Card} {ps : List (List ℕ)} → Among formula last cs ps → parts (joined ps) ≡ ps
+  among-cuts no-more = refl
+  among-cuts (kept-card {c = c} {ps = ps} g m) = card-part formula laws (joined ps) g (among-follow m) ∙ ap (λ (qs : List (List ℕ)). cardBytes c ∷ qs) (among-cuts m)
+  among-cuts (left-out l {ps = ps} b one x m) =
+      parts-append l (among-follow m) ∙ ap (λ (qs : List (List ℕ)). qs ++ parts (joined ps)) one ∙ ap (λ (qs : List (List ℕ)). ended l [] ∷ qs) (among-cuts m)
+
+  record Keeping (cs : List Card) (ps : List Part) : Type 0 where
+    bytes : keptBytes ps ≡ cardsBytes cs
+    cards : keptCards ps ≡ cs
+
+  among-kept : {last : ℕ} {cs : List Card} {ps : List (List ℕ)} (at : ℕ) → Among formula last cs ps → Keeping cs (classify last at ps)
+  among-kept at no-more = record { bytes = refl; cards = refl }
+  among-kept {last} at (kept-card {c = c} {cs = cs} {ps = ps} g m) =
+      let i : Keeping cs (classify (numberOf c) (at + length (cardBytes c)) ps) = among-kept (at + length (cardBytes c)) m in
+      subst (λ (x : PartAnswer). Keeping (c ∷ cs) (part at (cardBytes c) x ∷ classify (lastKept last x) (at + length (cardBytes c)) ps)) (sym (good-keeps g))
+      (record { bytes = ap (λ (l : List ℕ). cardBytes c ++ l) (i .bytes); cards = ap (λ (l : List Card). c ∷ l) (i .cards) })
+  among-kept {last} at (left-out l {cs = cs} {ps = ps} b one x m) =
+      let i : Keeping cs (classify last (at + length (ended l [])) ps) = among-kept (at + length (ended l [])) m in
+      subst (λ (y : PartAnswer). Keeping cs (part at (ended l []) y ∷ classify (lastKept last y) (at + length (ended l [])) ps)) (sym x) (record { bytes = i .bytes; cards = i .cards })
+
+  spares : (cs : List Card) (ps : List (List ℕ)) → Among formula 0 cs ps
+      → (salvaged formula (joined ps) ≡ classifyParts formula 0 0 ps) × (keptBytes (salvaged formula (joined ps)) ≡ cardsBytes cs) × (keptCards (salvaged formula (joined ps)) ≡ cs)
+  spares cs ps m =
+      let e : salvaged formula (joined ps) ≡ classify 0 0 ps = ap (classify 0 0) (among-cuts m) in
+      let k : Keeping cs (classify 0 0 ps) = among-kept 0 m in
+      (e, ap keptBytes e ∙ k .bytes, ap keptCards e ∙ k .cards)
+
   -- ---- where a kept part stands
   never : (before after : List Part) (x : Part) → [] ≡ before ++ x ∷ after → ⊥
   never [] after x e = let z : _≡_ {A = ℕ} 0 1 = cc in omega arith
@@ -172,6 +209,51 @@ module _ (formula : List ℕ → List ℕ → Verdict) (laws : JudgeLaws formula
       let d : drop at f ≡ p ++ a = ap (λ (n : ℕ). drop n f) pl ∙ ap (drop (length b)) is ∙ drop-append-seam b (p ++ a) in
       (i .bytes, sym (ap (take (length p)) d ∙ take-append-seam p a))
 
+  -- ---- what an answer depends on
+  answered : (last at : ℕ) (ps : List (List ℕ)) (before after : List Part) (first : ℕ) (p : List ℕ) (a : PartAnswer) → classify last at ps ≡ before ++ part first p a ∷ after
+      → a ≡ partAnswer formula (lastNumber last (keptCards before)) p
+  answered last at [] before after first p a e = absurd (never before after (part first p a) e)
+  answered last at (q ∷ qs) [] after first p a e =
+      let eq : q ≡ p = cc in
+      let ea : partAnswer formula last q ≡ a = cc in
+      sym ea ∙ ap (partAnswer formula last) eq
+  answered last at (q ∷ qs) (b ∷ before) after first p a e =
+      let eb : part at q (partAnswer formula last q) ≡ b = cc in
+      answered (lastKept last (partAnswer formula last q)) (at + length q) qs before after first p a (cc)
+      ∙ ap (λ (n : ℕ). partAnswer formula n p) (by (partAnswer formula last q) ∙ ap (λ (x : Part). lastNumber last (keptCards (x ∷ before))) eb)
+    where
+      by : (x : PartAnswer) → lastNumber (lastKept last x) (keptCards before) ≡ lastNumber last (keptCards (part at q x ∷ before))
+      by (keeps c) = refl
+      by (leaves d) = refl
+
+  -- ---- sizes
+  kept-short : (ps : List Part) → length (keptBytes ps) ≤ length (allBytes ps)
+  kept-short [] = omega arith
+  kept-short (part at p (keeps c) ∷ ps) = omega (arith, length-append p (keptBytes ps), length-append p (allBytes ps), kept-short ps)
+  kept-short (part at p (leaves a) ∷ ps) = omega (arith, length-append p (allBytes ps), kept-short ps)
+
+  refuses : (room room′ : ℕ) (f : List ℕ) → (room < length (keptBytes (salvaged formula f))) ⊎ (room′ < length (namedBytes (salvaged formula f))) → salvage formula room room′ f ≡ unfit
+  refuses room room′ f h = ap (λ (t : Bool). cond t (rescued k n) unfit) (⊎-elim first second h)
+    where
+      k : List ℕ
+      k = keptBytes (salvaged formula f)
+
+      n : List ℕ
+      n = namedBytes (salvaged formula f)
+
+      first : room < length k → fits room room′ (salvaged formula f) ≡ false
+      first x = ap (λ (t : Bool). t && leb (length n) room′) (lt-leb (length k) room x)
+
+      second : room′ < length n → fits room room′ (salvaged formula f) ≡ false
+      second x = ap (λ (t : Bool). leb (length k) room && t) (lt-leb (length n) room′ x) ∙ and-false (leb (length k) room)
+
+  rescues : (room room′ : ℕ) (f : List ℕ) → length (keptBytes (salvaged formula f)) ≤ room → length (namedBytes (salvaged formula f)) ≤ room′
+      → salvage formula room room′ f ≡ rescued (keptBytes (salvaged formula f)) (namedBytes (salvaged formula f))
+  rescues room room′ f h h′ =
+      let k : List ℕ = keptBytes (salvaged formula f) in
+      let n : List ℕ = namedBytes (salvaged formula f) in
+      ap (λ (t : Bool). cond (t && leb (length n) room′) (rescued k n) unfit) (le-leb (length k) room h) ∙ ap (λ (t : Bool). cond t (rescued k n) unfit) (le-leb (length n) room′ h′)
+
   pub salvages : SalvageTheorems formula
   salvages =
       record {
@@ -182,6 +264,12 @@ module _ (formula : List ℕ → List ℕ → Verdict) (laws : JudgeLaws formula
         intact = intact;
         again = λ f. intact (keptBytes (salvaged formula f)) (keptCards (salvaged formula f)) (whole f);
         isolated = isolated;
+        spares = spares;
+        judges = λ f before after at p a e. answered 0 0 (parts f) before after at p a e;
+        shorter = λ f. subst (λ (l : List ℕ). length (keptBytes (salvaged formula f)) ≤ length l) (cover f) (kept-short (salvaged formula f));
+        names = names formula laws;
+        refuses = refuses;
+        rescues = rescues;
       }
 
 pub salvage-theorems : SalvageTheorems formulaAnswer

@@ -3,7 +3,7 @@
 use mathlib.Core.Bool.{Bool, _&&_, cond}
 use mathlib.Core.List.{List, [], _∷_, _++_}
 use Prim.Native.Nat.{ℕ, _+_}
-use lib.Dec.{eqb, ltb}
+use lib.Dec.{eqb, leb}
 use lib.ListN.{length}
 use Rattle.words.specs.Ascii.{ascii}
 use Rattle.lines.specs.Printing.{decimalText}
@@ -11,7 +11,7 @@ use Rattle.card_laws.specs.declared.Verdict.{Verdict}
 use Rattle.card_laws.specs.Lines.{lineEnd, ended, begins}
 use Rattle.card_laws.specs.Cards.{Card, numberOf, cardKey, Form, formed, out, cardForm}
 use Rattle.card_laws.specs.Reading.{CardRead, taken, refused, judged}
-use Rattle.card_salvage.specs.Cut.{cut}
+use Rattle.salvage_laws.specs.Cut.{cut}
 
 -- "A part runs from one such line up to the next": it ends behind a line end that `card=` follows. "bytes before the first are a part"
 abbrev pub cardFollows : ℕ → List ℕ → Bool
@@ -68,7 +68,7 @@ keptCards [] = []
 keptCards (p ∷ ps) = cardBefore p (keptCards ps)
 
 -- "by three lines each: `first=` (its first byte), `length=` and `answer=`"
-abbrev pub nameLines : ℕ → ℕ → ℕ → List ℕ
+unfoldable pub nameLines : ℕ → ℕ → ℕ → List ℕ
 nameLines at n a = ended (ascii "first=" ++ decimalText at) (ended (ascii "length=" ++ decimalText n) (ended (ascii "answer=" ++ decimalText a) []))
 
 abbrev pub namedBefore : Part → List ℕ → List ℕ
@@ -78,6 +78,18 @@ namedBefore (part at p (leaves a)) r = nameLines at (length p) a ++ r
 abbrev pub namedBytes : List Part → List ℕ
 namedBytes [] = []
 namedBytes (p ∷ ps) = namedBefore p (namedBytes ps)
+
+-- ---- the two outputs
+abbrev pub fits : ℕ → ℕ → List Part → Bool
+fits room room′ ps = leb (length (keptBytes ps)) room && leb (length (namedBytes ps)) room′
+
+pub data Salvage : Type 0 where
+  rescued : List ℕ → List ℕ → Salvage
+  unfit : Salvage
+
+-- "10 if either output would not fit its lent buffer", and then neither is written
+abbrev pub handed : ℕ → ℕ → List Part → Salvage
+handed room room′ ps = cond (fits room room′ ps) (rescued (keptBytes ps) (namedBytes ps)) unfit
 
 module _ (formula : List ℕ → List ℕ → Verdict) where
   abbrev pub partAnswer : ℕ → List ℕ → PartAnswer
@@ -91,10 +103,5 @@ module _ (formula : List ℕ → List ℕ → Verdict) where
   abbrev pub salvaged : List ℕ → List Part
   salvaged f = classifyParts 0 0 (parts f)
 
--- ---- the two outputs: "10 if either output would not fit its lent buffer", and then neither is written
-pub data Salvage : Type 0 where
-  rescued : List ℕ → List ℕ → Salvage
-  unfit : Salvage
-
-abbrev pub handed : ℕ → ℕ → List Part → Salvage
-handed room room′ ps = cond (ltb room (length (keptBytes ps))) unfit (cond (ltb room′ (length (namedBytes ps))) unfit (rescued (keptBytes ps) (namedBytes ps)))
+  abbrev pub salvage : ℕ → ℕ → List ℕ → Salvage
+  salvage room room′ f = handed room room′ (salvaged f)

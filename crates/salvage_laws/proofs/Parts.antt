@@ -18,8 +18,8 @@ use Rattle.card_laws.specs.Cards.{Card, card, numberOf, cardKey, targetKey, exp
 use Rattle.card_laws.specs.Reading.{GoodCard, good-card, Valid, none, next}
 use Rattle.card_laws.specs.Theorems.{JudgeLaws}
 use Rattle.card_laws.proofs.Cards.{bytes-before, check-lacks, number-there}
-use Rattle.card_salvage.specs.Cut.{ontoFirst, cut, joined}
-use Rattle.card_salvage.specs.Salvage.{cardFollows, parts}
+use Rattle.salvage_laws.specs.Cut.{ontoFirst, cut, joined}
+use Rattle.salvage_laws.specs.Salvage.{cardFollows, parts}
 
 -- ---- the parts make the file
 onto-joined : (c : ℕ) (ps : List (List ℕ)) → joined (ontoFirst c ps) ≡ c ∷ joined ps

@@ -1,4 +1,4 @@
--- A file cut into parts behind some of its bytes: one definition for the parts of a file of cards and the lines of a log. No part is empty.
+-- A list of bytes cut into parts behind some of them; no part is empty.
 use mathlib.Core.Bool.{Bool, cond}
 use mathlib.Core.List.{List, [], _∷_, _++_}
 use Prim.Native.Nat.{ℕ}

@@ -1,0 +1,3 @@
+mod Taken
+mod Rooms
+mod Writing

@@ -1,0 +1,4 @@
+-- What other crates may cite; below it, the laws that lead there.
+pub mod Theorems
+pub mod Parts
+pub mod Names
