@@ -77,3 +77,8 @@ pub fn cards_read(file: &[u8]) -> Cards {
     unsafe { formula_cards_read(file.as_ptr(), file.len(), &mut result) };
     result
 }
+
+/// The cells that so many instructions of a code read, without an index.
+pub fn cells(code: &[u8], n: usize, list: &mut [u16]) -> usize {
+    unsafe { formula_cells(code.as_ptr(), code.len(), n, code.as_ptr(), 0, 0, list.as_mut_ptr(), list.len()) as usize }
+}

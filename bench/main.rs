@@ -50,5 +50,6 @@ fn times(words: &[&str]) {
     rows::texts(batches);
     rows::totals(batches);
     rows::cards(batches);
+    rows::cells(batches);
     rows::worst(batches.div_ceil(LONG));
 }

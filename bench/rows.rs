@@ -144,6 +144,29 @@ pub fn cards(batches: usize) {
     row("read a file of cards, corpus", "a byte", file.len() as f64, least(batches, 4, [ours, theirs]));
 }
 
+/// The cells read by all code of the corpus in a row: the listing, which is all that there is of no code, and what each instruction adds.
+pub fn cells(batches: usize) {
+    let scan = data::corpus();
+    let m = Measured::new(&scan, batches, 1);
+    let ours: Vec<u8> = m.ready.iter().flat_map(|r| r.ours.clone()).collect();
+    let theirs: Vec<u8> = m.ready.iter().flat_map(|r| r.theirs.clone()).collect();
+    let n = m.instructions() as usize;
+    let (mut list, mut other) = ([0; 1152], [0; 1152]);
+    assert!(library::cells(&ours, n, &mut list) == rival::cells(&theirs, n, &mut other) && list == other, "the lists differ");
+    let mut time = |n: usize| {
+        let ours = &mut || {
+            black_box(library::cells(black_box(&ours), n, &mut list));
+        };
+        let theirs = &mut || {
+            black_box(rival::cells(black_box(&theirs), n, &mut other));
+        };
+        least(batches, 20, [ours, theirs])
+    };
+    let (listing, whole) = (time(0), time(n));
+    row("cells read, no code", "a list", 1.0, listing);
+    row("  corpus in a row", "an instruction", n as f64, less(whole, listing));
+}
+
 /// Forty formulas of 1,024 bytes each, of each kind that is dear in its way.
 pub fn worst(batches: usize) {
     const MICROSECONDS: f64 = 1000.0;

@@ -190,7 +190,8 @@ void formula_salvage(const uint8_t *file, uint64_t file_len, uint8_t *kept, uint
 
 /* Which cells the first instructions of a code, and of a target's index code, read, whatever the memory holds: cells are numbered X0 0, C0 64, V0 128,
  * N0 384, D0 640, R0 896. Returns how many there are, at most 1,152; list gets the numbers of the first of them, rising, as many as fit, and its
- * rest is left alone. Bytes that are no instruction read nothing. For a formula that is not stored, index_instructions is 0. */
+ * rest is left alone. Bytes that are no instruction read nothing. For a formula that is not stored, index_instructions is 0. Two memories in which
+ * these cells read alike give the same value, answer and count at the same tick, whatever else they hold. */
 uint32_t formula_cells(const uint8_t *code, uint64_t code_len, uint64_t instructions, const uint8_t *index_code, uint64_t index_len,
                        uint64_t index_instructions, uint16_t *list, uint64_t list_len);
 

@@ -11,9 +11,11 @@ mod machine;
 mod op;
 mod operations;
 mod reader;
+mod reads;
 mod tokens;
 mod totals;
 mod values;
 
 pub use cards::read as cards_read;
 pub use operations::{check, compile, compile_and_run, compile_target, run};
+pub use reads::cells;

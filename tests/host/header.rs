@@ -72,4 +72,8 @@ extern "C" {
         file: *const u8, file_len: usize, kept: *mut u8, kept_len: usize, named: *mut u8, named_len: usize,
         result: *mut Salvaged,
     );
+    pub fn formula_cells(
+        code: *const u8, code_len: usize, instructions: usize, index_code: *const u8, index_len: usize,
+        index_instructions: usize, list: *mut u16, list_len: usize,
+    ) -> u32;
 }

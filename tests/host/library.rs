@@ -142,3 +142,10 @@ pub fn salvage(file: &Lent, kept: &mut Lent, named: &mut Lent) -> Salvaged {
     unsafe { formula_salvage(file.0, file.1, kept.0, kept.1, named.0, named.1, &mut result) };
     result
 }
+
+/// How many cells the two codes read; the list gets the numbers of the first of them.
+pub fn cells(code: Code, index_code: Code, list: &mut [u16]) -> u32 {
+    let (n, k) = (code.instructions, index_code.instructions);
+    let (code, index) = (code.lent.lend(), index_code.lent.lend());
+    unsafe { formula_cells(code.0, code.1, n, index.0, index.1, k, list.as_mut_ptr(), list.len()) }
+}

@@ -4,6 +4,7 @@
 //!   host literals [NUMBER [SEED]] random real literals
 //!   host cards [NUMBER [SEED]]    files of cards
 //!   host salvage [NUMBER [SEED]]  spoiled files of cards
+//!   host reads [NUMBER [SEED]]    the cells that random formulas, targets and codes read
 //!   host examples DOCUMENT...     the examples of the documents
 
 mod cards;
@@ -13,6 +14,7 @@ mod header;
 mod library;
 mod literals;
 mod random;
+mod reads;
 mod reference;
 mod salvage;
 mod stop;
@@ -26,6 +28,7 @@ use random::Random;
 
 const DEFAULT_CASES: u64 = 1_000_000;
 const DEFAULT_FILES: u64 = 20_000;
+const DEFAULT_FORMULAS: u64 = 100_000;
 const ANSWERS: usize = 16;
 
 #[derive(Default)]
@@ -43,6 +46,7 @@ fn main() {
         ["literals", ref numbers @ ..] => random_literals(numbers),
         ["cards", ref numbers @ ..] => random_cards(numbers),
         ["salvage", ref numbers @ ..] => random_salvage(numbers),
+        ["reads", ref numbers @ ..] => random_reads(numbers),
         _ => random_cases(&words),
     };
     if let Err(difference) = result {
@@ -72,6 +76,10 @@ fn random_cards(words: &[&str]) -> Result<(), String> {
 
 fn random_salvage(words: &[&str]) -> Result<(), String> {
     salvage::try_salvage(argument(words, 0, DEFAULT_FILES)?, argument(words, 1, clock())?)
+}
+
+fn random_reads(words: &[&str]) -> Result<(), String> {
+    reads::try_reads(argument(words, 0, DEFAULT_FORMULAS)?, argument(words, 1, clock())?)
 }
 
 fn random_cases(words: &[&str]) -> Result<(), String> {

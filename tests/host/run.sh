@@ -14,6 +14,7 @@ rustc --edition 2021 -O -L target/staticlib -o "$out/host" tests/host/main.rs
 "$out/host" literals
 "$out/host" cards
 "$out/host" salvage
+"$out/host" reads
 
 # $1: the program to write, $2: its file, the rest: what it is linked with
 build_c() {

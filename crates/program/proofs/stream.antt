@@ -1,5 +1,5 @@
 -- Laws for the proofs of stream.
 mod Cuts
-mod Buffers
+pub mod Buffers
 pub mod Pieces
 pub mod Receiving

@@ -10,7 +10,8 @@ use Rattle.memory.specs.Layout.{imageSize}
 use Rattle.program.specs.declared.case.Lengths.{Lengths}
 use Rattle.program.specs.declared.stream.Receipt.{Receipt}
 use Rattle.program.specs.declared.stream.Receipt.the-variants.{All, Unread}
-use Rattle.program.specs.Cases.{Case, emptyCase, zeros, afterLine}
+use Rattle.operations.specs.Operations.{Request, request}
+use Rattle.program.specs.Cases.{Case, emptyCase, zeros, afterLine, caseOf}
 use Rattle.program.specs.Reply.{replyTo, reply, writeText, writtenLength, HasPrefix}
 use Rattle.words.specs.Ascii.{byte}
 
@@ -41,10 +42,16 @@ afterBytes p (c ∷ cs) = afterBytes (afterByte p c) cs
 abbrev pub caseAtEnd : Progress → Case
 caseAtEnd p = afterLine (p .case) (p .line)
 
+-- what compile-and-run is asked for, with two code buffers of zero bytes
+abbrev pub askedFor : Case → List ℕ → Request
+askedFor s m = request (s .target) (s .text) m (zeros 16384) (zeros 16384)
+
 pub record StreamLaws : Type 0 where
   -- two pieces one after the other are one piece
   pub append : (p : Progress) (a b : List ℕ) → afterBytes p (a ++ b) ≡ afterBytes (afterBytes p a) b
-  -- and what is kept is enough for the reply
+  -- and what is kept asks for what the whole input asks for, on any memory
+  pub asked : (input m : List ℕ) → askedFor (caseAtEnd (afterBytes noProgress input)) m ≡ askedFor (caseOf input) m
+  -- so it is enough for the reply
   pub exact : (input : List ℕ) → replyTo (caseAtEnd (afterBytes noProgress input)) ≡ reply input
 
 -- ---- in the buffers

@@ -11,18 +11,18 @@ use crate::stream::KEPT_BYTES;
 use crate::stream::Receipt;
 use memory::IMAGE_SIZE;
 
-mod case;
-mod reply;
-mod stream;
+pub mod case;
+pub mod reply;
+pub mod stream;
 
 // The zero bytes come from functions: their contracts name the lists, which a literal would write out in every step of the proofs below.
-fn blank_image() -> [u8; IMAGE_SIZE]
+pub fn blank_image() -> [u8; IMAGE_SIZE]
     ensures { λ r. ⌜ (imageSize ≡ length r) × (r ≡ zeros imageSize) ⌝ }
 {
     [0; IMAGE_SIZE]
 }
 
-fn blank_text() -> [u8; KEPT_BYTES]
+pub fn blank_text() -> [u8; KEPT_BYTES]
     ensures { λ r. ⌜ keptBytes ≡ length r ⌝ }
 {
     [0; KEPT_BYTES]

@@ -12,7 +12,7 @@ use operations::Answer;
 use operations::Report;
 
 // The first two lines.
-fn put_report(out: &mut [u8], report: Report) -> usize
+pub fn put_report(out: &mut [u8], report: Report) -> usize
     requires { ⌜ 45 ≤ length (now out) ⌝ }
     ensures { λ r. ⌜ Puts (now (out .entry)) 0 (now (out .exit)) r (reportText report) ⌝ }
     ensures { λ r. ⌜ r ≤ 45 ⌝ }

@@ -21,7 +21,7 @@ pub enum Receipt {
 }
 
 // The code's zero bytes come from a function: its contract names the list, which a literal would write out in every step of a proof.
-fn blank_code() -> [u8; 16384]
+pub fn blank_code() -> [u8; 16384]
     ensures { λ r. ⌜ (16384 ≡ length r) × (r ≡ zeros 16384) ⌝ }
 {
     [0; 16384]

@@ -1,7 +1,7 @@
 -- Compile and run: the buffers hold the code of the formula and of the index, which read just their cells.
 use mathlib.Core.Path.{_≡_, refl, sym, ap, _∙_, subst}
 use mathlib.Core.Bool.{Bool, true, false, cond}
-use mathlib.Core.List.{List}
+use mathlib.Core.List.{List, []}
 use Prim.Native.Nat.{ℕ, _≤_}
 use lib.Dec.{ltb}
 use lib.ListN.{length}
@@ -9,7 +9,7 @@ use borrow.Author.Tests.{eq-eqb, ltb-false}
 use Rattle.values.specs.declared.Outcome.{Outcome}
 use Rattle.memory.specs.declared.Bank.{Bank}
 use Rattle.memory.specs.Layout.{imageSize, bytewise}
-use Rattle.memory.specs.Environment.{Environment, memoryAt}
+use Rattle.memory.specs.Environment.{memoryAt}
 use Rattle.grammar.specs.Tree.{Tree}
 use Rattle.grammar.specs.Eval.{eval}
 use Rattle.text.specs.Judge.{Judgement, accepted, refused, judge}
@@ -17,9 +17,8 @@ use Rattle.text.specs.Targets.{Target, toCell, toIndexed, noTarget, targetOf, i
 use Rattle.code.specs.declared.Instr.{Instr}
 use Rattle.code.specs.Instructions.{instructions}
 use Rattle.machine.specs.declared.Ran.{Ran}
-use Rattle.machine.specs.Machine.{runsAt, endOf}
+use Rattle.machine.specs.Machine.{exec, runsAt, endOf}
 use Rattle.tree_code.specs.Code.{codeOf}
-use Rattle.read_set.specs.Cells.{codeCells}
 use Rattle.read_laws.specs.Formulas.{treeCells, targetCells}
 use Rattle.read_laws.specs.Theorems.{AlikeOn, AgreeOn}
 use Rattle.read_laws.proofs.Environments.{first, second}
@@ -28,7 +27,7 @@ use Rattle.compiler.specs.Compile.{codedBytes}
 use Rattle.compiler.proofs.Theorems.{compile-theorems-from}
 use Rattle.targets.specs.Found.{indexBytes}
 use Rattle.targets.proofs.Theorems.{indexed}
-use Rattle.operations.specs.Operations.{Destination, destinationOf, Arrival, indexBegun, arrivalOf, finished, Request, stores, stops, ofText, ofTarget, request, requestAnswer}
+use Rattle.operations.specs.Operations.{Destination, destinationOf, indexBegun, arrivalOf, finished, Request, stores, stops, ofText, ofTarget, request, requestAnswer}
 use Rattle.read_answers.specs.Answers.{requestCells}
 use Rattle.read_answers.proofs.Runs.{element, finished-same}
 
@@ -37,20 +36,15 @@ data IndexThere (index : List ℕ) : Target → Type 0 where
   plain : (b : Bank) (i : ℕ) → IndexThere index (toCell b i)
   coded : (b : Bank) (u : Tree) → instructions index (length (codeOf u)) ≡ codeOf u → IndexThere index (toIndexed b u)
 
--- a run of a tree's code reads the tree's cells
-tree-run : (E F : Environment) (t : Tree) (c : List Instr) → c ≡ codeOf t → AlikeOn (treeCells t) E F → AlikeOn (codeCells c) E F
-tree-run E F t c q a =
-    record {
-      cells = λ b j e. a .cells b j (sym (read-theorems .code t b j) ∙ ap (λ (l : List Instr). codeCells l b j) (sym q) ∙ e);
-      tick = a .tick;
-    }
-
 module _ (tick : ℕ) (m m′ : List ℕ) where
   begun-same : (c : List ℕ) (t : Tree) → instructions c (length (codeOf t)) ≡ codeOf t → AlikeOn (treeCells t) (memoryAt tick m) (memoryAt tick m′)
       → runsAt tick c (length (codeOf t)) m .count ≡ runsAt tick c (length (codeOf t)) m′ .count
   begun-same c t q a =
-      let same = tree-run (memoryAt tick m) (memoryAt tick m′) t (instructions c (length (codeOf t))) q a in
-      ap (λ (x : Ran). x .count) (read-theorems .run (memoryAt tick m) (memoryAt tick m′) (instructions c (length (codeOf t))) same)
+      let E = memoryAt tick m in
+      let F = memoryAt tick m′ in
+      ap (λ (l : List Instr). exec E l 0 [] .count) q
+      ∙ ap (λ (x : Ran). x .count) (read-theorems .formula-run E F t a)
+      ∙ sym (ap (λ (l : List Instr). exec F l 0 [] .count) q)
 
   index-same : {index : List ℕ} {g : Target} → IndexThere index g → AlikeOn (targetCells g) (memoryAt tick m) (memoryAt tick m′)
       → indexBegun tick index m g ≡ indexBegun tick index m′ g

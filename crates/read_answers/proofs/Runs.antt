@@ -13,7 +13,6 @@ use Rattle.memory.specs.declared.store.Stored.{Stored}
 use Rattle.memory.specs.Layout.{imageSize, bytewise}
 use Rattle.memory.specs.Store.{isFinite, storeAnswer}
 use Rattle.memory.specs.Environment.{Environment, memoryAt}
-use Rattle.grammar.specs.Eval.{eval}
 use Rattle.text.specs.Targets.{Target, toCell, toIndexed, noTarget}
 use Rattle.code.specs.Instructions.{instructions}
 use Rattle.machine.specs.declared.Ended.{Ended}
@@ -37,6 +36,7 @@ use Rattle.operations.specs.declared.Answer.{Answer}
 use Rattle.operations.specs.declared.Answer.the-variants.{Fault}
 use Rattle.operations.specs.Operations.{Destination, cell, fault, lost, reached, destinationOf, Arrival, arrival, afterStore, arrivedAnswer, followAnswer, finished}
 use Rattle.operations.specs.Operations.{Goal, to, none, indexPasses, goalOf, goal, ranAnswer, runAnswer, request}
+use Rattle.operations.specs.Operations.{valueAnswer, evaluateAnswer, givenGoalOf, givenGoal, gaveAnswer, givenAnswer}
 use Rattle.read_answers.specs.Answers.{elementCells, foundCells, runCells}
 
 pub element : (E F : Environment) (g : Target) → AlikeOn (targetCells g) E F → destinationOf E g ≡ destinationOf F g
@@ -58,14 +58,17 @@ module _ (m m′ : List ℕ) (h : length m ≡ imageSize) (h′ : length m′ �
   arrived-same v n (fault f) = refl
   arrived-same v n lost = refl
 
+  follow-same : (v : Value) (n : ℕ) (a : Arrival) → followAnswer m v n a ≡ followAnswer m′ v n a
+  follow-same v n a = ap (λ (x : Answer). cond (isFinite v) x (Fault OutOfRange n)) (arrived-same v (n + a .count) (a .destination))
+
   pub finished-same : (a : Arrival) (e : Ended) (n : ℕ) → finished m a e n ≡ finished m′ a e n
-  finished-same a (Ended.Done v) n = ap (λ (x : Answer). cond (isFinite v) x (Fault OutOfRange n)) (arrived-same v (n + a .count) (a .destination))
+  finished-same a (Ended.Done v) n = follow-same v n a
   finished-same a (Ended.Stopped f) n = refl
   finished-same a Ended.Stuck n = refl
 
   -- ---- run
   module _ (tick : ℕ) (index : List ℕ) where
-    arrival-same : (b : Bank) (e : Element) → AlikeOn (elementCells index e) (memoryAt tick m) (memoryAt tick m′)
+    pub arrival-same : (b : Bank) (e : Element) → AlikeOn (elementCells index e) (memoryAt tick m) (memoryAt tick m′)
         → arrival tick index m b e ≡ arrival tick index m′ b e
     arrival-same b (Is i) a = refl
     arrival-same b (By k) a =
@@ -85,10 +88,23 @@ module _ (m m′ : List ℕ) (h : length m ≡ imageSize) (h′ : length m′ �
     goal-same x (Verdict.Accepted j) Found.Other a = refl
     goal-same x Verdict.Refused Found.Other a = refl
 
+    -- ---- store
+    gave-same : (v : Value) (f : Found) → AlikeOn (foundCells index f) (memoryAt tick m) (memoryAt tick m′)
+        → gaveAnswer tick v index m (givenGoalOf index f) ≡ gaveAnswer tick v index m′ (givenGoalOf index f)
+    gave-same v (Found.In b e) a = by (indexPasses index e)
+      where
+        by : (t : Bool) → gaveAnswer tick v index m (cond t (to b e) (none 15)) ≡ gaveAnswer tick v index m′ (cond t (to b e) (none 15))
+        by true = ap (followAnswer m v 0) (arrival-same b e a) ∙ follow-same v 0 (arrival tick index m′ b e)
+        by false = refl
+    gave-same v Found.Other a = refl
+
 -- a memory of the right size leaves code and target to be judged
-goal-is : (code : List ℕ) (n : ℕ) (target index : List ℕ) (k : ℕ) (m : List ℕ) → length m ≡ imageSize
+pub goal-is : (code : List ℕ) (n : ℕ) (target index : List ℕ) (k : ℕ) (m : List ℕ) → length m ≡ imageSize
     → goal code n target index k m ≡ goalOf index (verdict (instructions code n)) (foundToRun k target)
 goal-is code n target index k m h = rw (eq-eqb (length m) imageSize h)
+
+pub given-goal-is : (target index : List ℕ) (k : ℕ) (m : List ℕ) → length m ≡ imageSize → givenGoal target index k m ≡ givenGoalOf index (foundToRun k target)
+given-goal-is target index k m h = rw (eq-eqb (length m) imageSize h)
 
 pub ran : (tick : ℕ) (code : List ℕ) (n : ℕ) (target index : List ℕ) (k : ℕ) (m m′ : List ℕ) → AgreeOn bytewise (runCells code n target index k) m m′
     → runAnswer tick code n target index k m ≡ runAnswer tick code n target index k m′
@@ -101,3 +117,20 @@ ran tick code n target index k m m′ a =
     ∙ ap (λ (g : Goal). ranAnswer tick index m x g) (goal-is code n target index k m (a .size))
     ∙ goal-same m m′ (a .size) (a .size′) tick index x (verdict (instructions code n)) (foundToRun k target) its
     ∙ sym (ap (λ (g : Goal). ranAnswer tick index m′ x g) (goal-is code n target index k m′ (a .size′)))
+
+pub evaluated : (tick : ℕ) (code : List ℕ) (n : ℕ) (m m′ : List ℕ) → AgreeOn bytewise (codeCells (instructions code n)) m m′
+    → evaluateAnswer tick code n m ≡ evaluateAnswer tick code n m′
+evaluated tick code n m m′ a =
+    let E = memoryAt tick m in
+    let F = memoryAt tick m′ in
+    let alike = read-theorems .memories bytewise tick (codeCells (instructions code n)) m m′ a in
+    rw (eq-eqb (length m) imageSize (a .size), eq-eqb (length m′) imageSize (a .size′))
+    (ap (λ (x : Ran). valueAnswer x (verdict (instructions code n))) (read-theorems .run E F (instructions code n) alike))
+
+pub gave : (tick : ℕ) (v : Value) (target index : List ℕ) (k : ℕ) (m m′ : List ℕ) → AgreeOn bytewise (foundCells index (foundToRun k target)) m m′
+    → givenAnswer tick v target index k m ≡ givenAnswer tick v target index k m′
+gave tick v target index k m m′ a =
+    ap (gaveAnswer tick v index m) (given-goal-is target index k m (a .size))
+    ∙ gave-same m m′ (a .size) (a .size′) tick index v (foundToRun k target)
+    (read-theorems .memories bytewise tick (foundCells index (foundToRun k target)) m m′ a)
+    ∙ sym (ap (gaveAnswer tick v index m′) (given-goal-is target index k m′ (a .size′)))

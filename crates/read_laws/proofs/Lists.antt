@@ -7,12 +7,15 @@ use Prim.Native.Nat.{ℕ, zero, suc, _+_, _≤_, _<_}
 use native.Mathlib.Nat.{le-trans}
 use native.Mathlib.Omega.{arith}
 use lib.Dec.{ltb, lit≤}
+use lib.ListN.{length, take, length-append}
+use lib.Seq.{sets}
 use borrow.Author.Tests.{ltb-true, ltb-false}
 use Rattle.memory.specs.declared.Bank.{Bank}
 use Rattle.memory.specs.declared.Bank.the-variants.{X, C, «V», N, D, R}
 use Rattle.memory.specs.Layout.{layoutOf}
 use Rattle.memory.specs.Numbers.{banks}
-use Rattle.read_set.specs.Cells.{Cells, Cell, cellsFrom, cellsOf, cellList, firstNumber, cellNumbers}
+use Rattle.memory.proofs.Runs.{run-written}
+use Rattle.read_set.specs.Cells.{Cells, Cell, cellsFrom, cellsOf, cellList, firstNumber, cellCount, cellNumbers}
 use Rattle.read_laws.specs.Theorems.{Listed, RisingFrom, end, next}
 
 abbrev named : Bank → ℕ → Cell
@@ -124,3 +127,56 @@ pub cells-rising : (f : Cells) → RisingFrom 0 (cellNumbers (cellList f))
 cells-rising f =
     from-rising f X _ 0 64 0 (lit≤ tt) (from-rising f C _ 0 64 64 (lit≤ tt) (from-rising f «V» _ 0 256 128 (lit≤ tt)
     (from-rising f N _ 0 256 384 (lit≤ tt) (from-rising f D _ 0 256 640 (lit≤ tt) (from-rising f R [] 0 256 896 (lit≤ tt) (end 1152))))))
+
+-- ---- one test, one list
+module _ (f g : Cells) (e : (b : Bank) (i : ℕ) → f b i ≡ g b i) where
+  from-same : (b : Bank) (i n : ℕ) → cellsFrom f b i n ≡ cellsFrom g b i n
+  unfolding cellsFrom
+  from-same b i zero = refl
+  from-same b i (suc n) =
+      ap (λ (t : Bool). cond t (named b i ∷ cellsFrom f b (suc i) n) (cellsFrom f b (suc i) n)) (e b i)
+      ∙ ap (λ (cs : List Cell). cond (g b i) (named b i ∷ cs) cs) (from-same b (suc i) n)
+
+  banks-same : (bs : List Bank) → cellsOf f bs ≡ cellsOf g bs
+  banks-same [] = refl
+  banks-same (b ∷ bs) =
+      ap (λ (cs : List Cell). cs ++ cellsOf f bs) (from-same b 0 (layoutOf b .elements))
+      ∙ ap (λ (cs : List Cell). cellsFrom g b 0 (layoutOf b .elements) ++ cs) (banks-same bs)
+
+pub cells-same : (f g : Cells) → ((b : Bank) (i : ℕ) → f b i ≡ g b i) → cellList f ≡ cellList g
+cells-same f g e = banks-same f g e banks
+
+-- ---- no more cells than there are
+abbrev elementsOf : List Bank → ℕ
+elementsOf [] = 0
+elementsOf (b ∷ bs) = layoutOf b .elements + elementsOf bs
+
+module _ (f : Cells) where
+  from-most : (b : Bank) (i n : ℕ) → length (cellsFrom f b i n) ≤ n
+  unfolding cellsFrom
+  from-most b i zero = omega arith
+  from-most b i (suc n) = by (f b i) (from-most b (suc i) n)
+    where
+      by : (t : Bool) → length (cellsFrom f b (suc i) n) ≤ n
+          → length (cond t (named b i ∷ cellsFrom f b (suc i) n) (cellsFrom f b (suc i) n)) ≤ suc n
+      by true h = omega arith
+      by false h = omega arith
+
+  banks-most : (bs : List Bank) → length (cellsOf f bs) ≤ elementsOf bs
+  banks-most [] = omega arith
+  banks-most (b ∷ bs) =
+      rw (length-append (cellsFrom f b 0 (layoutOf b .elements)) (cellsOf f bs)) (omega (arith, from-most b 0 (layoutOf b .elements), banks-most bs))
+
+  pub cells-most : length (cellList f) ≤ cellCount
+  cells-most = banks-most banks
+
+numbers-length : (cs : List Cell) → length (cellNumbers cs) ≡ length cs
+numbers-length [] = refl
+numbers-length (c ∷ cs) = ap suc (numbers-length cs)
+
+pub cells-fit : (f : Cells) (list : List ℕ) → cellCount ≤ length list
+    → take (length (cellList f)) (sets list 0 (cellNumbers (cellList f))) ≡ cellNumbers (cellList f)
+cells-fit f list h =
+    let n = numbers-length (cellList f) in
+    ap (λ (k : ℕ). take k (sets list 0 (cellNumbers (cellList f)))) (sym n)
+    ∙ run-written list 0 (cellNumbers (cellList f)) (omega (arith, n, cells-most f))

@@ -29,7 +29,7 @@ pub struct Interval {
 }
 
 // The number of a bank's first cell.
-fn first_number(bank: Bank) -> usize
+pub fn first_number(bank: Bank) -> usize
     ensures { λ r. ⌜ r ≡ firstNumber bank ⌝ }
 {
     match bank {

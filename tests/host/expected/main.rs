@@ -5,6 +5,7 @@ mod cards;
 mod codes;
 mod literals;
 mod memory;
+mod reads;
 mod replies;
 mod salvage;
 mod texts;
@@ -57,6 +58,7 @@ fn all() -> Result<Vec<Expected>, String> {
     let (codes_in, codes_out) = codes::files();
     let (cards_in, cards_out) = cards::files();
     let (salvage_in, salvage_out) = salvage::files(&replies::stored("salvage/stdin")?);
+    let (reads_in, reads_out) = reads::files();
     Ok(vec![
         ("value_cases/stdout", values::lines().into()),
         ("literal_cases/stdout", literals::lines().into()),
@@ -67,12 +69,15 @@ fn all() -> Result<Vec<Expected>, String> {
         ("code_cases/stdout", codes_out.into()),
         ("card_cases/stdin", cards_in),
         ("card_cases/stdout", cards_out.into()),
+        ("read_cases/stdin", reads_in.into()),
+        ("read_cases/stdout", reads_out.into()),
         ("vector_cases/stdout", replies::of_list("vector_cases/stdin")?.into()),
         ("formula/stdout", replies::of_one("formula/stdin")?.into()),
         ("cards/stdout", replies::of_cards("cards/stdin")?.into()),
         ("salvage_cases/stdin", salvage_in),
         ("salvage_cases/stdout", salvage_out),
         ("salvage/stdout", replies::of_salvage("salvage/stdin")?),
+        ("cells/stdout", replies::of_cells("cells/stdin")?.into()),
     ])
 }
 

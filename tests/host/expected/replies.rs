@@ -1,5 +1,6 @@
-//! crates/formula, crates/vector_cases and crates/cards: what the programs reply to stored cases.
+//! crates/formula, crates/vector_cases, crates/cards and crates/cells: what the programs reply to stored cases.
 
+use crate::reads;
 use crate::reference::cards::{form, read};
 use crate::reference::operations::compile_and_run;
 use crate::reference::program::{output, read_input};
@@ -10,6 +11,11 @@ const TICK: u32 = 0;
 
 pub fn of_one(name: &str) -> Result<String, String> {
     Ok(reply(&stored(name)?))
+}
+
+/// The reply of the program `cells` to one case.
+pub fn of_cells(name: &str) -> Result<String, String> {
+    Ok(reads::output(&read_input(&stored(name)?)))
 }
 
 /// A list of cases, each followed by an empty line, and so each reply.

@@ -13,6 +13,7 @@ pub mod operations;
 pub mod operators;
 pub mod program;
 pub mod salvage;
+pub mod reads;
 pub mod target;
 pub mod text;
 pub mod totals;

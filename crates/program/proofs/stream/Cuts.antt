@@ -22,7 +22,7 @@ use Rattle.lines.specs.Forms.{cellPattern}
 use Rattle.lines.specs.Lines.{except, keyLength}
 use Rattle.program.specs.Cases.{Case, putForm, setCell, targetKey, exprKey, keyed, afterLine, zeros}
 use Rattle.program.specs.Reply.{reportText, storedText, programTick, replyTo}
-use Rattle.program.specs.Stream.{keptBytes}
+use Rattle.program.specs.Stream.{keptBytes, askedFor}
 use Rattle.lines.proofs.Long.{short-name, no-name, no-target, no-value}
 use Rattle.lines.proofs.Tests.{no}
 use Rattle.program.proofs.case.Effects.{key-line, no-key}
@@ -36,7 +36,7 @@ pub record Agrees (s t : Case) : Type 0 where
 pub itself : (s : Case) → Agrees s s
 itself s = record { memory = refl; target = refl; text = refl }
 
--- ---- they have one reply
+-- ---- they ask for the same, and have one reply
 of-target : (a b : List ℕ) → judge a ≡ judge b → (g : Target) → ofTarget a (zeros 16384) (zeros 16384) g ≡ ofTarget b (zeros 16384) (zeros 16384) g
 of-target a b e (toCell c i) = ap (ofText (zeros 16384) (zeros 16384) (toCell c i)) e
 of-target a b e (toIndexed c t) = ap (ofText (zeros 16384) (zeros 16384) (toIndexed c t)) e
@@ -50,12 +50,12 @@ guarded m q =
     let room = ltb (length (zeros 16384)) 16384 in
     cond (eqb (length m) imageSize) (cond room (stops 10 0) (cond room (stops 10 0) q)) (stops 1 0)
 
+pub same-request : (m : List ℕ) (s t : Case) → Agrees s t → askedFor s m ≡ askedFor t m
+same-request m s t a =
+    ap (guarded m) (of-target (s .text) (t .text) (a .text) (targetOf (s .target)) ∙ ap (ofTarget (t .text) (zeros 16384) (zeros 16384)) (a .target))
+
 pub same-reply : (s t : Case) → Agrees s t → replyTo s ≡ replyTo t
-same-reply s t a =
-    let q = ofTarget (t .text) (zeros 16384) (zeros 16384) (targetOf (t .target)) in
-    ap (λ (x : Request). printed (s .memory) (guarded (s .memory) x))
-    (of-target (s .text) (t .text) (a .text) (targetOf (s .target)) ∙ ap (ofTarget (t .text) (zeros 16384) (zeros 16384)) (a .target))
-    ∙ ap (λ (x : List ℕ). printed x (guarded x q)) (a .memory)
+same-reply s t a = ap (printed (s .memory)) (same-request (s .memory) s t a) ∙ ap (λ (x : List ℕ). printed x (askedFor t x)) (a .memory)
 
 -- ---- a long target is none
 no-long-target : (s : List ℕ) → 1024 < length s → targetOf s ≡ noTarget

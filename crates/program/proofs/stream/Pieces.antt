@@ -10,7 +10,7 @@ use Rattle.lines.specs.Lines.{consLine, lines}
 use Rattle.program.specs.Cases.{Case, afterLine, afterLines, emptyCase, zeros, caseOf}
 use Rattle.program.specs.Reply.{replyTo, reply}
 use Rattle.program.specs.Stream.{keptBytes, Progress, noProgress, afterByte, afterBytes, caseAtEnd, StreamLaws}
-use Rattle.program.proofs.stream.Cuts.{Agrees, itself, same-reply, kept-line}
+use Rattle.program.proofs.stream.Cuts.{Agrees, itself, same-request, same-reply, kept-line}
 
 in-parts : (p : Progress) (a b : List ℕ) → afterBytes p (a ++ b) ≡ afterBytes (afterBytes p a) b
 in-parts p [] b = refl
@@ -54,12 +54,16 @@ rest (c ∷ cs) l s t a =
     step true e f = rw (append-nil l) (rw (none-joined (afterLine t l) (lines cs)) at e)
     step false e f = rw (take-more keptBytes l c, ← one-joined l c (lines cs)) f
 
-exactly : (input : List ℕ) → replyTo (caseAtEnd (afterBytes noProgress input)) ≡ reply input
-unfolding reply caseOf
-exactly input =
+-- what is kept, and the case of the whole input
+ends : (input : List ℕ) → Agrees (caseAtEnd (afterBytes noProgress input)) (caseOf input)
+unfolding caseOf
+ends input =
     let start = emptyCase (zeros imageSize) in
-    let end = rest input [] start start (itself start) in
-    same-reply _ _ end ∙ ap replyTo (none-joined start (lines input))
+    rw (none-joined start (lines input)) at (rest input [] start start (itself start))
+
+exactly : (input : List ℕ) → replyTo (caseAtEnd (afterBytes noProgress input)) ≡ reply input
+unfolding reply
+exactly input = same-reply _ _ (ends input)
 
 pub stream-laws : StreamLaws
-stream-laws = record { append = in-parts; exact = exactly }
+stream-laws = record { append = in-parts; asked = λ input m. same-request m _ _ (ends input); exact = exactly }

@@ -1,0 +1,9 @@
+// Which cells a formula reads: key=value lines on standard input to its end, as for the program `formula`; on standard output a line a cell.
+use libc::STDIN_FILENO;
+use libc::STDOUT_FILENO;
+
+fn main() {
+    let mut out = read_reply::blank_reply();
+    let n = read_reply::respond::respond_from(STDIN_FILENO, &mut out);
+    io::write_all(STDOUT_FILENO, &out[..n]);
+}
