@@ -1,7 +1,7 @@
 //! The formulas that are measured and the memory that they run on, from the text files beside this one.
 
 use crate::reference::cards::Card;
-use crate::reference::memory::{cell_name, store, Bank, MEMORY_BYTES};
+use crate::reference::memory::{cell_name, pack, store, Bank, MEMORY_BYTES};
 use crate::reference::value::Value;
 
 pub struct Formula {
@@ -37,7 +37,7 @@ pub fn memory() -> Vec<u8> {
         };
         store(&mut memory, (bank, element), value).expect("a value that fits");
     }
-    memory
+    pack(&memory)
 }
 
 /// The corpus and the worst scans.

@@ -1,7 +1,7 @@
 //! The library as a controller calls it.
 
 use crate::header::*;
-pub use crate::reference::memory::MEMORY_BYTES;
+pub use crate::reference::memory::PACKED_BYTES as MEMORY_BYTES;
 pub use crate::reference::operations::{Report, CODE_BYTES};
 
 // Slices are readable, or writable where they are mutable, and do not overlap: that is all that the header asks for.

@@ -194,7 +194,7 @@ int main(void)
         return 1;
     }
     show_a_slip();
-    memory[FORMULA_X] = 1;
+    formula_set_bit(memory, FORMULA_X, 0, 1);
     set_r(10, 12.5f);
     set_r(11, 8.0f);
     set_r(12, 20.25f);

@@ -28,28 +28,41 @@
 extern "C" {
 #endif
 
-#define FORMULA_VERSION 4 /* rises where this header, an answer or the bytes of an instruction change their meaning */
+#define FORMULA_VERSION 5 /* rises where this header, an answer or the bytes of an instruction change their meaning */
 
 #define FORMULA_TEXT_BYTES        1024u  /* the longest expression, and the longest target */
-#define FORMULA_MEMORY_BYTES      3204u  /* the only size of a memory */
+#define FORMULA_MEMORY_BYTES      3092u  /* the only size of a memory */
 #define FORMULA_CODE_BYTES        16384u /* the least size of a code buffer to compile into */
 #define FORMULA_INSTRUCTION_BYTES 8u
 #define FORMULA_INSTRUCTIONS      2048u  /* the most that are accepted or compiled */
 #define FORMULA_STACK_BYTES       61440u /* the deepest call that was found takes 51,824 */
 
 /* Where the banks and the fault flags stand in the memory. All numbers are little-endian. */
-#define FORMULA_X 0u    /* X0-X63, inputs, one byte each: any non-zero byte reads 1 */
-#define FORMULA_C 64u   /* C0-C63, control bits, the same */
-#define FORMULA_V 128u  /* V0-V255, unsigned 16 bits */
-#define FORMULA_N 640u  /* N0-N255, signed 16 bits */
-#define FORMULA_D 1152u /* D0-D255, signed 32 bits */
-#define FORMULA_R 2176u /* R0-R255, IEEE 754 single precision */
+#define FORMULA_X 0u    /* X0-X63, inputs, eight bits to a byte, the lowest first: formula_bit and formula_set_bit, below */
+#define FORMULA_C 8u    /* C0-C63, control bits, the same */
+#define FORMULA_V 16u   /* V0-V255, unsigned 16 bits */
+#define FORMULA_N 528u  /* N0-N255, signed 16 bits */
+#define FORMULA_D 1040u /* D0-D255, signed 32 bits */
+#define FORMULA_R 2064u /* R0-R255, IEEE 754 single precision */
 
 /* A fault sets its flag to 1. Nothing here ever clears a flag: that is the caller's to do. */
-#define FORMULA_INDEX_ERROR     3200u
-#define FORMULA_OUT_OF_RANGE    3201u
-#define FORMULA_OVERFLOW        3202u
-#define FORMULA_DIVIDED_BY_ZERO 3203u
+#define FORMULA_INDEX_ERROR     3088u
+#define FORMULA_OUT_OF_RANGE    3089u
+#define FORMULA_OVERFLOW        3090u
+#define FORMULA_DIVIDED_BY_ZERO 3091u
+
+/* The bit of an element of X or C, with FORMULA_X or FORMULA_C as the bank: 0 or 1. */
+static inline uint8_t formula_bit(const uint8_t *memory, uint32_t bank, uint32_t element)
+{
+    return (uint8_t)(memory[bank + element / 8] >> element % 8 & 1);
+}
+
+/* Any value but 0 turns the bit on. Its seven neighbours stay. */
+static inline void formula_set_bit(uint8_t *memory, uint32_t bank, uint32_t element, uint8_t value)
+{
+    uint8_t others = (uint8_t)(memory[bank + element / 8] & ~(1u << element % 8));
+    memory[bank + element / 8] = (uint8_t)(others | (unsigned)(value != 0) << element % 8);
+}
 
 /* formula_answer_text, below, says what each means. */
 enum formula_answer {
@@ -195,6 +208,13 @@ void formula_salvage(const uint8_t *file, uint64_t file_len, uint8_t *kept, uint
 uint32_t formula_cells(const uint8_t *code, uint64_t code_len, uint64_t instructions, const uint8_t *index_code, uint64_t index_len,
                        uint64_t index_instructions, uint16_t *list, uint64_t list_len);
 
+#define FORMULA_OLD_MEMORY_BYTES 3204u /* a memory as it was before version 5: one byte a bit, any non-zero byte reads 1 */
+
+/* An old memory into a new one, and back with 0 or 1 for each bit; every other byte is carried over as it is, flags too. Both answer
+ * 0, or 1 where one of the two has another size, and then nothing is written. */
+uint32_t formula_pack(const uint8_t *old_image, uint64_t old_len, uint8_t *image, uint64_t image_len);
+uint32_t formula_unpack(const uint8_t *image, uint64_t image_len, uint8_t *old_image, uint64_t old_len);
+
 /* C's fmodf for every x and y, in any floating-point mode and with at most 32 divisions of whole numbers. Where the remainder is
  * a NaN, which NaN is not fixed; errno is left alone. */
 float formula_remainder(float x, float y);
@@ -213,7 +233,7 @@ static inline const char *formula_answer_text(uint32_t answer)
 {
     switch (answer) {
     case FORMULA_DONE: return "done";
-    case FORMULA_BAD_MEMORY: return "the memory has not 3,204 bytes";
+    case FORMULA_BAD_MEMORY: return "the memory has not 3,092 bytes";
     case FORMULA_BAD_TARGET: return "no C, V, N, D or R cell, nor indexed bank";
     case FORMULA_BAD_LENGTH: return "the expression is empty or has over 1,024 bytes";
     case FORMULA_BAD_BYTES: return "bytes that form no token";

@@ -4,9 +4,9 @@ use super::values::{Outcome, Stop, Value};
 
 use Value::{Int, Real};
 
-pub const BYTES: usize = 3204;
+pub const BYTES: usize = 3092;
 pub const REAL_BANK: u8 = 5;
-pub const BANK_STARTS: [usize; 6] = [0, 64, 128, 640, 1152, 2176];
+pub const BANK_STARTS: [usize; 6] = [0, 8, 16, 528, 1040, 2064];
 
 pub fn elements(bank: u8) -> u32 {
     if bank < 2 {
@@ -21,13 +21,13 @@ pub fn read(image: &[u8], bank: u8, element: usize) -> Outcome {
         return Err(Stop::IndexError);
     }
     match bank {
-        0 => Ok(Int((image[element] != 0) as i32)),
-        1 => Ok(Int((image[64 + element] != 0) as i32)),
-        2 => Ok(Int(half(image, 128 + 2 * element) as i32)),
-        3 => Ok(Int(half(image, 640 + 2 * element) as i16 as i32)),
-        4 => Ok(Int(word(image, 1152 + 4 * element) as i32)),
+        0 => Ok(Int(bit(image, element))),
+        1 => Ok(Int(bit(image, 64 + element))),
+        2 => Ok(Int(half(image, 16 + 2 * element) as i32)),
+        3 => Ok(Int(half(image, 528 + 2 * element) as i16 as i32)),
+        4 => Ok(Int(word(image, 1040 + 4 * element) as i32)),
         _ => {
-            let x = f32::from_bits(word(image, 2176 + 4 * element));
+            let x = f32::from_bits(word(image, 2064 + 4 * element));
             if x.is_finite() {
                 Ok(Real(x))
             } else {
@@ -35,6 +35,12 @@ pub fn read(image: &[u8], bank: u8, element: usize) -> Outcome {
             }
         }
     }
+}
+
+/// A bit of X, or from 64 on of C.
+#[inline]
+pub fn bit(image: &[u8], k: usize) -> i32 {
+    (image[k / 8] >> (k % 8) & 1) as i32
 }
 
 fn half(image: &[u8], at: usize) -> u16 {
@@ -111,21 +117,24 @@ pub fn target(text: &[u8]) -> Option<(u8, &[u8])> {
 pub fn store(image: &mut [u8], (bank, element): (u8, u8), v: Value) -> Result<(), Stop> {
     let element = element as usize;
     match bank {
-        1 => image[64 + element] = v.truth() as u8,
-        2 => image[128 + 2 * element..][..2].copy_from_slice(&(v.cut()? as u16).to_le_bytes()),
-        3 => image[640 + 2 * element..][..2].copy_from_slice(&(v.cut()? as u16).to_le_bytes()),
-        4 => image[1152 + 4 * element..][..4].copy_from_slice(&v.cut()?.to_le_bytes()),
-        _ => image[2176 + 4 * element..][..4].copy_from_slice(&v.single().to_le_bytes()),
+        1 => {
+            let byte = &mut image[8 + element / 8];
+            *byte = *byte & !(1 << (element % 8)) | (v.truth() as u8) << (element % 8);
+        }
+        2 => image[16 + 2 * element..][..2].copy_from_slice(&(v.cut()? as u16).to_le_bytes()),
+        3 => image[528 + 2 * element..][..2].copy_from_slice(&(v.cut()? as u16).to_le_bytes()),
+        4 => image[1040 + 4 * element..][..4].copy_from_slice(&v.cut()?.to_le_bytes()),
+        _ => image[2064 + 4 * element..][..4].copy_from_slice(&v.single().to_le_bytes()),
     }
     Ok(())
 }
 
 pub fn set_flag(image: &mut [u8], fault: Stop) {
     let flag = match fault {
-        Stop::IndexError => 3200,
-        Stop::OutOfRange => 3201,
-        Stop::Overflow => 3202,
-        Stop::DividedByZero => 3203,
+        Stop::IndexError => 3088,
+        Stop::OutOfRange => 3089,
+        Stop::Overflow => 3090,
+        Stop::DividedByZero => 3091,
         Stop::Stuck => return,
     };
     image[flag] = 1;

@@ -1,6 +1,6 @@
 //! Totals over a run of cells. Each counts the cells visited, the one with a fault too.
 
-use super::image::{elements, BANK_STARTS, REAL_BANK};
+use super::image::{bit, elements, BANK_STARTS, REAL_BANK};
 use super::op;
 use super::values::{exact, finite, Kind, Outcome, Stop, Value};
 
@@ -43,13 +43,18 @@ impl Range {
         &image[start..start + width * self.count as usize]
     }
 
+    fn bits(self) -> std::ops::Range<usize> {
+        let start = 64 * self.bank as usize + self.first as usize;
+        start..start + self.count as usize
+    }
+
     fn integers(self, image: &[u8], count: &mut usize, mut take: impl FnMut(i32) -> Result<(), Stop>) -> Result<(), Stop> {
         let mut visit = |z: i32| {
             *count += 1;
             take(z)
         };
         match self.bank {
-            0 | 1 => self.bytes(image, 1).iter().try_for_each(|b| visit((*b != 0) as i32)),
+            0 | 1 => self.bits().try_for_each(|k| visit(bit(image, k))),
             2 => self.bytes(image, 2).chunks_exact(2).try_for_each(|b| visit(u16::from_le_bytes([b[0], b[1]]) as i32)),
             3 => self.bytes(image, 2).chunks_exact(2).try_for_each(|b| visit(i16::from_le_bytes([b[0], b[1]]) as i32)),
             _ => self.bytes(image, 4).chunks_exact(4).try_for_each(|b| visit(i32::from_le_bytes([b[0], b[1], b[2], b[3]]))),

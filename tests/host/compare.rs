@@ -2,7 +2,7 @@
 
 use crate::library::{self, Lent};
 use crate::random::cases::{compiled_as_promised, counted_as_promised, Operation, Request};
-use crate::reference::memory::{set_flag, MEMORY_BYTES};
+use crate::reference::memory::{lent, pack, set_flag, unpack, MEMORY_BYTES};
 use crate::reference::operations::{self, Report, CODE_BYTES};
 use crate::reference::value::{Value, FAULTS};
 
@@ -27,7 +27,7 @@ pub fn compare(request: &Request) -> Result<Report, String> {
     if actual.report != expected.report {
         return Err(format!("expected {:?}\ngot      {:?}", expected.report, actual.report));
     }
-    same_bytes("memory", &expected.memory, actual.memory.content())?;
+    same_bytes("memory", &lent(&expected.memory), actual.memory.content())?;
     same_bytes("code buffer", &expected.code, actual.code.content())?;
     same_bytes("index code buffer", &expected.index_code, actual.index_code.content())?;
     same_as_tree(request, &actual)?;
@@ -66,7 +66,7 @@ fn expected(request: &Request) -> Expected {
 fn actual(request: &Request) -> Result<Actual, String> {
     let lend = |bytes: &[u8]| Lent::new(bytes, request.alignment);
     let (target, expr) = (lend(&request.target), lend(&request.expr));
-    let (mut memory, mut code, mut index_code) = (lend(&request.memory), lend(&request.code), lend(&request.index_code));
+    let (mut memory, mut code, mut index_code) = (lend(&lent(&request.memory)), lend(&request.code), lend(&request.index_code));
     let given = |lent| library::Code { lent, instructions: request.instructions };
     let index = |lent| library::Code { lent, instructions: request.index_instructions };
     let tick = request.tick;
@@ -97,10 +97,11 @@ fn same_as_halves(request: &Request, run: Report, after: &[u8]) -> Result<(), St
         return Ok(());
     }
     let lend = |bytes: &[u8]| Lent::new(bytes, request.alignment);
-    let (code, mut memory) = (lend(&request.code), lend(&request.memory));
+    let before = lent(&request.memory);
+    let (code, mut memory) = (lend(&request.code), lend(&before));
     let value = library::Code { lent: &code, instructions: request.instructions };
     let first = library::evaluate(value, &memory, request.tick);
-    same_bytes("memory, after the value", &request.memory, memory.content())?;
+    same_bytes("memory, after the value", &before, memory.content())?;
     let both = match first.answer {
         0 => {
             let (target, index_code) = (lend(&request.target), lend(&request.index_code));
@@ -113,11 +114,11 @@ fn same_as_halves(request: &Request, run: Report, after: &[u8]) -> Result<(), St
     if both != run {
         return Err(format!("the halves give {both:?}\nthe run         {run:?}"));
     }
-    let mut expected = memory.content().to_vec();
+    let mut expected = unpack(memory.content());
     if first.answer != 0 {
         set_flag(&mut expected, FAULTS[first.answer as usize - 11]);
     }
-    same_bytes("memory, by the halves,", &expected, after)
+    same_bytes("memory, by the halves,", &pack(&expected), after)
 }
 
 // The value of the tree against the value of the code. The tree counts no instructions.
@@ -133,7 +134,7 @@ fn same_as_tree(request: &Request, actual: &Actual) -> Result<(), String> {
     if walked != report {
         return Err(format!("the tree gives {walked:?}\nthe code      {report:?}"));
     }
-    same_bytes("memory, by the tree,", &memory, actual.memory.content())
+    same_bytes("memory, by the tree,", &lent(&memory), actual.memory.content())
 }
 
 fn same_bytes(what: &str, expected: &[u8], actual: &[u8]) -> Result<(), String> {

@@ -6,7 +6,7 @@
 //! target can stand, as in `EXPR -> D[V2]: D6 = 0`.
 
 use crate::library::{self, Lent};
-use crate::reference::memory::{cell_name, Bank};
+use crate::reference::memory::{cell_name, pack, unpack, Bank};
 use crate::reference::operations::{compile_and_run, walk, Report};
 use crate::reference::program::{output, read_input};
 use crate::reference::text::{tokens, Function, Placed, Token};
@@ -92,10 +92,10 @@ impl Examples {
 }
 
 fn through_library(target: &[u8], expr: &[u8], memory: &mut [u8], codes: [&mut [u8]; 2], tick: u32) -> Report {
-    let (mut lent_memory, [mut code, mut index_code]) = (Lent::new(memory, 0), codes.map(|code| Lent::new(code, 0)));
+    let (mut lent_memory, [mut code, mut index_code]) = (Lent::new(&pack(memory), 0), codes.map(|code| Lent::new(code, 0)));
     let (target, expr) = (Lent::new(target, 0), Lent::new(expr, 0));
     let report = library::compile_and_run(&target, &expr, &mut lent_memory, [&mut code, &mut index_code], tick);
-    memory.copy_from_slice(lent_memory.content());
+    memory.copy_from_slice(&unpack(lent_memory.content()));
     report
 }
 

@@ -63,6 +63,8 @@ extern "C" {
     pub fn formula_compile_target(
         target: *const u8, target_len: usize, index_code: *mut u8, index_len: usize, report: *mut Report,
     );
+    pub fn formula_pack(old: *const u8, old_len: usize, image: *mut u8, image_len: usize) -> u32;
+    pub fn formula_unpack(image: *const u8, image_len: usize, old: *mut u8, old_len: usize) -> u32;
     pub fn formula_cards_read(file: *const u8, file_len: usize, result: *mut Cards);
     pub fn formula_cards_write(
         texts: *const u8, texts_len: usize, cards: *const u32, words: usize, out: *mut u8, out_len: usize,

@@ -149,3 +149,13 @@ pub fn cells(code: Code, index_code: Code, list: &mut [u16]) -> u32 {
     let (code, index) = (code.lent.lend(), index_code.lent.lend());
     unsafe { formula_cells(code.0, code.1, n, index.0, index.1, k, list.as_mut_ptr(), list.len()) }
 }
+
+pub fn pack(old: &Lent, image: &mut Lent) -> u32 {
+    let (old, image) = (old.lend(), image.lend_to_write());
+    unsafe { formula_pack(old.0, old.1, image.0, image.1) }
+}
+
+pub fn unpack(image: &Lent, old: &mut Lent) -> u32 {
+    let (image, old) = (image.lend(), old.lend_to_write());
+    unsafe { formula_unpack(image.0, image.1, old.0, old.1) }
+}

@@ -5,10 +5,12 @@
 //!   host cards [NUMBER [SEED]]    files of cards
 //!   host salvage [NUMBER [SEED]]  spoiled files of cards
 //!   host reads [NUMBER [SEED]]    the cells that random formulas, targets and codes read
+//!   host images [NUMBER [SEED]]   conversions of images, and every bit
 //!   host examples DOCUMENT...     the examples of the documents
 
 mod cards;
 mod compare;
+mod conversions;
 mod examples;
 mod header;
 mod library;
@@ -47,6 +49,7 @@ fn main() {
         ["cards", ref numbers @ ..] => random_cards(numbers),
         ["salvage", ref numbers @ ..] => random_salvage(numbers),
         ["reads", ref numbers @ ..] => random_reads(numbers),
+        ["images", ref numbers @ ..] => random_images(numbers),
         _ => random_cases(&words),
     };
     if let Err(difference) = result {
@@ -80,6 +83,10 @@ fn random_salvage(words: &[&str]) -> Result<(), String> {
 
 fn random_reads(words: &[&str]) -> Result<(), String> {
     reads::try_reads(argument(words, 0, DEFAULT_FORMULAS)?, argument(words, 1, clock())?)
+}
+
+fn random_images(words: &[&str]) -> Result<(), String> {
+    conversions::try_images(argument(words, 0, DEFAULT_FILES)?, argument(words, 1, clock())?)
 }
 
 fn random_cases(words: &[&str]) -> Result<(), String> {

@@ -3,7 +3,7 @@
 use crate::library::{self, Code, Lent};
 use crate::random::{bad_codes, cases::good_target, codes, formulas, images, Random};
 use crate::reference::code::{encode, Instruction, INSTRUCTION_BYTES};
-use crate::reference::memory::{offset, BANKS, FLAGS, MEMORY_BYTES};
+use crate::reference::memory::{lent, offset, unpack, BANKS, FLAGS, MEMORY_BYTES};
 use crate::reference::operations::{Report, CODE_BYTES};
 use crate::reference::reads::{cell, name, of_code, of_target, of_tree, Cells, CELLS};
 use crate::reference::target::target_of;
@@ -117,7 +117,7 @@ fn formula(random: &mut Random) -> Result<Option<usize>, String> {
         return Err(format!("{}\n{:?}\n{:?}", shown(), runs[0].0, runs[1].0));
     }
     let evaluated = [&memory, &other].map(|memory| {
-        library::evaluate(Code { lent: &Lent::new(&code.0, 0), instructions: code.1 }, &Lent::new(memory, 0), tick)
+        library::evaluate(Code { lent: &Lent::new(&code.0, 0), instructions: code.1 }, &Lent::new(&lent(memory), 0), tick)
     });
     if evaluated[0] != evaluated[1] {
         return Err(format!("{}\nevaluated {:?}\n{:?}", shown(), evaluated[0], evaluated[1]));
@@ -146,9 +146,9 @@ fn listed(target: &[u8], expr: &[u8]) -> Result<Option<(Coded, Coded, Cells)>, S
 
 fn ran(target: &[u8], expr: &[u8], memory: &[u8], tick: u32) -> (Report, Vec<u8>) {
     let (mut code, mut index) = (Lent::new(&[0; CODE_BYTES], 0), Lent::new(&[0; CODE_BYTES], 0));
-    let mut memory = Lent::new(memory, 0);
+    let mut memory = Lent::new(&lent(memory), 0);
     let report = library::compile_and_run(&Lent::new(target, 0), &Lent::new(expr, 0), &mut memory, [&mut code, &mut index], tick);
-    (report, memory.content().to_vec())
+    (report, unpack(memory.content()))
 }
 
 // A byte that was the same in both memories is so afterwards, and the cell that the answer names holds the same.
@@ -176,7 +176,7 @@ fn few_cells(random: &mut Random) -> Result<(), String> {
         return Err(format!("{expr} lists {listed:?}"));
     }
     let value = |memory: &[u8]| {
-        library::evaluate(Code { lent: &Lent::new(&code.0, 0), instructions: code.1 }, &Lent::new(memory, 0), 0)
+        library::evaluate(Code { lent: &Lent::new(&code.0, 0), instructions: code.1 }, &Lent::new(&lent(memory), 0), 0)
     };
     let memory = vec![0; MEMORY_BYTES];
     for number in &cells {

@@ -15,6 +15,7 @@ rustc --edition 2021 -O -L target/staticlib -o "$out/host" tests/host/main.rs
 "$out/host" cards
 "$out/host" salvage
 "$out/host" reads
+"$out/host" images
 
 # $1: the program to write, $2: its file, the rest: what it is linked with
 build_c() {

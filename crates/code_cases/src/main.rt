@@ -5,6 +5,7 @@ ghost use lib.ListN.{length};
 use libc::STDIN_FILENO;
 use machine::Ended;
 use machine::Ran;
+use memory::IMAGE_SIZE;
 use values::Kind;
 use verifier::Verdict;
 
@@ -59,53 +60,52 @@ fn bytes_of(text: &[u8], code: &mut [u8; 16448]) -> usize {
 }
 
 // Every cell that is not named here is 0.
-fn image(memory: &mut [u8; 3204]) {
+fn image(memory: &mut [u8; IMAGE_SIZE]) {
     bits_and_halves(memory);
     integers(memory);
     singles(memory);
 }
 
 // X0, X3 and C63 are on, V255 = 65535, N0 = -1.
-fn bits_and_halves(memory: &mut [u8; 3204]) {
-    memory[0] = 1;
-    memory[3] = 255;
-    memory[127] = 2;
-    memory[638] = 255;
-    memory[639] = 255;
-    memory[640] = 255;
-    memory[641] = 255;
+fn bits_and_halves(memory: &mut [u8; IMAGE_SIZE]) {
+    memory[0] = 9;
+    memory[15] = 128;
+    memory[526] = 255;
+    memory[527] = 255;
+    memory[528] = 255;
+    memory[529] = 255;
 }
 
 // D0 = 5, D1 = -1, D4 = 2147483647, D5 = 1, D6 = -2.
-fn integers(memory: &mut [u8; 3204]) {
-    memory[1152] = 5;
-    memory[1156] = 255;
-    memory[1157] = 255;
-    memory[1158] = 255;
-    memory[1159] = 255;
-    memory[1168] = 255;
-    memory[1169] = 255;
-    memory[1170] = 255;
-    memory[1171] = 127;
-    memory[1172] = 1;
-    memory[1176] = 254;
-    memory[1177] = 255;
-    memory[1178] = 255;
-    memory[1179] = 255;
+fn integers(memory: &mut [u8; IMAGE_SIZE]) {
+    memory[1040] = 5;
+    memory[1044] = 255;
+    memory[1045] = 255;
+    memory[1046] = 255;
+    memory[1047] = 255;
+    memory[1056] = 255;
+    memory[1057] = 255;
+    memory[1058] = 255;
+    memory[1059] = 127;
+    memory[1060] = 1;
+    memory[1064] = 254;
+    memory[1065] = 255;
+    memory[1066] = 255;
+    memory[1067] = 255;
 }
 
 // R0 = 1.5, R2 = R4 = -0.0, R10 = R11 = 2 ^ 127, and a NaN in R1 and R12.
-fn singles(memory: &mut [u8; 3204]) {
-    memory[2178] = 192;
-    memory[2179] = 63;
-    memory[2182] = 192;
-    memory[2183] = 127;
-    memory[2187] = 128;
-    memory[2195] = 128;
-    memory[2219] = 127;
-    memory[2223] = 127;
-    memory[2226] = 192;
-    memory[2227] = 127;
+fn singles(memory: &mut [u8; IMAGE_SIZE]) {
+    memory[2066] = 192;
+    memory[2067] = 63;
+    memory[2070] = 192;
+    memory[2071] = 127;
+    memory[2075] = 128;
+    memory[2083] = 128;
+    memory[2107] = 127;
+    memory[2111] = 127;
+    memory[2114] = 192;
+    memory[2115] = 127;
 }
 
 fn put_verdict(line: &mut [u8; 512], at: usize, v: Verdict) -> usize {
@@ -146,7 +146,7 @@ fn tell_verdict(name: &[u8], v: Verdict) {
     case_lines::write(&mut line, ended);
 }
 
-fn try_out(name: &[u8], code: &[u8], n: usize, memory: &[u8; 3204]) {
+fn try_out(name: &[u8], code: &[u8], n: usize, memory: &[u8; IMAGE_SIZE]) {
     let verdict = verifier::check(code, n);
     if n <= 2048 {
         tell(name, verdict, machine::run(code, n, memory, TICK));
@@ -156,7 +156,7 @@ fn try_out(name: &[u8], code: &[u8], n: usize, memory: &[u8; 3204]) {
 }
 
 fn try_first(name: &[u8], code: &[u8; 16448], size: usize, n: usize) {
-    let mut memory = [0u8; 3204];
+    let mut memory = [0u8; IMAGE_SIZE];
     image(&mut memory);
     let whole: &[u8] = code;
     if size <= whole.len() {

@@ -16,6 +16,7 @@ use values::Value;
 mod cards;
 pub mod cells;
 mod salvage;
+pub mod conversions;
 
 fn kind_number(v: Value) -> u32
     ensures { λ r. ⌜ r ≡ kindWord v ⌝ }

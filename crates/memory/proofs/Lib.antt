@@ -3,9 +3,9 @@ pub mod Laws
 pub mod Rules
 pub mod Effects
 pub mod Places
+pub mod Blocks
+pub mod Packed
 pub mod Runs
-pub mod Kept
 pub mod Positions
-mod Bytewise
 mod Readings
 mod Representations

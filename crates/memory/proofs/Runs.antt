@@ -6,7 +6,7 @@ use Prim.Native.Nat.{ℕ, zero, suc, _+_, _≤_, _<_, min}
 use native.Mathlib.Omega.{arith}
 use lib.Dec.{lit<}
 use lib.ListN.{length, getD, take, drop, set, length-take, length-drop}
-use lib.Seq.{drop-cons, sets, sets-eq, take-append-seam, drop-at, length-take-le, getD-set-other, set-comm, getD-take, getD-drop, ext-getD}
+use lib.Seq.{drop-cons, sets, sets-eq, take-append-seam, drop-at, length-take-le, getD-set-other, set-set, set-comm, getD-take, getD-drop, ext-getD}
 use Rattle.words.specs.Laws.{Bytes}
 
 pub run-written : (s : List ℕ) (at : ℕ) (bs : List ℕ) → at + length bs ≤ length s → take (length bs) (drop at (sets s at bs)) ≡ bs
@@ -34,6 +34,15 @@ sets-sets s at rest to [] h = refl
 sets-sets s at rest to (b ∷ bs) h =
     ap (λ (r : List ℕ). sets r (suc to) bs) (set-sets s at rest to b (h to (omega arith) (omega arith)))
     ∙ sets-sets (set s to b) at rest (suc to) bs (λ k l u. h k (omega arith) (omega arith))
+
+-- what is written over is gone
+pub sets-again : (s : List ℕ) (at : ℕ) (old new : List ℕ) → length old ≡ length new → sets (sets s at old) at new ≡ sets s at new
+sets-again s at [] new e = refl
+sets-again s at (a ∷ old) [] e = absurd (omega (arith, e))
+sets-again s at (a ∷ old) (b ∷ new) e =
+    ap (λ (r : List ℕ). sets r (suc at) new) (set-sets (set s at a) (suc at) old at b (inl (omega arith)))
+    ∙ sets-again (set (set s at a) at b) (suc at) old new (omega (arith, e))
+    ∙ ap (λ (r : List ℕ). sets r (suc at) new) (set-set s at a b)
 
 pub run-length : (s : List ℕ) (at n : ℕ) → at + n ≤ length s → length (take n (drop at s)) ≡ n
 run-length s at n h = simp (length-take, length-drop) (omega arith)

@@ -20,7 +20,7 @@ use Rattle.operators.specs.declared.Position.the-variants as P
 use Rattle.operators.specs.Operators.{indexRule}
 use Rattle.memory.specs.declared.Bank.{Bank}
 use Rattle.memory.specs.declared.Bank.the-variants.{X, C, «V», N, D, R}
-use Rattle.memory.specs.Layout.{layoutOf, ImageLayout, bytewise, hasCellIn}
+use Rattle.memory.specs.Layout.{layoutOf, ImageLayout, packed, hasCellIn}
 
 -- "Bits, V, N, D and plain numerals are integers."
 abbrev pub bankKind : Bank → Kind
@@ -68,9 +68,9 @@ module _ (F : ImageLayout) where
   abbrev pub indexedIn : List ℕ → Bank → Value → Outcome
   indexedIn s b v = atPosition (readIn s b) (positionRule b v)
 
--- of paper 01's image
+-- of the box's image
 abbrev pub readRule : List ℕ → Bank → ℕ → Outcome
-readRule s b i = readIn bytewise s b i
+readRule s b i = readIn packed s b i
 
 abbrev pub indexedRule : List ℕ → Bank → Value → Outcome
-indexedRule s b v = indexedIn bytewise s b v
+indexedRule s b v = indexedIn packed s b v

@@ -5,7 +5,7 @@ use Prim.Native.Nat.{ℕ}
 use Rattle.values.specs.declared.Value.{Value}
 use Rattle.values.specs.declared.Outcome.{Outcome}
 use Rattle.memory.specs.declared.Bank.{Bank}
-use Rattle.memory.specs.Layout.{ImageLayout, bytewise}
+use Rattle.memory.specs.Layout.{ImageLayout, packed}
 use Rattle.memory.specs.Cells.{positionRule, atPosition, readIn}
 
 pub record Environment : Type 0 where
@@ -21,7 +21,7 @@ abbrev pub memoryIn : ImageLayout → ℕ → List ℕ → Environment
 memoryIn F t s = record { cell = readIn F s; tick = t }
 
 abbrev pub memoryAt : ℕ → List ℕ → Environment
-memoryAt t s = memoryIn bytewise t s
+memoryAt t s = memoryIn packed t s
 
 -- what paper 01's operations read
 abbrev pub memoryOf : List ℕ → Environment

@@ -1,5 +1,5 @@
 -- What holds of reading and storing, for the layers above. `LayoutLaws` speaks of the numbers that cells hold, in an image of any layout; a layout that
--- keeps it keeps `MemoryLaws` (proofs/Rules.antt). proofs/Laws.antt proves both of paper 01's image, and `ByteLaws`.
+-- keeps it keeps `MemoryLaws` (proofs/Rules.antt). proofs/Laws.antt proves both of the packed image, and `ByteLaws`.
 use mathlib.Core.Path.{_≡_}
 use mathlib.Core.Logic.{_≢_, _⊎_}
 use mathlib.Core.List.{List}
@@ -20,7 +20,7 @@ use Rattle.operators.specs.Laws.{Proper, OfKind, AllProper}
 use Rattle.memory.specs.declared.Bank.{Bank}
 use Rattle.memory.specs.declared.Bank.the-variants.{X, C, «V», N, D, R}
 use Rattle.memory.specs.declared.store.Encoded.the-variants.{Pattern}
-use Rattle.memory.specs.Layout.{layoutOf, cellAt, flagAt, ImageLayout, hasCellIn, hasCell}
+use Rattle.memory.specs.Layout.{layoutOf, flagAt, blockOf, blockAt, ImageLayout, hasCellIn, hasCell}
 use Rattle.memory.specs.Cells.{bankKind, cellValue, readIn, indexedIn}
 use Rattle.memory.specs.Store.{encodeCell, withFlagIn, storeIn, withFlag, storeImage}
 
@@ -101,18 +101,23 @@ pub record MemoryLaws (F : ImageLayout) : Type 0 where
   pub store-flag-commute : (s : List ℕ) (b : Bank) (i : ℕ) (v : Value) (f : Fault) → withFlagIn F (storeIn F s b i v) f ≡ storeIn F (withFlagIn F s f) b i v
   pub flags-commute : (s : List ℕ) (f g : Fault) → withFlagIn F (withFlagIn F s f) g ≡ withFlagIn F (withFlagIn F s g) f
 
--- the byte k is one of the cell's
-pub record InCell (b : Bank) (i k : ℕ) : Type 0 where
-  pub from : cellAt b i ≤ k
-  pub to : k < cellAt b i + layoutOf b .width
+-- the byte k is one of those of the element's block
+pub record InBlock (b : Bank) (i k : ℕ) : Type 0 where
+  pub from : blockAt b i ≤ k
+  pub to : k < blockAt b i + layoutOf b .width
 
--- of paper 01's image, byte by byte
+-- the two elements are of one block: two bits of a byte, or the same element
+pub record OneBlock (b : Bank) (i : ℕ) (c : Bank) (j : ℕ) : Type 0 where
+  pub bank : b ≡ c
+  pub block : blockOf b i ≡ blockOf c j
+
+-- of the packed image, byte by byte
 pub record ByteLaws : Type 0 where
-  -- distinct cells share no byte, and none is a flag's
-  pub disjoint : (b : Bank) (i : ℕ) (c : Bank) (j k : ℕ) → i < layoutOf b .elements → j < layoutOf c .elements → Distinct b i c j
-      → InCell b i k → InCell c j k → ⊥
-  pub no-flag : (b : Bank) (i : ℕ) (f : Fault) → i < layoutOf b .elements → InCell b i (flagAt f) → ⊥
-  -- a store that is done changes the cell's bytes only, a flag its own
+  -- blocks that share a byte are one, and none has a flag's byte
+  pub shared : (b : Bank) (i : ℕ) (c : Bank) (j k : ℕ) → i < layoutOf b .elements → j < layoutOf c .elements → InBlock b i k → InBlock c j k
+      → OneBlock b i c j
+  pub no-flag : (b : Bank) (i : ℕ) (f : Fault) → i < layoutOf b .elements → InBlock b i (flagAt f) → ⊥
+  -- a store that is done changes the block's bytes only, a flag its own
   pub others-kept : (s : List ℕ) (b : Bank) (i : ℕ) (v : Value) (p k : ℕ) → encodeCell b v ≡ Pattern p → T (hasCell s b i)
-      → (InCell b i k → ⊥) → getD (storeImage s b i v) k 0 ≡ getD s k 0
+      → (InBlock b i k → ⊥) → getD (storeImage s b i v) k 0 ≡ getD s k 0
   pub flag-rest : (s : List ℕ) (f : Fault) (k : ℕ) → k ≢ flagAt f → getD (withFlag s f) k 0 ≡ getD s k 0

@@ -26,7 +26,7 @@ use Rattle.memory.specs.declared.store.Encoded.{Encoded}
 use Rattle.memory.specs.declared.store.Encoded.the-variants as E
 use Rattle.memory.specs.declared.store.Stored.{Stored}
 use Rattle.memory.specs.declared.store.Stored.the-variants as S
-use Rattle.memory.specs.Layout.{ImageLayout, bytewise, hasCellIn}
+use Rattle.memory.specs.Layout.{ImageLayout, packed, hasCellIn}
 
 abbrev pub boolPattern : Bool → ℕ
 boolPattern true = 1
@@ -77,15 +77,15 @@ module _ (F : ImageLayout) where
   abbrev pub storeAnswerIn : List ℕ → Bank → ℕ → Value → Stored
   storeAnswerIn s b i v = cond (hasCellIn F s b i) (answerOf (encodeCell b v)) (S.Stopped IndexError)
 
--- of paper 01's image
+-- of the box's image
 abbrev pub withFlag : List ℕ → Fault → List ℕ
-withFlag s f = withFlagIn bytewise s f
+withFlag s f = withFlagIn packed s f
 
 abbrev pub writeCell : List ℕ → Bank → ℕ → Encoded → List ℕ
-writeCell s b i x = writeIn bytewise s b i x
+writeCell s b i x = writeIn packed s b i x
 
 abbrev pub storeImage : List ℕ → Bank → ℕ → Value → List ℕ
-storeImage s b i v = storeIn bytewise s b i v
+storeImage s b i v = storeIn packed s b i v
 
 abbrev pub storeAnswer : List ℕ → Bank → ℕ → Value → Stored
-storeAnswer s b i v = storeAnswerIn bytewise s b i v
+storeAnswer s b i v = storeAnswerIn packed s b i v

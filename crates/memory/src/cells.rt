@@ -2,7 +2,8 @@
 ghost use mathlib.Core.Path.{_≡_};
 ghost use Prim.Native.Nat.{_^_, _<_};
 ghost use lib.Dec.{T};
-ghost use Rattle.memory.specs.Layout.{layoutOf, cellAt, bytewise, hasCell};
+ghost use Rattle.memory.specs.Layout.{layoutOf, blockPlace, packed, hasCell};
+ghost use Rattle.memory.specs.Laws.{Holdable};
 ghost use Rattle.memory.specs.Cells.{cellValue, readRule, positionRule, indexedRule};
 use crate::Bank;
 use crate::IMAGE_SIZE;
@@ -67,24 +68,24 @@ pub fn has_cell(image: &[u8], bank: Bank, element: u32) -> bool
     element < crate::layout_of(bank).elements
 }
 
-// The first byte of an element. Nothing else works out a place.
-fn place_of(bank: Bank, element: u32) -> usize
-    requires { ⌜ element < layoutOf bank .elements ⌝ }
-    ensures { λ r. ⌜ r ≡ cellAt bank element ⌝ }
+// The first byte of a block. Nothing else works out a place.
+fn place_of(bank: Bank, block: u32) -> usize
+    requires { ⌜ block < layoutOf bank .elements ⌝ }
+    ensures { λ r. ⌜ r ≡ blockPlace bank block ⌝ }
 {
     let row = crate::layout_of(bank);
-    row.place + (element as usize) * row.width
+    row.place + (block as usize) * row.width
 }
 
 // The number that a cell holds. Here and below an arm for each bank, so that its layout is known where the cell is reached.
 pub fn get(image: &[u8], bank: Bank, element: u32) -> u32
     requires { ⌜ T (hasCell (now image) bank element) ⌝ }
-    ensures { λ r. ⌜ r ≡ bytewise .get (now (image .entry)) bank element ⌝ }
+    ensures { λ r. ⌜ r ≡ packed .get (now (image .entry)) bank element ⌝ }
     ensures { λ r. ⌜ r < 256 ^ layoutOf bank .width ⌝ }
 {
     match bank {
-        Bank::X => bytes::get8(image, place_of(Bank::X, element)),
-        Bank::C => bytes::get8(image, place_of(Bank::C, element)),
+        Bank::X => bytes::get_bit(image, place_of(Bank::X, element / 8), element % 8),
+        Bank::C => bytes::get_bit(image, place_of(Bank::C, element / 8), element % 8),
         Bank::V => bytes::get16(image, place_of(Bank::V, element)),
         Bank::N => bytes::get16(image, place_of(Bank::N, element)),
         Bank::D => bytes::get32(image, place_of(Bank::D, element)),
@@ -92,14 +93,14 @@ pub fn get(image: &[u8], bank: Bank, element: u32) -> u32
     }
 }
 
-// A number into a cell, and no other byte.
+// A number into a cell, and no other: a bit's neighbours in its byte stay.
 pub fn put(image: &mut [u8], bank: Bank, element: u32, n: u32)
-    requires { ⌜ T (hasCell (now image) bank element) ⌝ }
-    ensures { λ r. ⌜ now (image .exit) ≡ bytewise .put (now (image .entry)) bank element n ⌝ }
+    requires { ⌜ T (hasCell (now image) bank element) × Holdable bank n ⌝ }
+    ensures { λ r. ⌜ now (image .exit) ≡ packed .put (now (image .entry)) bank element n ⌝ }
 {
     match bank {
-        Bank::X => image[place_of(Bank::X, element)] = words::byte(n),
-        Bank::C => image[place_of(Bank::C, element)] = words::byte(n),
+        Bank::X => bytes::put_bit(image, place_of(Bank::X, element / 8), element % 8, n),
+        Bank::C => bytes::put_bit(image, place_of(Bank::C, element / 8), element % 8, n),
         Bank::V => bytes::put16(image, place_of(Bank::V, element), n),
         Bank::N => bytes::put16(image, place_of(Bank::N, element), n),
         Bank::D => bytes::put32(image, place_of(Bank::D, element), n),

@@ -1,4 +1,4 @@
-// The memory image of paper 01: 3,204 bytes that the caller lends. This crate alone knows where a cell lies.
+// The memory image: 3,092 bytes that the caller lends. This crate alone knows where a cell lies.
 ghost use mathlib.Core.Path.{_≡_};
 ghost use Rattle.memory.specs.Layout.{layoutOf, flagAt};
 use values::Fault;
@@ -18,14 +18,14 @@ pub enum Bank {
     R,
 }
 
-// A bank's place in the image, how many elements it has, and the bytes of each.
+// A bank's place in the image, how many elements it has, and the bytes of each of its blocks: a byte of eight bits, or an element's own.
 pub struct Layout {
     pub place: usize,
     pub elements: u32,
     pub width: usize,
 }
 
-pub const IMAGE_SIZE: usize = 3204;
+pub const IMAGE_SIZE: usize = 3092;
 
 // In the order of Bank.
 const BANKS: [Layout; 6] = [
@@ -35,27 +35,27 @@ const BANKS: [Layout; 6] = [
         width: 1,
     },
     Layout {
-        place: 64,
+        place: 8,
         elements: 64,
         width: 1,
     },
     Layout {
-        place: 128,
+        place: 16,
         elements: 256,
         width: 2,
     },
     Layout {
-        place: 640,
+        place: 528,
         elements: 256,
         width: 2,
     },
     Layout {
-        place: 1152,
+        place: 1040,
         elements: 256,
         width: 4,
     },
     Layout {
-        place: 2176,
+        place: 2064,
         elements: 256,
         width: 4,
     },
@@ -79,9 +79,9 @@ pub fn flag_at(f: Fault) -> usize
     ensures { λ r. ⌜ r ≡ flagAt f ⌝ }
 {
     match f {
-        Fault::IndexError => 3200,
-        Fault::OutOfRange => 3201,
-        Fault::Overflow => 3202,
-        Fault::DividedByZero => 3203,
+        Fault::IndexError => 3088,
+        Fault::OutOfRange => 3089,
+        Fault::Overflow => 3090,
+        Fault::DividedByZero => 3091,
     }
 }

@@ -1,11 +1,12 @@
 // The memory on edge images, to compare with a second implementation: tests/host/expected/memory.rs. For each image a line for each bank with what its first, second and last element and the one past it read, and a line of
-// indexed reads; then each value stored into each bank, with the answer and every byte that changed; then texts as targets.
+// indexed reads; then each value stored into each bank, with the answer and every byte that changed; then each bit turned over among zeros and among ones; then
+// texts as targets.
 use memory::Bank;
+use memory::IMAGE_SIZE;
 use memory::names::Named;
 use memory::store::Stored;
+use values::Outcome;
 use values::Value;
-
-const SIZE: usize = 3204;
 
 const BANKS: [Bank; 6] = [Bank::X, Bank::C, Bank::V, Bank::N, Bank::D, Bank::R];
 
@@ -57,9 +58,9 @@ fn filler(image: usize, at: usize) -> u8 {
     }
 }
 
-fn fill(image: &mut [u8; 3204], number: usize) {
+fn fill(image: &mut [u8; IMAGE_SIZE], number: usize) {
     let mut at: usize = 0;
-    while at < SIZE {
+    while at < IMAGE_SIZE {
         image[at] = filler(number, at);
         at += 1;
     }
@@ -78,7 +79,7 @@ fn last(k: usize) -> u32 {
     if k < 6 { LAST[k] } else { 0 }
 }
 
-fn reads(image: &[u8; 3204], number: usize, k: usize) {
+fn reads(image: &[u8; IMAGE_SIZE], number: usize, k: usize) {
     let mut line = [0u8; 512];
     let bank = bank_of(k);
     let e = last(k);
@@ -93,7 +94,7 @@ fn reads(image: &[u8; 3204], number: usize, k: usize) {
     case_lines::write(&mut line, end);
 }
 
-fn indexed(image: &[u8; 3204], k: usize) {
+fn indexed(image: &[u8; IMAGE_SIZE], k: usize) {
     let mut line = [0u8; 512];
     let mut end = case_lines::put(&mut line, 0, letter(k));
     end = case_lines::put_all(&mut line, end, b"[]");
@@ -114,10 +115,10 @@ fn wide(b: u8) -> u64 {
 }
 
 // Every byte that differs from the image as it was filled.
-fn changes(image: &[u8; 3204], number: usize, line: &mut [u8; 512], from: usize) -> usize {
+fn changes(image: &[u8; IMAGE_SIZE], number: usize, line: &mut [u8; 512], from: usize) -> usize {
     let mut end = from;
     let mut at: usize = 0;
-    while at < SIZE {
+    while at < IMAGE_SIZE {
         let b = image[at];
         if b != filler(number, at) {
             end = case_lines::put(line, end, b' ');
@@ -130,12 +131,12 @@ fn changes(image: &[u8; 3204], number: usize, line: &mut [u8; 512], from: usize)
     end
 }
 
-fn stored(image: &mut [u8; 3204], k: usize, element: u32, v: Value) -> Stored {
+fn stored(image: &mut [u8; IMAGE_SIZE], k: usize, element: u32, v: Value) -> Stored {
     memory::store::store(image, bank_of(k), element, v)
 }
 
 fn stores(number: usize, k: usize, i: usize) {
-    let mut image = [0u8; 3204];
+    let mut image = [0u8; IMAGE_SIZE];
     fill(&mut image, number);
     let mut line = [0u8; 512];
     let mut end = case_lines::put(&mut line, 0, letter(k));
@@ -174,7 +175,7 @@ fn target(text: &[u8]) {
 }
 
 fn image_lines(number: usize) {
-    let mut image = [0u8; 3204];
+    let mut image = [0u8; IMAGE_SIZE];
     fill(&mut image, number);
     let mut k: usize = 0;
     while k < 6 {
@@ -192,6 +193,37 @@ fn store_lines(number: usize, k: usize) {
     }
 }
 
+fn read(image: &[u8; IMAGE_SIZE], k: usize, element: u32) -> Outcome {
+    memory::cells::read(image, bank_of(k), element)
+}
+
+// A bit turned on among zeros, or off among ones: what it then reads, and every byte that changed.
+fn bit_line(number: usize, k: usize, element: u32) {
+    let mut image = [0u8; IMAGE_SIZE];
+    fill(&mut image, number);
+    let mut line = [0u8; 512];
+    let mut end = case_lines::put(&mut line, 0, letter(k));
+    end = case_lines::put_decimal(&mut line, end, element as u64);
+    let on = if number == 0 { 1 } else { 0 };
+    match stored(&mut image, k, element, Value::Int(on)) {
+        Stored::Done => {}
+        Stored::Stopped(f) => {
+            end = case_lines::put_fault(&mut line, end, f);
+        }
+    }
+    end = case_lines::put_outcome(&mut line, end, read(&image, k, element));
+    end = changes(&image, number, &mut line, end);
+    case_lines::write(&mut line, end);
+}
+
+fn bit_lines(number: usize, k: usize) {
+    let mut element: u32 = 0;
+    while element < 64 {
+        bit_line(number, k, element);
+        element += 1;
+    }
+}
+
 fn main() {
     image_lines(0);
     image_lines(1);
@@ -203,6 +235,10 @@ fn main() {
     store_lines(1, 3);
     store_lines(2, 4);
     store_lines(3, 5);
+    bit_lines(0, 0);
+    bit_lines(1, 0);
+    bit_lines(0, 1);
+    bit_lines(1, 1);
     target(b"C0");
     target(b"C63");
     target(b"C64");

@@ -8,7 +8,7 @@ use lib.ListN.{length, replicate}
 use Rattle.memory.specs.declared.Bank.{Bank}
 use Rattle.memory.specs.declared.names.Named.{Named}
 use Rattle.memory.specs.declared.names.Named.the-variants as Named
-use Rattle.memory.specs.Layout.{imageSize, bytewise}
+use Rattle.memory.specs.Layout.{imageSize, packed}
 use Rattle.memory.specs.Names.{namedRule}
 use Rattle.tokens.specs.Symbols.{equalBytes}
 use Rattle.lines.specs.declared.forms.Form.{Form}
@@ -23,9 +23,9 @@ pub record Case : Type 0 where
   pub target : List ℕ
   pub text : List ℕ
 
--- the cell holds the pattern, every other byte is as it was
+-- the cell holds the pattern, every other cell is as it was
 abbrev pub putForm : List ℕ → Bank → ℕ → Form → List ℕ
-putForm m b i (Pattern n) = bytewise .put m b i n
+putForm m b i (Pattern n) = packed .put m b i n
 putForm m b i Other = m
 
 -- a key that names a cell, of X too, and a value of the bank's form; "Lines of any other form are skipped"

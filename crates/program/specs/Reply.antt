@@ -9,7 +9,7 @@ use lib.ListN.{length, take}
 use lib.Seq.{sets}
 use Rattle.values.specs.declared.Value.{Value}
 use Rattle.memory.specs.declared.Bank.{Bank}
-use Rattle.memory.specs.Layout.{layoutOf, bytewise}
+use Rattle.memory.specs.Layout.{layoutOf, packed}
 use Rattle.operations.specs.declared.Answer.{Answer}
 use Rattle.operations.specs.declared.Answer.the-variants.{Done, Fault, Refused}
 use Rattle.operations.specs.declared.Report.{Report}
@@ -32,7 +32,7 @@ reportText r = answerKey ++ decimalText (r .answer) ++ placeKey ++ decimalText (
 
 -- a cell's name and what it holds
 abbrev pub cellLine : List ℕ → Bank → ℕ → List ℕ
-cellLine m b i = cellName b i ++ ascii "=" ++ cellText b (bytewise .get m b i) ++ ascii "\n"
+cellLine m b i = cellName b i ++ ascii "=" ++ cellText b (packed .get m b i) ++ ascii "\n"
 
 -- the third line, in the memory after the store
 abbrev pub storedText : List ℕ → Answer → List ℕ

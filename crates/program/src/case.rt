@@ -2,6 +2,7 @@
 ghost use mathlib.Core.Path.{_≡_};
 ghost use Prim.Native.Nat.{_≤_};
 ghost use lib.ListN.{length};
+ghost use Rattle.memory.specs.Layout.{imageSize};
 ghost use Rattle.memory.specs.Names.{namedRule};
 ghost use Rattle.program.specs.Cases.{setCell, afterLine};
 ghost use Rattle.program.specs.Stream.{caseIn, LengthsInside};
@@ -20,7 +21,7 @@ pub struct Lengths {
 
 // A line whose key is a cell's name and whose value has the bank's form sets the cell.
 fn set_cell(memory: &mut [u8], key: &[u8], value: &[u8])
-    requires { ⌜ length (now memory) ≡ 3204 ⌝ }
+    requires { ⌜ length (now memory) ≡ imageSize ⌝ }
     ensures { λ r. ⌜ now (memory .exit) ≡ setCell (now (memory .entry)) (now (value .entry)) (namedRule (now (key .entry))) ⌝ }
 {
     let Named::Cell(bank, element) = memory::names::cell_named(key) else {
@@ -40,7 +41,7 @@ pub fn take_line(
     text: &mut [u8],
     n: Lengths,
 ) -> Lengths
-    requires { ⌜ length (now memory) ≡ 3204 ⌝ }
+    requires { ⌜ length (now memory) ≡ imageSize ⌝ }
     requires { ⌜ (length (now line) ≤ length (now target)) × (length (now line) ≤ length (now text)) ⌝ }
     requires { ⌜ LengthsInside (now target) (now text) n ⌝ }
     ensures { λ r. ⌜ LengthsInside (now (target .exit)) (now (text .exit)) r ⌝ }

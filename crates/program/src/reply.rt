@@ -3,7 +3,7 @@ ghost use mathlib.Core.Path.{_≡_};
 ghost use Prim.Native.Nat.{_+_, _≤_};
 ghost use lib.Dec.{T};
 ghost use lib.ListN.{length};
-ghost use Rattle.memory.specs.Layout.{hasCell};
+ghost use Rattle.memory.specs.Layout.{imageSize, hasCell};
 ghost use Rattle.lines.specs.private.Steps.{Puts};
 ghost use Rattle.program.specs.Reply.{reportText, cellLine, answerText, CellInside, writeText, writtenLength, HasPrefix};
 use lines::printing;
@@ -41,7 +41,7 @@ fn put_cell(out: &mut [u8], at: usize, memory: &[u8], bank: Bank, element: u32) 
 
 // After answer 0 the cell is shown as it is after the store.
 pub fn put_reply(out: &mut [u8], answer: Answer, memory: &[u8]) -> usize
-    requires { ⌜ length (now memory) ≡ 3204 ⌝ }
+    requires { ⌜ length (now memory) ≡ imageSize ⌝ }
     requires { ⌜ CellInside answer ⌝ }
     requires { ⌜ 64 ≤ length (now out) ⌝ }
     ensures { λ r. ⌜ Puts (now (out .entry)) 0 (now (out .exit)) r (answerText (now (memory .entry)) answer) ⌝ }

@@ -4,6 +4,7 @@ use mathlib.Core.Bool.{Bool, true, false, cond}
 use mathlib.Core.List.{List, [], _∷_}
 use Prim.Native.Nat.{ℕ, _+_, _<_}
 use native.Mathlib.Omega.{arith}
+use lib.Dec.{T}
 use lib.ListN.{length, set}
 use borrow.Author.Tests.{eq-eqb, lt-ltb}
 use Rattle.values.specs.declared.Kind.{Kind}
@@ -123,14 +124,14 @@ module _ (m : List ℕ) (size : length m ≡ imageSize) where
   there b i h = rw (eq-eqb (length m) imageSize size, lt-ltb i (layoutOf b .elements) h)
 
   module _ (n : ℕ) (a : Arrival) where
-    kept : (v : Value) (b : Bank) (i : ℕ) → isFinite v ≡ true → a .destination ≡ Goes.cell b i → (x : Encoded) → encodeCell b v ≡ x
+    kept : (v : Value) (b : Bank) (i : ℕ) → T (hasCell m b i) → isFinite v ≡ true → a .destination ≡ Goes.cell b i → (x : Encoded) → encodeCell b v ≡ x
         → StoredOrFault m n a (Ended.Done v) (afterStore v (n + a .count) b i (answerOf x)) (writeCell m b i x)
-    kept v b i h q (Encoded.Pattern p) e = Term.stored q e
-    kept v b i h q (Encoded.Stopped f) e = rw (flag f) (Term.unstored h q e)
+    kept v b i c h q (Encoded.Pattern p) e = Term.stored q c e
+    kept v b i c h q (Encoded.Stopped f) e = rw (flag f) (Term.unstored h q e)
 
     arrives : (v : Value) → isFinite v ≡ true → (d : Destination) → a .destination ≡ d → Sound d
         → StoredOrFault m n a (Ended.Done v) (arrivedAnswer m v (n + a .count) d) (arrivedMemory m v d)
-    arrives v h (Goes.cell _ _) q (cell {b} {i} l) = rw (there b i l) (kept v b i h q (encodeCell b v) refl)
+    arrives v h (Goes.cell _ _) q (cell {b} {i} l) = rw (there b i l) (kept v b i (rw (there b i l) tt) h q (encodeCell b v) refl)
     arrives v h (Goes.fault _) q (fault {f}) = rw (flag f) (Term.no-element h q)
 
     pub gives : Sound (a .destination) → {k : Kind} {e : Ended} → EndsWell k e → StoredOrFault m n a e (finished m a e n) (memoryAfter m a e)

@@ -6,18 +6,19 @@ use mathlib.Core.List.{List}
 use Prim.Native.Nat.{ℕ, _≤_, _<_}
 use native.Mathlib.Decide.{ℕ-discrete, decLt}
 use native.Mathlib.Omega.{arith}
-use lib.Dec.{ltb}
-use lib.ListN.{length, getD, set, length-set}
+use lib.Dec.{T, ltb}
+use lib.ListN.{length, set, length-set}
 use lib.Seq.{length-sets}
-use Rattle.words.specs.Words.{bytesOf}
 use Rattle.values.specs.declared.Kind.{Kind}
 use Rattle.values.specs.declared.Value.{Value}
 use Rattle.values.specs.declared.Fault.{Fault as FaultName}
 use Rattle.memory.specs.declared.Bank.{Bank}
-use Rattle.memory.specs.Layout.{imageSize, layoutOf, cellAt, flagAt}
-use Rattle.memory.specs.Laws.{InCell}
+use Rattle.memory.specs.declared.store.Encoded.the-variants.{Pattern}
+use Rattle.memory.specs.Layout.{imageSize, flagAt, packed, hasCell}
+use Rattle.memory.specs.Store.{encodeCell}
 use Rattle.memory.specs.Environment.{memoryAt}
-use Rattle.memory.proofs.Kept.{cell-kept}
+use Rattle.memory.proofs.Laws.{memory-laws, packed-laws}
+use Rattle.memory.proofs.Places.{has-size, has-element}
 use Rattle.text.specs.Judge.{Judgement, accepted, refused, judge}
 use Rattle.text.specs.Targets.{Target, toCell, toIndexed, noTarget, targetOf}
 use Rattle.text.proofs.Theorems.{text-theorems}
@@ -46,14 +47,24 @@ use Rattle.operations.specs.Operations.{Request, ofTarget, ofText, request, req
 use Rattle.operations.proofs.Verdicts as run
 use Rattle.operations.proofs.Giving as given
 use Rattle.operations.proofs.Requests.{kinded, no-memory, no-room, no-index-room, named}
-use Rattle.promises.specs.Terms.{compileAnswerOf, compiledCode, answerNumber, Refusal, Names, StoredOrFault, stored, unstored, no-element, infinite, stopped}
+use Rattle.promises.specs.Terms.{compileAnswerOf, compiledCode, answerNumber, Refusal, Names, SameBut, StoredOrFault, stored, unstored, no-element, infinite, stopped}
 use Rattle.promises.specs.Promises.{Operation, compile, compile-target, check, run, compile-and-run, store, resultOf, FrameConditions}
 use Rattle.promises.proofs.Numbers.{either, Numbered, formula, three-to-nine, numbered, fault-range, no-fault, own-number}
 use Rattle.promises.proofs.Endings.{run-sound, target-sound, ends-well, gives, names-run, names-target}
 
+-- a number put into a cell
+put-only : (m : List ℕ) (b : Bank) (i p : ℕ) (v : Value) → T (hasCell m b i) → encodeCell b v ≡ Pattern p → SameBut b i m (packed .put m b i p)
+put-only m b i p v h e =
+    let size = has-size packed m b i h in
+    let there = has-element packed m b i h in
+    record {
+      cells = λ c j l d. packed-laws .get-other m b i p c j size there l (memory-laws .holdable b v p e) d;
+      flags = λ f. packed-laws .flag-put m b i p f size there;
+    }
+
 -- W says what the cell is that a store names
 data Sorted (W : Bank → ℕ → Type 0) (m code index : List ℕ) : Answer → List ℕ → List ℕ → List ℕ → Type 0 where
-  done : {v : Value} {n : ℕ} {b : Bank} {i : ℕ} {m′ code′ index′ : List ℕ} → ((k : ℕ) → (InCell b i k → ⊥) → getD m′ k 0 ≡ getD m k 0) → W b i
+  done : {v : Value} {n : ℕ} {b : Bank} {i : ℕ} {m′ code′ index′ : List ℕ} → SameBut b i m m′ → W b i
       → length m′ ≡ length m → length code′ ≡ length code → length index′ ≡ length index → Sorted W m code index (Done v n b i) m′ code′ index′
   fault : {f : FaultName} {n : ℕ} {code′ index′ : List ℕ} → length code′ ≡ length code → length index′ ≡ length index
       → Sorted W m code index (Fault f n) (set m (flagAt f) 1) code′ index′
@@ -107,8 +118,7 @@ module _ (m code index : List ℕ) where
     -- after a run that ends well
     sorted-end : {n : ℕ} {a : Arrival} {e : Ended} {r : Answer} {m′ code′ index′ : List ℕ} → ((b : Bank) (i : ℕ) → a .destination ≡ cell b i → W b i)
         → length code′ ≡ length code → length index′ ≡ length index → StoredOrFault m n a e r m′ → Sorted W m code index r m′ code′ index′
-    sorted-end g w x (stored {b = b} {i = i} {p = p} q e) =
-        done (λ k h. cell-kept m b i p k h) (g b i q) (length-sets m (cellAt b i) (bytesOf (layoutOf b .width) p)) w x
+    sorted-end g w x (stored {v = v} {b = b} {i = i} {p = p} q h e) = done (put-only m b i p v h e) (g b i q) (packed-laws .put-length m b i p) w x
     sorted-end g w x (unstored h q e) = fault w x
     sorted-end g w x (no-element h q) = fault w x
     sorted-end g w x (infinite h) = fault w x
@@ -124,7 +134,7 @@ module _ (m code index : List ℕ) where
   index-length noTarget = refl
 
   sorted-judged : {W : Bank → ℕ → Type 0} {j : Judgement} → ((b : Bank) (i : ℕ) → W b i) → Numbered j → Sorted W m code index (compileAnswer j) m (codedBytes code j) index
-  sorted-judged {j = j} x formula = done (λ k h. refl) (x _ _) refl (coded-length code j) refl
+  sorted-judged {j = j} x formula = done (record { cells = λ c j l d. refl; flags = λ f. refl }) (x _ _) refl (coded-length code j) refl
   sorted-judged x (three-to-nine a p l h) = low a p (omega arith) (omega arith)
 
   sorted-compile : (text : List ℕ) → Sorted AnyCell m code index (compileAnswerOf text code) m (compiledCode text code) index
@@ -138,15 +148,15 @@ module _ (m code index : List ℕ) where
     where
       by : (t : Bool) (g : Target) → Sorted AnyCell m code index (cond t (Refused 10 0) (targetAnswer g)) m code (cond t index (indexBytes index g))
       by true g = low 10 0 (omega arith) (omega arith)
-      by false (toCell b i) = done (λ k h. refl) tt refl refl refl
-      by false (toIndexed b t) = done (λ k h. refl) tt refl refl (index-length (toIndexed b t))
+      by false (toCell b i) = done (record { cells = λ c j l d. refl; flags = λ f. refl }) tt refl refl refl
+      by false (toIndexed b t) = done (record { cells = λ c j l d. refl; flags = λ f. refl }) tt refl refl (index-length (toIndexed b t))
       by false noTarget = low 2 0 (omega arith) (omega arith)
 
   sorted-check : (n : ℕ) → Sorted AnyCell m code index (checkAnswer code n) m code index
   sorted-check n = by (verdict (instructions code n))
     where
       by : (v : Verdict) → Sorted AnyCell m code index (verdictAnswer v) m code index
-      by (Verdict.Accepted k) = done (λ k h. refl) tt refl refl refl
+      by (Verdict.Accepted k) = done (record { cells = λ c j l d. refl; flags = λ f. refl }) tt refl refl refl
       by Verdict.Refused = refusal 15 0 (omega arith, inr refl)
 
   module _ (target : List ℕ) (n k tick : ℕ) where

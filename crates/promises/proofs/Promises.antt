@@ -1,4 +1,5 @@
 -- The promises, each by the law that keeps it.
+use Rattle.images.proofs.Theorems.{image-theorems}
 use Rattle.text.proofs.Theorems.{text-theorems}
 use Rattle.targets.proofs.Theorems.{target-theorems}
 use Rattle.operations.proofs.Verdicts.{accepted-by, passes}
@@ -14,6 +15,7 @@ use Rattle.promises.proofs.Finite.{finite, finite-code}
 pub promises : Promises
 promises = record {
   keeps = kept;
+  covered = image-theorems .covered;
   runs-to = runs-to;
   given-to = given-to;
   stores-to = stores-to;

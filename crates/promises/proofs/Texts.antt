@@ -48,7 +48,7 @@ compiles text code h = rw (with-room code text h) (only (judge text) refl, λ x.
 
 -- a run that ends well is no refusal
 no-refusal : {m m′ : List ℕ} {n : ℕ} {a : Arrival} {e : Ended} {r : Answer} → StoredOrFault m n a e r m′ → Refusal (answerNumber r) → ⊥
-no-refusal (stored q e) x = omega arith
+no-refusal (stored q c e) x = omega arith
 no-refusal (unstored {f = f} h q e) x = no-fault f (x .1) refl
 no-refusal (no-element {f = f} h q) x = no-fault f (x .1) refl
 no-refusal (infinite h) x = no-fault OutOfRange (x .1) refl

@@ -13,8 +13,8 @@ use Rattle.values.specs.declared.Fault.{Fault}
 use Rattle.values.specs.Values.{faultNumber}
 use Rattle.memory.specs.declared.Bank.{Bank}
 use Rattle.memory.specs.Layout.{imageSize, flagAt}
-use Rattle.memory.specs.Laws.{InCell}
 use Rattle.memory.specs.Environment.{memoryAt}
+use Rattle.images.specs.Theorems.{SameCells}
 use Rattle.grammar.specs.Tree.{Tree, treeKind}
 use Rattle.grammar.specs.Eval.{eval}
 use Rattle.text.specs.Judge.{Judgement, refused, judge}
@@ -32,7 +32,7 @@ use Rattle.operations.specs.declared.Answer.{Answer}
 use Rattle.operations.specs.declared.Answer.the-variants.{Refused}
 use Rattle.operations.specs.Operations.{reportOf, doneWith, checkAnswer, compileTargetAnswer, compileTargetCode, arrival, arrivalOf, indexPasses, runAnswer, runMemory}
 use Rattle.operations.specs.Operations.{givenValue, givenAnswer, givenMemory, request, requestAnswer, requestMemory, requestCode, requestIndex}
-use Rattle.promises.specs.Terms.{compileAnswerOf, compiledCode, answerNumber, Refusal, Ready, ReadyToRun, Plain, Room, Names, StoredOrFault, plainAnswer, plainMemory, Finite, Ends}
+use Rattle.promises.specs.Terms.{compileAnswerOf, compiledCode, answerNumber, Refusal, Ready, ReadyToRun, Plain, Room, Names, SameBut, StoredOrFault, plainAnswer, plainMemory, Finite, Ends}
 
 -- "compile alone (expression, code buffer), check (code buffer, number of instructions), run (those, memory, target), and compile-and-run (all but the number)";
 -- paper 02: "A run takes the bank and the index code", of so many instructions; "The tick is an input wherever a value is worked out"; "storing a given value", of
@@ -77,8 +77,7 @@ pub record FrameConditions (m code index : List ℕ) (x : OperationResult) : Typ
   -- "In the memory, a fault of a run, its store included, turns on its one flag and writes nothing else,"
   pub fault : (f : Fault) → answerNumber (x .answer) ≡ faultNumber f → x .memory ≡ set m (flagAt f) 1
   -- "and a successful run writes the target cell only.": the cell that the answer names
-  pub done : answerNumber (x .answer) ≡ 0 → (k : ℕ) → (InCell (reportOf (x .answer) .bank) (reportOf (x .answer) .element) k → ⊥)
-      → getD (x .memory) k 0 ≡ getD m k 0
+  pub done : answerNumber (x .answer) ≡ 0 → SameBut (reportOf (x .answer) .bank) (reportOf (x .answer) .element) m (x .memory)
   -- none grows or shrinks
   pub sizes : (length (x .memory) ≡ length m) × ((length (x .code) ≡ length code) × (length (x .index) ≡ length index))
 
@@ -113,6 +112,8 @@ countToRun (By k) = k
 pub record Promises : Type 0 where
   -- 1. "Any text, any memory, any code bytes"
   pub keeps : (o : Operation) (target m code index : List ℕ) → FrameConditions m code index (resultOf o target m code index)
+  -- cells and flags are all of a memory: two of bytes that agree on them are equal
+  pub covered : (m n : List ℕ) → length m ≡ imageSize → length n ≡ imageSize → Bytes m → Bytes n → SameCells m n → m ≡ n
   -- the cell stored to: a plain target's own, otherwise one of the target's bank
   pub runs-to : (code index target m : List ℕ) (n k tick : ℕ) → let x = resultOf (run n k tick) target m code index in
       answerNumber (x .answer) ≡ 0 → Names (foundToRun k target) (reportOf (x .answer) .bank) (reportOf (x .answer) .element)

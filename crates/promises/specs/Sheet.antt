@@ -15,12 +15,13 @@ use Rattle.values.specs.declared.Outcome.{Outcome}
 use Rattle.values.specs.declared.Outcome.the-variants.{Done}
 use Rattle.memory.specs.declared.Bank.{Bank}
 use Rattle.memory.specs.declared.Bank.the-variants.{«V», N, D, R}
+use Rattle.memory.specs.Layout.{imageSize}
 use Rattle.memory.specs.Environment.{memoryAt}
 use Rattle.operations.specs.Operations.{reportOf, Request, request, requestAnswer, requestMemory}
 
 -- every byte is 1, so that no cell holds beforehand what is stored to it
 abbrev pub ones : List ℕ
-ones = replicate 3204 1
+ones = replicate imageSize 1
 
 -- a cell, the text that is stored to it, the value that is returned, and what the cell reads afterwards; or the answer that the text gets
 pub data Sum : Type 0 where

@@ -3,10 +3,9 @@ use mathlib.Core.Path.{_≡_}
 use mathlib.Core.Bool.{true, false}
 use mathlib.Core.Logic.{_⊎_}
 use mathlib.Core.List.{List}
-use Prim.Native.Nat.{ℕ, _+_, _≤_}
-use lib.ListN.{length, set}
-use lib.Seq.{sets}
-use Rattle.words.specs.Words.{bytesOf}
+use Prim.Native.Nat.{ℕ, _+_, _≤_, _<_}
+use lib.Dec.{T}
+use lib.ListN.{length, getD, set}
 use Rattle.values.specs.declared.Kind.{Kind}
 use Rattle.values.specs.declared.Value.{Value}
 use Rattle.values.specs.declared.Fault.{Fault as FaultName}
@@ -15,7 +14,8 @@ use Rattle.operators.specs.Laws.{Proper}
 use Rattle.memory.specs.declared.Bank.{Bank}
 use Rattle.memory.specs.declared.names.Named.the-variants as Named
 use Rattle.memory.specs.declared.store.Encoded.the-variants as Encoded
-use Rattle.memory.specs.Layout.{imageSize, layoutOf, cellAt, flagAt}
+use Rattle.memory.specs.Layout.{imageSize, layoutOf, flagAt, packed, hasCell}
+use Rattle.memory.specs.Laws.{Distinct}
 use Rattle.memory.specs.Names.{targetRule}
 use Rattle.memory.specs.Store.{isFinite, encodeCell, withFlag, storeImage}
 use Rattle.memory.specs.Environment.{memoryAt}
@@ -75,11 +75,16 @@ pub data Names : Found → Bank → ℕ → Type 0 where
   own-cell : {b : Bank} {i : ℕ} → Names (In b (Is i)) b i
   of-bank : {b : Bank} {i k : ℕ} → Names (In b (By k)) b i
 
--- what a run's end makes of the memory m, and its answer, with the count n, where the value arrives at a: the value is in the cell's bytes; or it does not fit
+-- every cell but one holds the number that it held, and every flag's byte is what it was. Cells and flags are all of a memory: `Promises.covered`
+pub record SameBut (b : Bank) (i : ℕ) (m m′ : List ℕ) : Type 0 where
+  pub cells : (c : Bank) (j : ℕ) → j < layoutOf c .elements → Distinct b i c j → packed .get m′ c j ≡ packed .get m c j
+  pub flags : (f : FaultName) → getD m′ (flagAt f) 0 ≡ getD m (flagAt f) 0
+
+-- what a run's end makes of the memory m, and its answer, with the count n, where the value arrives at a: the value is in the cell; or it does not fit
 -- there, or it is infinite or NaN, or its index or the run met a fault, and that flag is set
 pub data StoredOrFault (m : List ℕ) (n : ℕ) (a : Arrival) : Ended → Answer → List ℕ → Type 0 where
-  stored : {v : Value} {b : Bank} {i p : ℕ} → a .destination ≡ cell b i → encodeCell b v ≡ Encoded.Pattern p
-      → StoredOrFault m n a (Ended.Done v) (Done v (n + a .count) b i) (sets m (cellAt b i) (bytesOf (layoutOf b .width) p))
+  stored : {v : Value} {b : Bank} {i p : ℕ} → a .destination ≡ cell b i → T (hasCell m b i) → encodeCell b v ≡ Encoded.Pattern p
+      → StoredOrFault m n a (Ended.Done v) (Done v (n + a .count) b i) (packed .put m b i p)
   unstored : {v : Value} {b : Bank} {i : ℕ} {f : FaultName} → isFinite v ≡ true → a .destination ≡ cell b i → encodeCell b v ≡ Encoded.Stopped f
       → StoredOrFault m n a (Ended.Done v) (Fault f (n + a .count)) (set m (flagAt f) 1)
   no-element : {v : Value} {f : FaultName} → isFinite v ≡ true → a .destination ≡ fault f

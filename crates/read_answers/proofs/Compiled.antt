@@ -14,7 +14,7 @@ use Rattle.memory.specs.declared.names.Letter.{Letter}
 use Rattle.memory.specs.declared.names.Letter.the-variants as L
 use Rattle.memory.specs.declared.names.Named.{Named}
 use Rattle.memory.specs.declared.names.Named.the-variants as Named
-use Rattle.memory.specs.Layout.{bytewise}
+use Rattle.memory.specs.Layout.{packed}
 use Rattle.memory.specs.Names.{letterBank, targetRule}
 use Rattle.grammar.specs.Tree.{Tree}
 use Rattle.text.specs.Judge.{Judgement, accepted, refused, judge}
@@ -38,7 +38,7 @@ use Rattle.read_answers.proofs.Runs.{ran, evaluated}
 use Rattle.read_answers.proofs.Requests.{answer}
 
 -- ---- to agree on more cells is to agree on fewer
-fewer : (f g : Cells) (m m′ : List ℕ) → ((b : Bank) (i : ℕ) → g b i ≡ true → f b i ≡ true) → AgreeOn bytewise f m m′ → AgreeOn bytewise g m m′
+fewer : (f g : Cells) (m m′ : List ℕ) → ((b : Bank) (i : ℕ) → g b i ≡ true → f b i ≡ true) → AgreeOn packed f m m′ → AgreeOn packed g m m′
 fewer f g m m′ h a = record { size = a .size; size′ = a .size′; cells = λ b i e. a .cells b i (h b i e) }
 
 left : (s t : Bool) → s ≡ true → (s || t) ≡ true
@@ -68,7 +68,7 @@ found-fewer index k (c ∷ (d ∷ cs)) b i e = by (targetRule (c ∷ d ∷ cs)) 
     by Named.Other q = nowhere q
 
 module _ (tick : ℕ) (m m′ : List ℕ) where
-  pub ran-listed : (code : List ℕ) (n : ℕ) (target index : List ℕ) (k : ℕ) → AgreeOnListed bytewise (readBy code n index k) m m′
+  pub ran-listed : (code : List ℕ) (n : ℕ) (target index : List ℕ) (k : ℕ) → AgreeOnListed packed (readBy code n index k) m m′
       → runAnswer tick code n target index k m ≡ runAnswer tick code n target index k m′
   ran-listed code n target index k a =
       let mine = codeCells (instructions code n) in
@@ -76,20 +76,20 @@ module _ (tick : ℕ) (m m′ : List ℕ) where
       ran tick code n target index k m m′
       (fewer (union mine its) (runCells code n target index k) m m′
       (λ b i. either (mine b i) (foundCells index (foundToRun k target) b i) (its b i) (found-fewer index k target b i))
-      (read-theorems .agree-listed bytewise (union mine its) m m′ a))
+      (read-theorems .agree-listed packed (union mine its) m m′ a))
 
-  pub evaluated-listed : (code : List ℕ) (n : ℕ) (index : List ℕ) (k : ℕ) → AgreeOnListed bytewise (readBy code n index k) m m′
+  pub evaluated-listed : (code : List ℕ) (n : ℕ) (index : List ℕ) (k : ℕ) → AgreeOnListed packed (readBy code n index k) m m′
       → evaluateAnswer tick code n m ≡ evaluateAnswer tick code n m′
   evaluated-listed code n index k a =
       let mine = codeCells (instructions code n) in
       let its = codeCells (instructions index k) in
       evaluated tick code n m m′
-      (fewer (union mine its) mine m m′ (λ b i. left (mine b i) (its b i)) (read-theorems .agree-listed bytewise (union mine its) m m′ a))
+      (fewer (union mine its) mine m m′ (λ b i. left (mine b i) (its b i)) (read-theorems .agree-listed packed (union mine its) m m′ a))
 
-  pub answer-listed : (target text code index : List ℕ) → AgreeOnListed bytewise (cellList (requestCells (request target text m code index))) m m′
+  pub answer-listed : (target text code index : List ℕ) → AgreeOnListed packed (cellList (requestCells (request target text m code index))) m m′
       → requestAnswer tick m (request target text m code index) ≡ requestAnswer tick m′ (request target text m′ code index)
   answer-listed target text code index a =
-      answer tick target text code index m m′ (read-theorems .agree-listed bytewise (requestCells (request target text m code index)) m m′ a)
+      answer tick target text code index m m′ (read-theorems .agree-listed packed (requestCells (request target text m code index)) m m′ a)
 
 -- ---- what the buffers hold
 cells-of : (c : List Instr) (t : Tree) → c ≡ codeOf t → (b : Bank) (i : ℕ) → codeCells c b i ≡ treeCells t b i

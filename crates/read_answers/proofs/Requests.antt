@@ -8,7 +8,7 @@ use lib.ListN.{length}
 use borrow.Author.Tests.{eq-eqb, ltb-false}
 use Rattle.values.specs.declared.Outcome.{Outcome}
 use Rattle.memory.specs.declared.Bank.{Bank}
-use Rattle.memory.specs.Layout.{imageSize, bytewise}
+use Rattle.memory.specs.Layout.{imageSize, packed}
 use Rattle.memory.specs.Environment.{memoryAt}
 use Rattle.grammar.specs.Tree.{Tree}
 use Rattle.grammar.specs.Eval.{eval}
@@ -52,10 +52,10 @@ module _ (tick : ℕ) (m m′ : List ℕ) where
   index-same {index} (coded b u q) a = begun-same index u q a
 
   stores-same : (g : Target) (t : Tree) (code index : List ℕ) → instructions code (length (codeOf t)) ≡ codeOf t → IndexThere index g
-      → AgreeOn bytewise (requestCells (stores g t code index)) m m′
+      → AgreeOn packed (requestCells (stores g t code index)) m m′
       → requestAnswer tick m (stores g t code index) ≡ requestAnswer tick m′ (stores g t code index)
   stores-same g t code index q there a =
-      let both = read-theorems .memories bytewise tick (requestCells (stores g t code index)) m m′ a in
+      let both = read-theorems .memories packed tick (requestCells (stores g t code index)) m m′ a in
       let its = first (treeCells t) (targetCells g) both in
       let goes = second (treeCells t) (targetCells g) both in
       let E = memoryAt tick m in
@@ -69,14 +69,14 @@ module _ (tick : ℕ) (m m′ : List ℕ) where
 
   module _ (target text code index : List ℕ) where
     on-text : (g : Target) → 16384 ≤ length code → IndexThere (indexBytes index g) g → (j : Judgement) → judge text ≡ j
-        → AgreeOn bytewise (requestCells (ofText code index g j)) m m′
+        → AgreeOn packed (requestCells (ofText code index g j)) m m′
         → requestAnswer tick m (ofText code index g j) ≡ requestAnswer tick m′ (ofText code index g j)
     on-text g room there (accepted t) e a =
         stores-same g t (codedBytes code (accepted t)) (indexBytes index g) (compile-theorems-from 0 .there text code t e room) there a
     on-text g room there (refused x p) e a = refl
 
     on-target : (g : Target) → targetOf target ≡ g → 16384 ≤ length code → 16384 ≤ length index
-        → AgreeOn bytewise (requestCells (ofTarget text code index g)) m m′
+        → AgreeOn packed (requestCells (ofTarget text code index g)) m m′
         → requestAnswer tick m (ofTarget text code index g) ≡ requestAnswer tick m′ (ofTarget text code index g)
     on-target (toCell b i) e room more a = on-text (toCell b i) room (plain b i) (judge text) refl a
     on-target (toIndexed b u) e room more a =
@@ -85,7 +85,7 @@ module _ (tick : ℕ) (m m′ : List ℕ) where
 
     -- with room in both buffers, or 10
     on-room : (t u : Bool) → ltb (length code) 16384 ≡ t → ltb (length index) 16384 ≡ u
-        → AgreeOn bytewise (requestCells (cond t (stops 10 0) (cond u (stops 10 0) (ofTarget text code index (targetOf target))))) m m′
+        → AgreeOn packed (requestCells (cond t (stops 10 0) (cond u (stops 10 0) (ofTarget text code index (targetOf target))))) m m′
         → requestAnswer tick m (cond t (stops 10 0) (cond u (stops 10 0) (ofTarget text code index (targetOf target))))
         ≡ requestAnswer tick m′ (cond t (stops 10 0) (cond u (stops 10 0) (ofTarget text code index (targetOf target))))
     on-room true u e f a = refl
@@ -97,10 +97,10 @@ module _ (tick : ℕ) (m m′ : List ℕ) where
         ≡ cond (ltb (length code) 16384) (stops 10 0) (cond (ltb (length index) 16384) (stops 10 0) (ofTarget text code index (targetOf target)))
     asked-is k h = rw (eq-eqb (length k) imageSize h)
 
-pub answer : (tick : ℕ) (target text code index m m′ : List ℕ) → AgreeOn bytewise (requestCells (request target text m code index)) m m′
+pub answer : (tick : ℕ) (target text code index m m′ : List ℕ) → AgreeOn packed (requestCells (request target text m code index)) m m′
     → requestAnswer tick m (request target text m code index) ≡ requestAnswer tick m′ (request target text m′ code index)
 answer tick target text code index m m′ a =
     ap (requestAnswer tick m) (asked-is tick m m′ target text code index m (a .size))
     ∙ on-room tick m m′ target text code index (ltb (length code) 16384) (ltb (length index) 16384) refl refl
-    (subst (λ (q : Request). AgreeOn bytewise (requestCells q) m m′) (asked-is tick m m′ target text code index m (a .size)) a)
+    (subst (λ (q : Request). AgreeOn packed (requestCells q) m m′) (asked-is tick m m′ target text code index m (a .size)) a)
     ∙ sym (ap (requestAnswer tick m′) (asked-is tick m m′ target text code index m′ (a .size′)))

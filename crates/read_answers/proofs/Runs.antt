@@ -10,7 +10,7 @@ use Rattle.values.specs.declared.Fault.the-variants.{OutOfRange}
 use Rattle.values.specs.declared.Outcome.{Outcome}
 use Rattle.memory.specs.declared.Bank.{Bank}
 use Rattle.memory.specs.declared.store.Stored.{Stored}
-use Rattle.memory.specs.Layout.{imageSize, bytewise}
+use Rattle.memory.specs.Layout.{imageSize, packed}
 use Rattle.memory.specs.Store.{isFinite, storeAnswer}
 use Rattle.memory.specs.Environment.{Environment, memoryAt}
 use Rattle.text.specs.Targets.{Target, toCell, toIndexed, noTarget}
@@ -106,10 +106,10 @@ goal-is code n target index k m h = rw (eq-eqb (length m) imageSize h)
 pub given-goal-is : (target index : List ℕ) (k : ℕ) (m : List ℕ) → length m ≡ imageSize → givenGoal target index k m ≡ givenGoalOf index (foundToRun k target)
 given-goal-is target index k m h = rw (eq-eqb (length m) imageSize h)
 
-pub ran : (tick : ℕ) (code : List ℕ) (n : ℕ) (target index : List ℕ) (k : ℕ) (m m′ : List ℕ) → AgreeOn bytewise (runCells code n target index k) m m′
+pub ran : (tick : ℕ) (code : List ℕ) (n : ℕ) (target index : List ℕ) (k : ℕ) (m m′ : List ℕ) → AgreeOn packed (runCells code n target index k) m m′
     → runAnswer tick code n target index k m ≡ runAnswer tick code n target index k m′
 ran tick code n target index k m m′ a =
-    let both = read-theorems .memories bytewise tick (runCells code n target index k) m m′ a in
+    let both = read-theorems .memories packed tick (runCells code n target index k) m m′ a in
     let mine = first (codeCells (instructions code n)) (foundCells index (foundToRun k target)) both in
     let its = second (codeCells (instructions code n)) (foundCells index (foundToRun k target)) both in
     let x = runsAt tick code n m′ in
@@ -118,19 +118,19 @@ ran tick code n target index k m m′ a =
     ∙ goal-same m m′ (a .size) (a .size′) tick index x (verdict (instructions code n)) (foundToRun k target) its
     ∙ sym (ap (λ (g : Goal). ranAnswer tick index m′ x g) (goal-is code n target index k m′ (a .size′)))
 
-pub evaluated : (tick : ℕ) (code : List ℕ) (n : ℕ) (m m′ : List ℕ) → AgreeOn bytewise (codeCells (instructions code n)) m m′
+pub evaluated : (tick : ℕ) (code : List ℕ) (n : ℕ) (m m′ : List ℕ) → AgreeOn packed (codeCells (instructions code n)) m m′
     → evaluateAnswer tick code n m ≡ evaluateAnswer tick code n m′
 evaluated tick code n m m′ a =
     let E = memoryAt tick m in
     let F = memoryAt tick m′ in
-    let alike = read-theorems .memories bytewise tick (codeCells (instructions code n)) m m′ a in
+    let alike = read-theorems .memories packed tick (codeCells (instructions code n)) m m′ a in
     rw (eq-eqb (length m) imageSize (a .size), eq-eqb (length m′) imageSize (a .size′))
     (ap (λ (x : Ran). valueAnswer x (verdict (instructions code n))) (read-theorems .run E F (instructions code n) alike))
 
-pub gave : (tick : ℕ) (v : Value) (target index : List ℕ) (k : ℕ) (m m′ : List ℕ) → AgreeOn bytewise (foundCells index (foundToRun k target)) m m′
+pub gave : (tick : ℕ) (v : Value) (target index : List ℕ) (k : ℕ) (m m′ : List ℕ) → AgreeOn packed (foundCells index (foundToRun k target)) m m′
     → givenAnswer tick v target index k m ≡ givenAnswer tick v target index k m′
 gave tick v target index k m m′ a =
     ap (gaveAnswer tick v index m) (given-goal-is target index k m (a .size))
     ∙ gave-same m m′ (a .size) (a .size′) tick index v (foundToRun k target)
-    (read-theorems .memories bytewise tick (foundCells index (foundToRun k target)) m m′ a)
+    (read-theorems .memories packed tick (foundCells index (foundToRun k target)) m m′ a)
     ∙ sym (ap (gaveAnswer tick v index m′) (given-goal-is target index k m′ (a .size′)))

@@ -13,10 +13,10 @@ use Rattle.values.specs.declared.Fault.the-variants.{OutOfRange, IndexError}
 use Rattle.memory.specs.declared.Bank.{Bank}
 use Rattle.memory.specs.declared.store.Encoded.{Encoded}
 use Rattle.memory.specs.declared.store.Encoded.the-variants as Encoded
-use Rattle.memory.specs.Layout.{imageSize, layoutOf, bytewise}
+use Rattle.memory.specs.Layout.{imageSize, layoutOf, packed}
 use Rattle.memory.specs.Store.{encodeCell, isFinite, withFlag, storeImage}
 use Rattle.memory.specs.Environment.{memoryAt}
-use Rattle.memory.proofs.Laws.{memory-laws, bytewise-laws}
+use Rattle.memory.proofs.Laws.{memory-laws, packed-laws}
 use Rattle.grammar.specs.Eval.{eval}
 use Rattle.code.specs.Instructions.{instructions}
 use Rattle.machine.specs.declared.Ended.{Ended}
@@ -55,10 +55,10 @@ no-refusal v n b i e = let z : _≡_ {A = ℕ} 0 1 = cc in omega arith
 
 module _ (m m′ : List ℕ) (h : length m ≡ imageSize) (h′ : length m′ ≡ imageSize) where
   abbrev Both : Answer → List ℕ → List ℕ → Type 0
-  Both a s s′ = Does bytewise m m′ a s s′
+  Both a s s′ = Does packed m m′ a s s′
 
   -- ---- after a value
-  flagged : (s : List ℕ) → length s ≡ imageSize → (f : FaultName) → withFlag s f ≡ set s (bytewise .flag f) 1
+  flagged : (s : List ℕ) → length s ≡ imageSize → (f : FaultName) → withFlag s f ≡ set s (packed .flag f) 1
   flagged s z f = rw (eq-eqb (length s) imageSize z)
 
   faulted : {a : Answer} {s s′ : List ℕ} (f : FaultName) (n : ℕ) → a ≡ Fault f n → s ≡ withFlag m f → s′ ≡ withFlag m′ f → Both a s s′
@@ -136,50 +136,50 @@ module _ (m m′ : List ℕ) (h : length m ≡ imageSize) (h′ : length m′ �
 
 -- the same of what the definitions come to
 module _ {m m′ : List ℕ} {a b : Answer} {s s′ t t′ : List ℕ} where
-  restated : a ≡ b → s ≡ t → s′ ≡ t′ → Does bytewise m m′ b t t′ → Does bytewise m m′ a s s′
+  restated : a ≡ b → s ≡ t → s′ ≡ t′ → Does packed m m′ b t t′ → Does packed m m′ a s s′
   restated e p q (nothing n u w) = nothing (λ v o c i d. n v o c i (sym e ∙ d)) (p ∙ u) (q ∙ w)
   restated e p q (flag n f u w) = flag (λ v o c i d. n v o c i (sym e ∙ d)) f (p ∙ u) (q ∙ w)
   restated e p q (put c i o l k r u w) = put c i o l k (e ∙ r) (p ∙ u) (q ∙ w)
 
-ran : (tick : ℕ) (code : List ℕ) (n : ℕ) (target index : List ℕ) (k : ℕ) (m m′ : List ℕ) → AgreeOn bytewise (runCells code n target index k) m m′
-    → Leaves bytewise (runAnswer tick code n target index k m) m m′ (runMemory tick code n target index k m) (runMemory tick code n target index k m′)
+ran : (tick : ℕ) (code : List ℕ) (n : ℕ) (target index : List ℕ) (k : ℕ) (m m′ : List ℕ) → AgreeOn packed (runCells code n target index k) m m′
+    → Leaves packed (runAnswer tick code n target index k m) m m′ (runMemory tick code n target index k m) (runMemory tick code n target index k m′)
 ran tick code n target index k m m′ a =
-    let both = read-theorems .memories bytewise tick (runCells code n target index k) m m′ a in
+    let both = read-theorems .memories packed tick (runCells code n target index k) m m′ a in
     let mine = first (codeCells (instructions code n)) (foundCells index (foundToRun k target)) both in
     let its = second (codeCells (instructions code n)) (foundCells index (foundToRun k target)) both in
     let x = runsAt tick code n m in
     let g = goal-is code n target index k m (a .size) in
     let g′ = goal-is code n target index k m′ (a .size′) in
     let one = read-theorems .run (memoryAt tick m) (memoryAt tick m′) (instructions code n) mine in
-    leaves bytewise bytewise-laws m m′ (a .size) (a .size′)
+    leaves packed packed-laws m m′ (a .size) (a .size′)
     (restated (ap (ranAnswer tick index m x) g) (ap (ranMemory tick index m x) g)
     (ap (λ (r : Ran). ranMemory tick index m′ r (goal code n target index k m′)) (sym one) ∙ ap (ranMemory tick index m′ x) g′)
     (goal-both m m′ (a .size) (a .size′) tick index x (verdict (instructions code n)) (foundToRun k target) its))
 
-gave : (tick : ℕ) (v : Value) (target index : List ℕ) (k : ℕ) (m m′ : List ℕ) → AgreeOn bytewise (foundCells index (foundToRun k target)) m m′
-    → Leaves bytewise (givenAnswer tick v target index k m) m m′ (givenMemory tick v target index k m) (givenMemory tick v target index k m′)
+gave : (tick : ℕ) (v : Value) (target index : List ℕ) (k : ℕ) (m m′ : List ℕ) → AgreeOn packed (foundCells index (foundToRun k target)) m m′
+    → Leaves packed (givenAnswer tick v target index k m) m m′ (givenMemory tick v target index k m) (givenMemory tick v target index k m′)
 gave tick v target index k m m′ a =
-    let its = read-theorems .memories bytewise tick (foundCells index (foundToRun k target)) m m′ a in
+    let its = read-theorems .memories packed tick (foundCells index (foundToRun k target)) m m′ a in
     let g = given-goal-is target index k m (a .size) in
     let g′ = given-goal-is target index k m′ (a .size′) in
-    leaves bytewise bytewise-laws m m′ (a .size) (a .size′)
+    leaves packed packed-laws m m′ (a .size) (a .size′)
     (restated (ap (gaveAnswer tick v index m) g) (ap (gaveMemory tick v index m) g) (ap (gaveMemory tick v index m′) g′)
     (gave-both m m′ (a .size) (a .size′) tick index v (foundToRun k target) its))
 
 -- ---- compile and run
-stored : (tick : ℕ) (q : Request) (m m′ : List ℕ) → AgreeOn bytewise (requestCells q) m m′
-    → Leaves bytewise (requestAnswer tick m q) m m′ (requestMemory tick m q) (requestMemory tick m′ q)
+stored : (tick : ℕ) (q : Request) (m m′ : List ℕ) → AgreeOn packed (requestCells q) m m′
+    → Leaves packed (requestAnswer tick m q) m m′ (requestMemory tick m q) (requestMemory tick m′ q)
 stored tick (stores g t code index) m m′ a =
     let E = memoryAt tick m in
     let F = memoryAt tick m′ in
-    let both = read-theorems .memories bytewise tick (requestCells (stores g t code index)) m m′ a in
+    let both = read-theorems .memories packed tick (requestCells (stores g t code index)) m m′ a in
     let its = first (treeCells t) (targetCells g) both in
     let goes = second (treeCells t) (targetCells g) both in
     let n = runsAt tick code (length (codeOf t)) m .count in
-    leaves bytewise bytewise-laws m m′ (a .size) (a .size′)
+    leaves packed packed-laws m m′ (a .size) (a .size′)
     (restated refl refl (ap (λ (o : Ended). memoryAfter m′ (arrivalOf tick index m′ g) o) (ap endOf (sym (read-theorems .value E F t its))))
     (finished-both m m′ (a .size) (a .size′) (arrivalOf tick index m g) (arrivalOf tick index m′ g) (element E F g goes) (endOf (eval E t)) n))
-stored tick (stops x p) m m′ a = leaves bytewise bytewise-laws m m′ (a .size) (a .size′) (refused m m′ (a .size) (a .size′) x p)
+stored tick (stops x p) m m′ a = leaves packed packed-laws m m′ (a .size) (a .size′) (refused m m′ (a .size) (a .size′) x p)
 
 pub stored-theorems : StoredTheorems
 stored-theorems = record { ran = ran; given = gave; stored = stored }

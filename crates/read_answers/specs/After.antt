@@ -7,7 +7,7 @@ use lib.ListN.{getD}
 use Rattle.values.specs.declared.Value.{Value}
 use Rattle.values.specs.declared.Fault.{Fault}
 use Rattle.memory.specs.declared.Bank.{Bank}
-use Rattle.memory.specs.Layout.{ImageLayout, layoutOf, bytewise}
+use Rattle.memory.specs.Layout.{ImageLayout, layoutOf, packed}
 use Rattle.memory.specs.Cells.{readIn}
 use Rattle.read_laws.specs.Theorems.{AgreeOn}
 use Rattle.targets.specs.Found.{foundToRun}
@@ -27,11 +27,11 @@ pub record Leaves (L : ImageLayout) (a : Answer) (m m′ after after′ : List �
 
 pub record StoredTheorems : Type 0 where
   -- run
-  pub ran : (tick : ℕ) (code : List ℕ) (n : ℕ) (target index : List ℕ) (k : ℕ) (m m′ : List ℕ) → AgreeOn bytewise (runCells code n target index k) m m′
-      → Leaves bytewise (runAnswer tick code n target index k m) m m′ (runMemory tick code n target index k m) (runMemory tick code n target index k m′)
+  pub ran : (tick : ℕ) (code : List ℕ) (n : ℕ) (target index : List ℕ) (k : ℕ) (m m′ : List ℕ) → AgreeOn packed (runCells code n target index k) m m′
+      → Leaves packed (runAnswer tick code n target index k m) m m′ (runMemory tick code n target index k m) (runMemory tick code n target index k m′)
   -- store
-  pub given : (tick : ℕ) (v : Value) (target index : List ℕ) (k : ℕ) (m m′ : List ℕ) → AgreeOn bytewise (foundCells index (foundToRun k target)) m m′
-      → Leaves bytewise (givenAnswer tick v target index k m) m m′ (givenMemory tick v target index k m) (givenMemory tick v target index k m′)
+  pub given : (tick : ℕ) (v : Value) (target index : List ℕ) (k : ℕ) (m m′ : List ℕ) → AgreeOn packed (foundCells index (foundToRun k target)) m m′
+      → Leaves packed (givenAnswer tick v target index k m) m m′ (givenMemory tick v target index k m) (givenMemory tick v target index k m′)
   -- compile and run, for what it is asked
-  pub stored : (tick : ℕ) (q : Request) (m m′ : List ℕ) → AgreeOn bytewise (requestCells q) m m′
-      → Leaves bytewise (requestAnswer tick m q) m m′ (requestMemory tick m q) (requestMemory tick m′ q)
+  pub stored : (tick : ℕ) (q : Request) (m m′ : List ℕ) → AgreeOn packed (requestCells q) m m′
+      → Leaves packed (requestAnswer tick m q) m m′ (requestMemory tick m q) (requestMemory tick m′ q)

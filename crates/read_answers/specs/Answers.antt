@@ -9,7 +9,7 @@ use lib.ListN.{length}
 use Rattle.values.specs.declared.Value.{Value}
 use Rattle.values.specs.declared.Value.the-variants.{Int}
 use Rattle.memory.specs.declared.Bank.{Bank}
-use Rattle.memory.specs.Layout.{imageSize, bytewise}
+use Rattle.memory.specs.Layout.{imageSize, packed}
 use Rattle.memory.specs.Environment.{Environment}
 use Rattle.grammar.specs.Tree.{Tree}
 use Rattle.text.specs.Judge.{accepted, judge}
@@ -49,27 +49,27 @@ pub record AnswerTheorems : Type 0 where
   -- where a value goes
   pub element : (E F : Environment) (g : Target) → AlikeOn (targetCells g) E F → destinationOf E g ≡ destinationOf F g
   -- run: value, fault, count, and the cell stored to
-  pub ran : (tick : ℕ) (code : List ℕ) (n : ℕ) (target index : List ℕ) (k : ℕ) (m m′ : List ℕ) → AgreeOn bytewise (runCells code n target index k) m m′
+  pub ran : (tick : ℕ) (code : List ℕ) (n : ℕ) (target index : List ℕ) (k : ℕ) (m m′ : List ℕ) → AgreeOn packed (runCells code n target index k) m m′
       → runAnswer tick code n target index k m ≡ runAnswer tick code n target index k m′
   -- its two halves: evaluate reads the code's cells, store the index code's
-  pub evaluated : (tick : ℕ) (code : List ℕ) (n : ℕ) (m m′ : List ℕ) → AgreeOn bytewise (codeCells (instructions code n)) m m′
+  pub evaluated : (tick : ℕ) (code : List ℕ) (n : ℕ) (m m′ : List ℕ) → AgreeOn packed (codeCells (instructions code n)) m m′
       → evaluateAnswer tick code n m ≡ evaluateAnswer tick code n m′
-  pub given : (tick : ℕ) (v : Value) (target index : List ℕ) (k : ℕ) (m m′ : List ℕ) → AgreeOn bytewise (foundCells index (foundToRun k target)) m m′
+  pub given : (tick : ℕ) (v : Value) (target index : List ℕ) (k : ℕ) (m m′ : List ℕ) → AgreeOn packed (foundCells index (foundToRun k target)) m m′
       → givenAnswer tick v target index k m ≡ givenAnswer tick v target index k m′
   -- compile and run: value, fault, count, and the cell stored to
-  pub answer : (tick : ℕ) (target text code index m m′ : List ℕ) → AgreeOn bytewise (requestCells (request target text m code index)) m m′
+  pub answer : (tick : ℕ) (target text code index m m′ : List ℕ) → AgreeOn packed (requestCells (request target text m code index)) m m′
       → requestAnswer tick m (request target text m code index) ≡ requestAnswer tick m′ (request target text m′ code index)
   -- what it is asked for does not depend on what a memory of the right size holds
   pub asked : (target text m m′ code index : List ℕ) → length m ≡ imageSize → length m′ ≡ imageSize
       → request target text m code index ≡ request target text m′ code index
   -- with the list itself, of the code and of the index code beside it: "two memories of the right size that agree on the listed cells give the same value,
   -- answer and count"
-  pub ran-listed : (tick : ℕ) (code : List ℕ) (n : ℕ) (target index : List ℕ) (k : ℕ) (m m′ : List ℕ) → AgreeOnListed bytewise (readBy code n index k) m m′
+  pub ran-listed : (tick : ℕ) (code : List ℕ) (n : ℕ) (target index : List ℕ) (k : ℕ) (m m′ : List ℕ) → AgreeOnListed packed (readBy code n index k) m m′
       → runAnswer tick code n target index k m ≡ runAnswer tick code n target index k m′
-  pub evaluated-listed : (tick : ℕ) (code : List ℕ) (n : ℕ) (index : List ℕ) (k : ℕ) (m m′ : List ℕ) → AgreeOnListed bytewise (readBy code n index k) m m′
+  pub evaluated-listed : (tick : ℕ) (code : List ℕ) (n : ℕ) (index : List ℕ) (k : ℕ) (m m′ : List ℕ) → AgreeOnListed packed (readBy code n index k) m m′
       → evaluateAnswer tick code n m ≡ evaluateAnswer tick code n m′
   pub answer-listed : (tick : ℕ) (target text code index m m′ : List ℕ)
-      → AgreeOnListed bytewise (cellList (requestCells (request target text m code index))) m m′
+      → AgreeOnListed packed (cellList (requestCells (request target text m code index))) m m′
       → requestAnswer tick m (request target text m code index) ≡ requestAnswer tick m′ (request target text m′ code index)
   -- "Keep a list of cells beside each formula": of the bytes that compile and compile_target left, in the numbers that they answered, the list is the formula's
   pub of-formula : (text target code index : List ℕ) (t : Tree) (n k : ℕ) (b : Bank) (i : ℕ) → judge text ≡ accepted t

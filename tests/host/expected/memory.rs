@@ -1,7 +1,7 @@
 //! crates/memory_cases: reads and stores on edge images, and texts as targets.
 
 use super::{shown, shown_end, shown_fault};
-use crate::reference::memory::{read_indexed, set_flag, store, target_cell, Bank, BANKS, MEMORY_BYTES};
+use crate::reference::memory::{pack, read_indexed, set_flag, store, target_cell, unpack, Bank, BANKS, MEMORY_BYTES, PACKED_BYTES};
 use crate::reference::value::{Fault, Value};
 
 const INTEGERS: [i32; 8] = [0, 1, -1, 32768, 65535, 65536, i32::MAX, i32::MIN];
@@ -37,6 +37,11 @@ pub fn lines() -> String {
             all += &store_line(number, (bank, element), value);
         }
     }
+    for bank in [Bank::X, Bank::C] {
+        for number in 0..2 {
+            all += &(0..bank.cells()).map(|element| bit_line(number, (bank, element))).collect::<String>();
+        }
+    }
     all + &TARGETS.map(target_line).concat()
 }
 
@@ -53,7 +58,7 @@ fn image(number: usize) -> Vec<u8> {
         2 => [85, 170][at % 2],
         _ => (at * 37 + at / 256) as u8,
     };
-    (0..MEMORY_BYTES).map(byte).collect()
+    (0..PACKED_BYTES).map(byte).collect()
 }
 
 fn letter(bank: Bank) -> char {
@@ -61,7 +66,8 @@ fn letter(bank: Bank) -> char {
 }
 
 fn read_all(image: &[u8], bank: Bank, indexes: impl Iterator<Item = Value>) -> String {
-    let read = |index| read_indexed(image, bank, index).map_err(Into::into);
+    let image = unpack(image);
+    let read = |index| read_indexed(&image, bank, index).map_err(Into::into);
     indexes.map(|index| format!(" {}", shown_end(read(index)))).collect()
 }
 
@@ -77,7 +83,8 @@ fn indexed_reads(image: &[u8], bank: Bank) -> String {
 
 // The answer if it is a fault, and every byte that changed.
 fn store_line(number: usize, cell: (Bank, usize), value: Value) -> String {
-    let (before, mut after) = (image(number), image(number));
+    let before = image(number);
+    let mut after = unpack(&before);
     let inside = cell.1 < cell.0.cells();
     let stored = if inside { store(&mut after, cell, value) } else { Err(Fault::IndexError) };
     let mut line = format!("{}={}", letter(cell.0), shown(value));
@@ -85,15 +92,35 @@ fn store_line(number: usize, cell: (Bank, usize), value: Value) -> String {
         set_flag(&mut after, fault);
         line += &shown_fault(fault);
     }
-    for at in (0..MEMORY_BYTES).filter(|at| before[*at] != after[*at]) {
-        line += &format!(" {at}:{}", after[at]);
+    line + &changed(&before, &pack(&after)) + "\n"
+}
+
+fn changed(before: &[u8], after: &[u8]) -> String {
+    let places = (0..PACKED_BYTES).filter(|at| before[*at] != after[*at]);
+    places.map(|at| format!(" {at}:{}", after[at])).collect()
+}
+
+// A bit turned on among zeros, or off among ones: what it then reads, and every byte that changed.
+fn bit_line(number: usize, cell: (Bank, usize)) -> String {
+    let before = image(number);
+    let mut after = unpack(&before);
+    store(&mut after, cell, Value::Int(i32::from(number == 0))).expect("a bit takes every integer");
+    let after = pack(&after);
+    let read = read_all(&after, cell.0, [Value::Int(cell.1 as i32)].into_iter());
+    format!("{}{}{read}{}\n", letter(cell.0), cell.1, changed(&before, &after))
+}
+
+// Where a bank starts in the packed image.
+fn start(bank: Bank) -> usize {
+    match bank {
+        Bank::X | Bank::C => bank.start() / 8,
+        _ => bank.start() - (MEMORY_BYTES - PACKED_BYTES),
     }
-    line + "\n"
 }
 
 fn target_line(text: &str) -> String {
     match target_cell(text.as_bytes()) {
-        Some((bank, element)) => format!("{text}|{} {element}\n", bank.start()),
+        Some((bank, element)) => format!("{text}|{} {element}\n", start(bank)),
         None => format!("{text}|2\n"),
     }
 }

@@ -4,7 +4,7 @@ use super::images::memory;
 use super::{bad_codes, codes, formulas, texts, Random};
 use crate::reference::check::check as check_code;
 use crate::reference::code::{at, Instruction, INSTRUCTION_BYTES};
-use crate::reference::memory::{BANKS, FLAGS};
+use crate::reference::memory::{BANKS, FLAGS, MEMORY_BYTES, PACKED_BYTES};
 use crate::reference::operations::{compile, compile_target, CODE_BYTES};
 use crate::reference::text::{tokens, Function, Token};
 
@@ -224,7 +224,7 @@ fn store_case(random: &mut Random) -> Vec<Request> {
 // Any operation with any sizes: which answer comes first.
 fn sizes_case(random: &mut Random) -> Vec<Request> {
     let mut memory = memory(random);
-    memory.resize(*random.pick(&[3204, 3204, 3204, 3203, 3205, 0, 1, 3200, 6408]), 0);
+    memory.resize(*random.pick(&[MEMORY_BYTES, MEMORY_BYTES, MEMORY_BYTES, PACKED_BYTES - 1, PACKED_BYTES + 1, 0, 1, FLAGS, 2 * MEMORY_BYTES]), 0);
     let expr = match random.below(4) {
         0 => Vec::new(),
         1 => texts::noise(random),

@@ -1,9 +1,13 @@
-//! The lent memory: its banks, its cells, its flags and the store.
+//! The memory: its banks, its cells, its flags and the store, all on the old image; and the conversions to and from the packed one, which the library is lent.
 
 use super::value::{Fault, Kind, Value};
 
 pub const MEMORY_BYTES: usize = 3204;
 pub const FLAGS: usize = 3200;
+pub const PACKED_BYTES: usize = 3092;
+
+// The bytes of the bits in the old image: X, then C.
+const BITS: usize = 128;
 
 #[derive(Clone, Copy, PartialEq, Debug)]
 pub enum Bank {
@@ -41,6 +45,28 @@ impl Bank {
 
     pub fn start(self) -> usize {
         [0, 64, 128, 640, 1152, 2176][self as usize]
+    }
+}
+
+/// Eight bits to a byte, the lowest first; what stands behind the bits as it is.
+pub fn pack(old: &[u8]) -> Vec<u8> {
+    let (bits, rest) = old.split_at(BITS);
+    let byte = |bits: &[u8]| bits.iter().rev().fold(0, |byte, bit| byte << 1 | u8::from(*bit != 0));
+    bits.chunks(8).map(byte).chain(rest.iter().copied()).collect()
+}
+
+pub fn unpack(packed: &[u8]) -> Vec<u8> {
+    let (bytes, rest) = packed.split_at(BITS / 8);
+    let bits = bytes.iter().flat_map(|byte| (0..8).map(move |k| byte >> k & 1));
+    bits.chain(rest.iter().copied()).collect()
+}
+
+/// What the library is lent for an old image: the packed one; an image of any other size as it is.
+pub fn lent(old: &[u8]) -> Vec<u8> {
+    if old.len() == MEMORY_BYTES {
+        pack(old)
+    } else {
+        old.to_vec()
     }
 }
 

@@ -33,6 +33,18 @@ store-lines-requires-5 c κs = search needs
 store-lines-requires-6 : tie.Need-store-lines-requires-6
 store-lines-requires-6 c κs = search needs
 
+bit-lines-requires : tie.Need-bit-lines-requires
+bit-lines-requires c κs = search needs
+
+bit-lines-requires-2 : tie.Need-bit-lines-requires-2
+bit-lines-requires-2 c κs = search needs
+
+bit-lines-requires-3 : tie.Need-bit-lines-requires-3
+bit-lines-requires-3 c κs = search needs
+
+bit-lines-requires-4 : tie.Need-bit-lines-requires-4
+bit-lines-requires-4 c κs = search needs
+
 slice-aggregate-target : tie.Need-slice-aggregate-target
 slice-aggregate-target c = search needs
 
@@ -158,6 +170,10 @@ main-spec =
     store-lines-requires-4
     store-lines-requires-5
     store-lines-requires-6
+    bit-lines-requires
+    bit-lines-requires-2
+    bit-lines-requires-3
+    bit-lines-requires-4
     slice-aggregate-target
     target-requires
     slice-aggregate-target-2

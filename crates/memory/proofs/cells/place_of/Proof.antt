@@ -2,14 +2,14 @@
 use Prim.Native.Nat.{_+_, _*_, _≤_}
 use native.Mathlib.Omega.{arith}
 use borrow.Author.Needs.{needs}
-use Rattle.memory.proofs.Places.{cell-end}
+use Rattle.memory.proofs.Blocks.{place-end}
 use Rattle.memory.proofs.cells.place_of.Statement.{statement}
 use Rattle.memory.proofs.cells.place_of.Tie as tie
 
 -- ---- once the row is known
-row-end : (c : tie.After-layout-of) → c .layout-of .result .place + c .before .args .element * c .layout-of .result .width ≤ 3200
+row-end : (c : tie.After-layout-of) → c .layout-of .result .place + c .before .args .block * c .layout-of .result .width ≤ 3088
 row-end c =
-    let h = cell-end (c .before .args .bank) (c .before .args .element) (c .before .pre) in
+    let h = place-end (c .before .args .bank) (c .before .args .block) (c .before .pre) in
     rw (c .layout-of .ensures) (omega arith)
 
 layout-of-requires : tie.Need-layout-of-requires

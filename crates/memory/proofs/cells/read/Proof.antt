@@ -8,7 +8,7 @@ use borrow.Author.Tests.{not-true, not-false}
 use Rattle.values.specs.declared.Outcome.{Outcome}
 use Rattle.memory.specs.declared.Bank.{Bank}
 use Rattle.memory.specs.declared.Bank.the-variants.{X, C, «V», N, D, R}
-use Rattle.memory.specs.Layout.{bytewise, hasCell}
+use Rattle.memory.specs.Layout.{packed, hasCell}
 use Rattle.memory.specs.Cells.{cellValue, readRule}
 use Rattle.memory.proofs.cells.Arms as Arms
 use Rattle.memory.proofs.cells.read.Statement.{statement}
@@ -31,7 +31,7 @@ module _ (c : tie.Else1) where
   there : (a : Bank) → bank ≡ a → T (hasCell image a i)
   there a e = Arms.there image bank a i e has
 
-  reads : (a : Bank) {n : ℕ} {r : Outcome} → bank ≡ a → n ≡ bytewise .get image a i → r ≡ cellValue a n → r ≡ readRule image bank i
+  reads : (a : Bank) {n : ℕ} {r : Outcome} → bank ≡ a → n ≡ packed .get image a i → r ≡ cellValue a n → r ≡ readRule image bank i
   reads a e m v = Arms.reads image bank a i e has m v
 
 has-cell-requires : tie.Need-has-cell-requires

@@ -3,7 +3,8 @@ use native.Mathlib.Omega.{arith}
 use lib.ListN.{length}
 use borrow.Author.Needs.{needs}
 use borrow.Author.Tests.{eq-eqb, ne-eqb}
-use Rattle.memory.proofs.Places.{flag-end}
+use Rattle.memory.specs.Layout.{imageSize}
+use Rattle.memory.proofs.Blocks.{flag-end}
 use Rattle.memory.proofs.store.set_flag.Statement.{statement}
 use Rattle.memory.proofs.store.set_flag.Tie as tie
 
@@ -19,10 +20,10 @@ same-length : tie.Need-same-length
 same-length c = search needs
 
 returns : tie.Need-returns
-returns c = rw (c .flag-at .ensures, eq-eqb (length (c .before .before .before .args .image .now)) 3204 (c .before .if1 .taken))
+returns c = rw (c .flag-at .ensures, eq-eqb (length (c .before .before .before .args .image .now)) imageSize (c .before .if1 .taken))
 
 returns-2 : tie.Need-returns-2
-returns-2 c = rw (ne-eqb (length (c .before .before .args .image .now)) 3204 (c .if1 .left))
+returns-2 c = rw (ne-eqb (length (c .before .before .args .image .now)) imageSize (c .if1 .left))
 
 pub set-flag-spec : {M : Type 1} → statement M
 set-flag-spec =

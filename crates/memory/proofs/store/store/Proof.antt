@@ -10,6 +10,7 @@ use Rattle.memory.specs.declared.Bank.{Bank}
 use Rattle.memory.specs.declared.store.Encoded.{Encoded}
 use Rattle.memory.specs.Layout.{hasCell}
 use Rattle.memory.specs.Store.{encodeCell, writeCell, answerOf, storeAnswer, storeImage}
+use Rattle.memory.proofs.store.Encodings.{holdable}
 use Rattle.memory.proofs.store.store.Statement.{statement}
 use Rattle.memory.proofs.store.store.Tie as tie
 
@@ -55,7 +56,9 @@ enum-known-p : tie.Need-enum-known-p
 enum-known-p c = search needs
 
 put-requires : tie.Need-put-requires
-put-requires c κs = rw (has (c .before .before .before .before .before)) tt
+put-requires c κs =
+    let g = c .before .before .before .before .before in
+    (rw (has g) tt, holdable (bank g) (v g) _ (sym (c .before .before .before .before .pattern-of .ensures) ∙ c .before .before .p .given .1))
 
 enum-known-f : tie.Need-enum-known-f
 enum-known-f c = search needs

@@ -2,7 +2,7 @@
 use mathlib.Core.Path.{sym, _∙_}
 use borrow.Author.Needs.{needs}
 use Rattle.program.proofs.Names.{has-named}
-use Rattle.program.proofs.case.Settings.{no-name, no-form, set}
+use Rattle.program.proofs.case.Settings.{no-name, no-form, set, holdable}
 use Rattle.program.proofs.case.set_cell.Statement.{statement}
 use Rattle.program.proofs.case.set_cell.Tie as tie
 
@@ -39,7 +39,8 @@ put-requires : tie.Need-put-requires
 put-requires c κs =
     let a = c .before .before .before .before .before .before .before .before .before .before .before .before in
     let name = sym (c .before .before .before .before .before .before .before .before .cell-named .ensures) ∙ c .before .before .before .before .before .before .bank .given .1 in
-    has-named (a .args .memory .now) (a .args .key .now) (a .pre) name
+    let form = sym (c .before .before .n .given .1) ∙ c .before .before .before .before .pattern-of .ensures in
+    (has-named (a .args .memory .now) (a .args .key .now) (a .pre) name, holdable (a .args .value .now) form)
 
 same-length : tie.Need-same-length
 same-length c = search needs
