@@ -35,7 +35,7 @@ extern "C" {
 #define FORMULA_CODE_BYTES        16384u /* the least size of a code buffer to compile into */
 #define FORMULA_INSTRUCTION_BYTES 8u
 #define FORMULA_INSTRUCTIONS      2048u  /* the most that are accepted or compiled */
-#define FORMULA_STACK_BYTES       61440u /* the deepest call that was found takes 51,824 */
+#define FORMULA_STACK_BYTES       61440u /* the deepest call that was found takes 51,824, and a list 224 more */
 
 /* Where the banks and the fault flags stand in the memory. All numbers are little-endian. */
 #define FORMULA_X 0u    /* X0-X63, inputs, eight bits to a byte, the lowest first: formula_bit and formula_set_bit, below */
@@ -148,11 +148,31 @@ void formula_evaluate(const uint8_t *code, uint64_t code_len, uint64_t instructi
 
 /* Stores a value, as kind and bits of a report, into a target of the form that formula_run takes. Any kind but 0 is a real; one
  * that is infinite or NaN is 13 into any target, before the index is worked out. Where formula_evaluate
- * answers 0, this with its kind and bits, the same memory and tick, does what formula_run does, whose count is the sum of both. A fault
+ * answers 0, this with its kind and bits, the same memory and tick, does what formula_run does, whose count on 0 and 11 to 14 is the sum of both. A fault
  * of formula_evaluate sets no flag; formula_run would. Answers: 0, 1, 2, 11 to 15. */
 void formula_store(uint32_t kind, uint32_t bits, uint8_t *memory, uint64_t memory_len, const uint8_t *target,
                    uint64_t target_len, const uint8_t *index_code, uint64_t index_len, uint64_t index_instructions,
                    uint32_t tick, struct formula_report *report);
+
+/* ---- Lists of formulas, run in turn. */
+
+#define FORMULA_LONG_LIST 20
+#define FORMULA_LISTED 40 /* the most formulas of a list */
+
+/* The operation's own answer, 0 or 20, and that of each formula in turn; 0 in the places behind the last. */
+struct formula_answers {
+    uint32_t answer;
+    uint32_t answers[FORMULA_LISTED];
+};
+
+/* Runs each formula of a list as formula_compile_and_run does, on what those before it left, past their faults and refusals, all at one
+ * tick. Four words a formula: place and length of its target, place and length of its expression, in the lent texts. Words behind the last
+ * whole four are not looked at; bytes beyond the texts are not there. The code buffers hold what was compiled last. Two formulas next to
+ * each other may change places if their targets share no cell and neither reads the other's target by formula_cells; a target with an
+ * index stands for its whole bank. Answers: 0; 20 for a list over FORMULA_LISTED: then nothing is run or written, and all its answers are 0. */
+void formula_run_list(const uint32_t *places, uint64_t words, const uint8_t *texts, uint64_t texts_len, uint8_t *memory,
+                      uint64_t memory_len, uint8_t *code, uint64_t code_len, uint8_t *index_code, uint64_t index_len,
+                      uint32_t tick, struct formula_answers *result);
 
 /* ---- Files of cards: docs/CARDS.md has the form, examples/cards.c an example. */
 
@@ -204,7 +224,8 @@ void formula_salvage(const uint8_t *file, uint64_t file_len, uint8_t *kept, uint
 /* Which cells the first instructions of a code, and of a target's index code, read, whatever the memory holds: cells are numbered X0 0, C0 64, V0 128,
  * N0 384, D0 640, R0 896. Returns how many there are, at most 1,152; list gets the numbers of the first of them, rising, as many as fit, and its
  * rest is left alone. Bytes that are no instruction read nothing. For a formula that is not stored, index_instructions is 0. Two memories in which
- * these cells read alike give the same value, answer and count at the same tick, whatever else they hold. */
+ * these cells read alike, both of FORMULA_MEMORY_BYTES, give the same value, answer and count at the same tick, whatever else they hold. list_len
+ * counts places of the list, not bytes. */
 uint32_t formula_cells(const uint8_t *code, uint64_t code_len, uint64_t instructions, const uint8_t *index_code, uint64_t index_len,
                        uint64_t index_instructions, uint16_t *list, uint64_t list_len);
 
@@ -233,7 +254,7 @@ static inline const char *formula_answer_text(uint32_t answer)
 {
     switch (answer) {
     case FORMULA_DONE: return "done";
-    case FORMULA_BAD_MEMORY: return "the memory has not 3,092 bytes";
+    case FORMULA_BAD_MEMORY: return "the memory has not its size, 3,092 bytes";
     case FORMULA_BAD_TARGET: return "no C, V, N, D or R cell, nor indexed bank";
     case FORMULA_BAD_LENGTH: return "the expression is empty or has over 1,024 bytes";
     case FORMULA_BAD_BYTES: return "bytes that form no token";
@@ -251,6 +272,7 @@ static inline const char *formula_answer_text(uint32_t answer)
     case FORMULA_BAD_LINE: return "a line out of form or order";
     case FORMULA_BAD_CHECK: return "the check differs";
     case FORMULA_BAD_ORDER: return "the number is not above the one before";
+    case FORMULA_LONG_LIST: return "more than forty formulas in a list";
     default: return "no answer of this library";
     }
 }

@@ -1,6 +1,6 @@
 //! include/formula.h in Rust: the operations of the archive formula_c. Lengths have 64 bits there, as they have on this machine.
 
-use crate::reference::operations::Report;
+use crate::reference::operations::{Answers, Report};
 
 /// A card: its number, and the places and lengths of its texts.
 #[derive(Clone, Copy, PartialEq, Debug, Default)]
@@ -65,6 +65,10 @@ extern "C" {
     );
     pub fn formula_pack(old: *const u8, old_len: usize, image: *mut u8, image_len: usize) -> u32;
     pub fn formula_unpack(image: *const u8, image_len: usize, old: *mut u8, old_len: usize) -> u32;
+    pub fn formula_run_list(
+        places: *const u32, words: usize, texts: *const u8, texts_len: usize, memory: *mut u8, memory_len: usize,
+        code: *mut u8, code_len: usize, index_code: *mut u8, index_len: usize, tick: u32, result: *mut Answers,
+    );
     pub fn formula_cards_read(file: *const u8, file_len: usize, result: *mut Cards);
     pub fn formula_cards_write(
         texts: *const u8, texts_len: usize, cards: *const u32, words: usize, out: *mut u8, out_len: usize,

@@ -1,7 +1,7 @@
 //! The C library, called on buffers with guard bytes around them.
 
 use crate::header::*;
-use crate::reference::operations::Report;
+use crate::reference::operations::{Answers, Report, LISTED};
 
 const GUARD: usize = 24;
 const GUARD_BYTE: u8 = 0xA5;
@@ -118,6 +118,18 @@ pub fn store((kind, bits): (u32, u32), memory: &mut Lent, target: &Lent, index_c
         );
     }
     report
+}
+
+#[rustfmt::skip]
+pub fn run_list(words: &[u32], texts: &Lent, memory: &mut Lent, codes: [&mut Lent; 2], tick: u32) -> Answers {
+    let mut result = Answers { answer: 77, answers: [77; LISTED] };
+    let (texts, memory, [code, index]) = (texts.lend(), memory.lend_to_write(), codes.map(Lent::lend_to_write));
+    unsafe {
+        formula_run_list(
+            words.as_ptr(), words.len(), texts.0, texts.1, memory.0, memory.1, code.0, code.1, index.0, index.1, tick, &mut result,
+        );
+    }
+    result
 }
 
 pub fn cards_read(file: &Lent) -> Cards {

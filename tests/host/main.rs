@@ -6,6 +6,7 @@
 //!   host salvage [NUMBER [SEED]]  spoiled files of cards
 //!   host reads [NUMBER [SEED]]    the cells that random formulas, targets and codes read
 //!   host images [NUMBER [SEED]]   conversions of images, and every bit
+//!   host lists [NUMBER [SEED]]    lists of formulas, and pairs of them in both orders
 //!   host examples DOCUMENT...     the examples of the documents
 
 mod cards;
@@ -14,6 +15,7 @@ mod conversions;
 mod examples;
 mod header;
 mod library;
+mod lists;
 mod literals;
 mod random;
 mod reads;
@@ -31,6 +33,7 @@ use random::Random;
 const DEFAULT_CASES: u64 = 1_000_000;
 const DEFAULT_FILES: u64 = 20_000;
 const DEFAULT_FORMULAS: u64 = 100_000;
+const DEFAULT_LISTS: u64 = 20_000;
 const ANSWERS: usize = 16;
 
 #[derive(Default)]
@@ -50,6 +53,7 @@ fn main() {
         ["salvage", ref numbers @ ..] => random_salvage(numbers),
         ["reads", ref numbers @ ..] => random_reads(numbers),
         ["images", ref numbers @ ..] => random_images(numbers),
+        ["lists", ref numbers @ ..] => random_lists(numbers),
         _ => random_cases(&words),
     };
     if let Err(difference) = result {
@@ -87,6 +91,10 @@ fn random_reads(words: &[&str]) -> Result<(), String> {
 
 fn random_images(words: &[&str]) -> Result<(), String> {
     conversions::try_images(argument(words, 0, DEFAULT_FILES)?, argument(words, 1, clock())?)
+}
+
+fn random_lists(words: &[&str]) -> Result<(), String> {
+    lists::try_lists(argument(words, 0, DEFAULT_LISTS)?, argument(words, 1, clock())?)
 }
 
 fn random_cases(words: &[&str]) -> Result<(), String> {

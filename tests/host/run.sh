@@ -16,6 +16,7 @@ rustc --edition 2021 -O -L target/staticlib -o "$out/host" tests/host/main.rs
 "$out/host" salvage
 "$out/host" reads
 "$out/host" images
+"$out/host" lists
 
 # $1: the program to write, $2: its file, the rest: what it is linked with
 build_c() {
@@ -29,7 +30,7 @@ for archive in formula_c formula_bare; do
     "$out/remainder_$archive"
 done
 
-for example in recipe cards; do
+for example in recipe cards scan; do
     build_c "$example" "examples/$example.c" -lformula_c -lm
     build_c "${example}_bare" "examples/$example.c" -lformula_bare
     for program in "$example" "${example}_bare"; do

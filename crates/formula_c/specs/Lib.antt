@@ -1,3 +1,4 @@
 pub mod Words
 pub mod Cards
 pub mod Salvage
+pub mod Lists

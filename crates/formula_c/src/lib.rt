@@ -15,8 +15,9 @@ use values::Value;
 
 mod cards;
 pub mod cells;
-mod salvage;
 pub mod conversions;
+mod lists;
+mod salvage;
 
 fn kind_number(v: Value) -> u32
     ensures { λ r. ⌜ r ≡ kindWord v ⌝ }

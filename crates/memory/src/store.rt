@@ -90,7 +90,7 @@ pub fn set_flag(image: &mut [u8], f: Fault)
     }
 }
 
-// A fault sets its flag; otherwise only the cell's bytes change.
+// A fault sets its flag; otherwise only the cell changes.
 pub fn store(image: &mut [u8], bank: Bank, element: u32, v: Value) -> Stored
     ensures { λ r. ⌜ (r ≡ storeAnswer (now (image .entry)) bank element v) × (now (image .exit) ≡ storeImage (now (image .entry)) bank element v) ⌝ }
 {

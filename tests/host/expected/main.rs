@@ -3,6 +3,7 @@
 
 mod cards;
 mod codes;
+mod lists;
 mod literals;
 mod memory;
 mod reads;
@@ -59,6 +60,7 @@ fn all() -> Result<Vec<Expected>, String> {
     let (cards_in, cards_out) = cards::files();
     let (salvage_in, salvage_out) = salvage::files(&replies::stored("salvage/stdin")?);
     let (reads_in, reads_out) = reads::files();
+    let (lists_in, lists_out) = lists::files();
     Ok(vec![
         ("value_cases/stdout", values::lines().into()),
         ("literal_cases/stdout", literals::lines().into()),
@@ -71,6 +73,8 @@ fn all() -> Result<Vec<Expected>, String> {
         ("card_cases/stdout", cards_out.into()),
         ("read_cases/stdin", reads_in.into()),
         ("read_cases/stdout", reads_out.into()),
+        ("list_cases/stdin", lists_in),
+        ("list_cases/stdout", lists_out.into()),
         ("vector_cases/stdout", replies::of_list("vector_cases/stdin")?.into()),
         ("formula/stdout", replies::of_one("formula/stdin")?.into()),
         ("cards/stdout", replies::of_cards("cards/stdin")?.into()),

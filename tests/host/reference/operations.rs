@@ -237,6 +237,34 @@ pub fn compile_and_run(target: &[u8], expr: &[u8], memory: &mut [u8], codes: [&m
     settle(memory, to, outcome, tick)
 }
 
+/// The most formulas of a list.
+pub const LISTED: usize = 40;
+
+/// The words of the C structure: the operation's own answer, and one for each place of a list.
+#[derive(Clone, PartialEq, Debug)]
+#[repr(C)]
+pub struct Answers {
+    pub answer: u32,
+    pub answers: [u32; LISTED],
+}
+
+/// Formulas in turn, four words each: where in the texts its target and its expression begin, and how long they are.
+pub fn run_list(words: &[u32], texts: &[u8], memory: &mut [u8], codes: [&mut [u8]; 2], tick: u32) -> Answers {
+    let [code, index_code] = codes;
+    let text = |start: u32, length: u32| -> Vec<u8> { texts.iter().skip(start as usize).take(length as usize).copied().collect() };
+    let mut result = Answers { answer: 0, answers: [0; LISTED] };
+    let formulas = words.chunks_exact(4);
+    if formulas.len() > LISTED {
+        result.answer = 20;
+        return result;
+    }
+    for (answer, w) in result.answers.iter_mut().zip(formulas) {
+        let codes = [&mut *code, &mut *index_code];
+        *answer = compile_and_run(&text(w[0], w[1]), &text(w[2], w[3]), memory, codes, tick).answer;
+    }
+    result
+}
+
 /// As compile_and_run with good sizes, but worked out on the trees: it has no code and counts no instructions.
 pub fn walk(target: &[u8], expr: &[u8], memory: &mut [u8], tick: u32) -> Report {
     let target = target_of(target);

@@ -1,0 +1,4 @@
+pub mod Running
+pub mod Independence
+pub mod Theorems
+pub mod Needed

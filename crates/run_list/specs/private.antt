@@ -1,0 +1,2 @@
+-- For the contracts of private functions.
+pub mod Parts
