@@ -21,6 +21,7 @@ use Rattle.lines.proofs.Decimals.{text, text-of}
 use Rattle.lines.proofs.Patterns.{pattern-back}
 use Rattle.lines.proofs.Tests.{both, no}
 use Rattle.lines.proofs.forms.Integers.{picked}
+use Rattle.lines.proofs.forms.Hexadecimals as Hexadecimals
 use Rattle.lines.proofs.printing.Signs.{half-text}
 
 -- ---- a number without a sign
@@ -134,5 +135,13 @@ only N cs n r e = wide-only 16 (lit< tt) refl cs n e
 only D cs n r e = wide-only 32 (lit< tt) refl cs n e
 only R cs n r e = absurd (r refl)
 
+below : (b : Bank) (cs : List ℕ) (n : ℕ) → cellPattern b cs ≡ Pattern n → n < patterns b
+below X cs n e = natural-only 2 cs n e .below
+below C cs n e = natural-only 2 cs n e .below
+below «V» cs n e = natural-only 65536 cs n e .below
+below N cs n e = signed-only 32768 cs n e .below
+below D cs n e = signed-only 2147483648 cs n e .below
+below R cs n e = Hexadecimals.below cs n e
+
 pub form-laws : FormLaws
-form-laws = record { back = back; only = only }
+form-laws = record { back = back; only = only; below = below }

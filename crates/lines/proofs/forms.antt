@@ -1,3 +1,3 @@
 -- Laws for the proofs of forms.
 pub mod Integers
-mod Hexadecimals
+pub mod Hexadecimals

@@ -22,3 +22,5 @@ pub record FormLaws : Type 0 where
   pub back : (b : Bank) (n : ℕ) → n < patterns b → cellPattern b (cellText b n) ≡ Pattern n
   -- an integer is read in no other form than the printed one
   pub only : (b : Bank) (cs : List ℕ) (n : ℕ) → (b ≡ R → ⊥) → cellPattern b cs ≡ Pattern n → cs ≡ cellText b n
+  -- what is read is a pattern that the cell can be given
+  pub below : (b : Bank) (cs : List ℕ) (n : ℕ) → cellPattern b cs ≡ Pattern n → n < patterns b

@@ -1,6 +1,6 @@
 -- Eight hexadecimal digits make a pattern of 32 bits, and are read as a formula's. Assumes nothing.
 use mathlib.Core.Path.{_≡_, refl, sym, ap, subst, _∙_}
-use mathlib.Core.Bool.{Bool, true, false, cond, and-false}
+use mathlib.Core.Bool.{Bool, true, false, _&&_, cond, and-false}
 use mathlib.Core.List.{List, [], _∷_}
 use Prim.Native.Nat.{ℕ, suc, _+_, _-_, _*_, _^_, _≤_, _<_}
 use native.Mathlib.Nat.{lt-of-lt-of-le, mul-le-mul-right, mul-assoc, mul-one, one-mul, pow-succ'}
@@ -8,18 +8,19 @@ use native.Mathlib.Omega.{arith}
 use lib.Dec.{eqb, leb}
 use lib.ListN.{length, getD, take, drop, length-drop}
 use lib.Seq.{take-all}
-use borrow.Author.Tests.{leb-true, leb-false, lt-leb, eq-eqb, ne-eqb}
+use borrow.Author.Tests.{leb-true, leb-false, lt-leb, eq-eqb, ne-eqb, eqb-true}
 use Rattle.values.specs.declared.Value.the-variants.{Int}
 use Rattle.values.specs.Patterns.{signedOf}
 use Rattle.values.proofs.patterns.Readings.{low-signed}
 use Rattle.tokens.specs.declared.Token.the-variants.{Number}
 use Rattle.tokens.specs.declared.Scanned.the-variants.{Good, Bad}
 use Rattle.tokens.specs.Bytes.{all, isHex}
-use Rattle.tokens.specs.Numerals.{nonEmpty, hexDigit, hexFrom, hexOf}
+use Rattle.tokens.specs.Numerals.{nonEmpty, hexDigit, hexFrom, hexOf, isHexRun}
 use Rattle.lines.specs.declared.forms.Form.the-variants.{Pattern, Other}
 use Rattle.lines.specs.Forms.{hexForm}
 use Rattle.lines.specs.private.Steps.{scannedForm}
 use Rattle.lines.proofs.Tests.{both, no}
+use Rattle.lines.proofs.forms.Integers.{picked}
 
 -- ---- a digit is below 16
 beyond : (c : ℕ) → 102 < c → isHex c ≡ false
@@ -87,3 +88,10 @@ pub other-second : (s : List ℕ) → (getD s 1 0 ≡ 120 → ⊥) → Other ≡
 other-second [] n = refl
 other-second (c ∷ []) n = refl
 other-second (c ∷ d ∷ cs) n = rw (ne-eqb d 120 n, and-false)
+
+pub below : (cs : List ℕ) (n : ℕ) → hexForm cs ≡ Pattern n → n < 2 ^ 32
+below cs n e =
+    let h = picked (isHexRun cs && eqb (length cs) 10 && all isHex (drop 2 cs)) (hexFrom 0 (drop 2 cs)) n (sym e) in
+    let g = both (isHexRun cs && eqb (length cs) 10) (all isHex (drop 2 cs)) (h .0) in
+    let k = eqb-true (length cs) 10 (both (isHexRun cs) (eqb (length cs) 10) (g .0) .1) in
+    subst (λ (x : ℕ). x < 2 ^ 32) (h .1) (eight (drop 2 cs) (rw length-drop (omega (arith, k))) (g .1))
