@@ -8,4 +8,10 @@ if grep -q -e '^limit=' -e '^unread=' -e '^unwritten=' "$3"; then
     echo "$2 is not to be used" >&2
     exit 1
 fi
+# the kept bytes and those left out are the book's: else the list of what was left out is not whole
+left=$(sed -n 's/^length=//p' "$3" | awk '{ sum += $1 } END { print sum + 0 }')
+if [ "$(($(wc -c < "$2") + left))" -ne "$(wc -c < "$1")" ]; then
+    echo "$3 does not name all that was left out" >&2
+    exit 1
+fi
 "$here/formula" cards < "$2"

@@ -30,6 +30,9 @@ for archive in formula_c formula_bare; do
     "$out/remainder_$archive"
 done
 
+build_c bits tests/host/bits.c
+"$out/bits"
+
 for example in recipe cards scan; do
     build_c "$example" "examples/$example.c" -lformula_c -lm
     build_c "${example}_bare" "examples/$example.c" -lformula_bare

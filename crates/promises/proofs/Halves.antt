@@ -43,9 +43,12 @@ use Rattle.operations.specs.declared.Answer.the-variants.{Done, Fault, Refused}
 use Rattle.operations.specs.Operations.{Destination, cell, fault, lost, Arrival, arrival, arrivalOf, afterStore, arrivedAnswer, followAnswer, followMemory}
 use Rattle.operations.specs.Operations.{Goal, to, none, indexPasses, goalOf, goal, finished, memoryAfter, ranAnswer, ranMemory, runAnswer, runMemory}
 use Rattle.operations.specs.Operations.{valueAnswer, evaluateAnswer, kindWord, bitsOf, givenValue, givenGoalOf, gaveAnswer, gaveMemory, givenAnswer, givenMemory}
-use Rattle.operations.specs.Operations.{stores, request, requestAnswer, requestMemory}
+use Rattle.operations.specs.Operations.{compileTargetCode, stores, request, requestAnswer, requestMemory}
+use Rattle.promises.specs.Terms.{compiledCode}
+use Rattle.promises.specs.Promises.{textToRun, countToRun}
 use Rattle.promises.specs.Halves.{counted, Halves}
 use Rattle.promises.proofs.Finite.{finite-code}
+use Rattle.promises.proofs.Running.{desk-and-box}
 use Rattle.promises.proofs.Alone.{evaluate-wrong-memory, evaluate-wrong-code, evaluates, evaluates-formula, evaluate-listed}
 use Rattle.promises.proofs.Alone.{store-wrong-memory, store-bad-target, store-wrong-index, stores-given, stores-infinite}
 
@@ -158,6 +161,10 @@ halves = record {
         ∙ follow-counted m v (runsAt tick code′ (length (codeOf t)) m .count) (arrivalOf tick index′ m g),
     ap (requestMemory tick m) q ∙ ap (memoryAfter m (arrivalOf tick index′ m g)) d,
   );
+  request-halves = λ text code index tick {target} {m} {b} {e} {n} ready rc ri k q.
+      let a = desk-and-box tick ready text code code index index rc ri ri k in
+      let g = gives (compiledCode text code) (textToRun target e) (compileTargetCode index target) m n (countToRun e) tick q in
+      (sym (a .answer) ∙ g .0, sym (a .memory) ∙ g .1);
   reads-back = reads-back;
   evaluate-then-store = λ code target index m n k tick {v} {c} b h q.
       let x = runsAt tick code n m in

@@ -33,9 +33,10 @@ use Rattle.targets.specs.declared.Found.the-variants.{Other}
 use Rattle.targets.specs.Found.{foundToRun}
 use Rattle.operations.specs.declared.Answer.{Answer}
 use Rattle.operations.specs.declared.Answer.the-variants.{Done, Fault, Refused}
-use Rattle.operations.specs.Operations.{doneWith, checkAnswer, to, goal, runAnswer, runMemory, arrival, arrivalOf, indexPasses, followAnswer, followMemory}
+use Rattle.operations.specs.Operations.{doneWith, checkAnswer, compileTargetCode, to, goal, runAnswer, runMemory, arrival, arrivalOf, indexPasses, followAnswer, followMemory}
 use Rattle.operations.specs.Operations.{evaluateAnswer, kindWord, bitsOf, givenValue, givenAnswer, givenMemory, stores, request, requestAnswer, requestMemory}
-use Rattle.promises.specs.Terms.{compileAnswerOf, compiledCode, answerNumber, ReadyToRun, StoredOrFault}
+use Rattle.promises.specs.Terms.{compileAnswerOf, compiledCode, answerNumber, ReadyToRun, StoredOrFault, Ready, Room}
+use Rattle.promises.specs.Promises.{textToRun, countToRun}
 
 -- the counts of the two halves are added; a refusal has none
 abbrev pub counted : ℕ → Answer → Answer
@@ -95,6 +96,12 @@ pub record Halves : Type 0 where
       → let q = request target text m code index in
       (requestAnswer tick m q ≡ counted (runsAt tick code′ (length (codeOf t)) m .count) (followAnswer m v 0 (arrivalOf tick index′ m g)))
       × (requestMemory tick m q ≡ followMemory m v (arrivalOf tick index′ m g))
+  -- and so of the public halves: evaluate of the code that compile leaves, then store into the target with the index code that compile_target leaves
+  pub request-halves : (text code index : List ℕ) (tick : ℕ) {target m : List ℕ} {b : Bank} {e : Element} {n : ℕ} {v : Value} {c : ℕ} → Ready target m b e
+      → Room code → Room index → compileAnswerOf text code ≡ doneWith n → evaluateAnswer tick (compiledCode text code) n m ≡ Done v c X 0
+      → let q = request target text m code index in
+      (requestAnswer tick m q ≡ counted c (givenAnswer tick v (textToRun target e) (compileTargetCode index target) (countToRun e) m))
+      × (requestMemory tick m q ≡ givenMemory tick v (textToRun target e) (compileTargetCode index target) (countToRun e) m)
   -- a value that a run gives is what its kind and pattern say
   pub reads-back : (v : Value) → Proper v → givenValue (kindWord v) (bitsOf v) ≡ v
   -- so on a memory of bytes evaluate, then store of the kind and pattern that it reports, is run
