@@ -82,6 +82,15 @@ static void salvage(void) {
     formula_salvage(file, written.length, kept, sizeof kept, named, sizeof named, &salvaged);
 }
 
+/* A log of one run of that card, on a memory of its own. */
+static void replay(void) {
+    static const uint8_t log[] = {'r', 'u', 'n', '=', '1', '\n'};
+    static uint8_t night[FORMULA_MEMORY_BYTES], out[256];
+    static struct formula_replay_state state;
+    memset(&state, 0, sizeof state);
+    formula_replay(file, written.length, log, sizeof log, night, sizeof night, out, sizeof out, &state);
+}
+
 static void cells(void) {
     static uint16_t list[1152];
     formula_cells(code, sizeof code, count, index_code, 0, 0, list, 1152);
@@ -126,6 +135,7 @@ static struct measured measured[] = {
     {"formula_cards_write", cards_write, 0, ""},
     {"formula_cards_read", cards_read, 0, ""},
     {"formula_salvage", salvage, 0, ""},
+    {"formula_replay", replay, 0, ""},
     {"formula_cells", cells, 0, ""},
 };
 

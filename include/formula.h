@@ -13,7 +13,7 @@
  * Tick. The caller's counter of milliseconds, any 32 bits, which goes on from 0xFFFFFFFF to 0. TICKms() is this pattern and SINCE(x) the tick
  * less x, for the whole of a run; nothing is remembered from one call to the next.
  *
- * Stack. FORMULA_STACK_BYTES are enough for any call, by measurement.
+ * Stack. FORMULA_STACK_BYTES are enough for any call but formula_replay, for which FORMULA_REPLAY_STACK_BYTES are, by measurement.
  *
  * Floating point. It must round to nearest and keep subnormals: ask formula_float_mode_ok at the start, in each thread. A program
  * linked with -Ofast or -ffast-math flushes subnormals to zero from its start, which makes `R1 == 0` true for a subnormal R1;
@@ -36,6 +36,7 @@ extern "C" {
 #define FORMULA_INSTRUCTION_BYTES 8u
 #define FORMULA_INSTRUCTIONS      2048u  /* the most that are accepted or compiled */
 #define FORMULA_STACK_BYTES       61440u /* the deepest call that was found takes 51,952, and a list 224 more */
+#define FORMULA_REPLAY_STACK_BYTES 98304u /* 84,288 were found; each run of a card has its code buffers there */
 
 /* Where the banks and the fault flags stand in the memory. All numbers are little-endian. */
 #define FORMULA_X 0u    /* X0-X63, inputs, eight bits to a byte, the lowest first: formula_bit and formula_set_bit, below */
@@ -220,6 +221,21 @@ struct formula_salvaged {
  * neither is written. The bytes behind what is written are left alone. */
 void formula_salvage(const uint8_t *file, uint64_t file_len, uint8_t *kept, uint64_t kept_len, uint8_t *named,
                      uint64_t named_len, struct formula_salvaged *result);
+
+/* All 0 before the first call, then left alone: the byte of the log that is next, the tick, whether the replay is over, and the bytes
+ * that the last call wrote. */
+struct formula_replay_state {
+    uint64_t at, tick, done, written;
+};
+
+/* Replays a night's log (docs/CARDS.md) with a file of cards, from a memory of zeros and tick 0, in calls until done is 1: each goes on from at and
+ * writes to the front of out what the lines from there print, while 64 bytes of out are left. With out_len of 64 or more each call takes a line or is
+ * done. Every call reads the file again: lend 64 KiB, not 64 bytes. In this order: done not 0: nothing is written, and done is 1. out_len under 64:
+ * nothing. A memory of another size prints the two lines of answer 1, a refused file those of its refusal; done is 1, at and tick stay. Where at is 0
+ * the memory is filled with zeros, and the tick is 0. At the end of the log, or with an at beyond it, done is 1; a bad line prints the two lines of
+ * answer 16, and then done is 1 and at its first byte. Of tick the low 32 bits count. What ended the replay is in its text. */
+void formula_replay(const uint8_t *cards, uint64_t cards_len, const uint8_t *log, uint64_t log_len, uint8_t *memory,
+                    uint64_t memory_len, uint8_t *out, uint64_t out_len, struct formula_replay_state *state);
 
 /* Which cells the first instructions of a code, and of a target's index code, read, whatever the memory holds: cells are numbered X0 0, C0 64, V0 128,
  * N0 384, D0 640, R0 896. Returns how many there are, at most 1,152; list gets the numbers of the first of them, rising, as many as fit, and its

@@ -38,6 +38,16 @@ pub struct Salvaged {
     pub named: u64,
 }
 
+/// All 0 before the first call.
+#[derive(Clone, Copy, PartialEq, Debug, Default)]
+#[repr(C)]
+pub struct ReplayState {
+    pub at: u64,
+    pub tick: u64,
+    pub done: u64,
+    pub written: u64,
+}
+
 #[rustfmt::skip]
 #[link(name = "formula_c", kind = "static")]
 extern "C" {
@@ -77,6 +87,10 @@ extern "C" {
     pub fn formula_salvage(
         file: *const u8, file_len: usize, kept: *mut u8, kept_len: usize, named: *mut u8, named_len: usize,
         result: *mut Salvaged,
+    );
+    pub fn formula_replay(
+        cards: *const u8, cards_len: usize, log: *const u8, log_len: usize, memory: *mut u8, memory_len: usize,
+        out: *mut u8, out_len: usize, state: *mut ReplayState,
     );
     pub fn formula_cells(
         code: *const u8, code_len: usize, instructions: usize, index_code: *const u8, index_len: usize,

@@ -155,6 +155,12 @@ pub fn salvage(file: &Lent, kept: &mut Lent, named: &mut Lent) -> Salvaged {
     result
 }
 
+#[rustfmt::skip]
+pub fn replay(cards: &Lent, log: &Lent, memory: &mut Lent, out: &mut Lent, state: &mut ReplayState) {
+    let (cards, log, memory, out) = (cards.lend(), log.lend(), memory.lend_to_write(), out.lend_to_write());
+    unsafe { formula_replay(cards.0, cards.1, log.0, log.1, memory.0, memory.1, out.0, out.1, state) };
+}
+
 /// How many cells the two codes read; the list gets the numbers of the first of them.
 pub fn cells(code: Code, index_code: Code, list: &mut [u16]) -> u32 {
     let (n, k) = (code.instructions, index_code.instructions);

@@ -7,6 +7,7 @@
 //!   host reads [NUMBER [SEED]]    the cells that random formulas, targets and codes read
 //!   host images [NUMBER [SEED]]   conversions of images, and every bit
 //!   host lists [NUMBER [SEED]]    lists of formulas, and pairs of them in both orders
+//!   host replay [NUMBER [SEED]]   nights replayed in calls
 //!   host examples DOCUMENT...     the examples of the documents
 
 mod cards;
@@ -20,6 +21,7 @@ mod literals;
 mod random;
 mod reads;
 mod reference;
+mod replay;
 mod salvage;
 mod stop;
 
@@ -54,6 +56,7 @@ fn main() {
         ["reads", ref numbers @ ..] => random_reads(numbers),
         ["images", ref numbers @ ..] => random_images(numbers),
         ["lists", ref numbers @ ..] => random_lists(numbers),
+        ["replay", ref numbers @ ..] => random_replay(numbers),
         _ => random_cases(&words),
     };
     if let Err(difference) = result {
@@ -95,6 +98,10 @@ fn random_images(words: &[&str]) -> Result<(), String> {
 
 fn random_lists(words: &[&str]) -> Result<(), String> {
     lists::try_lists(argument(words, 0, DEFAULT_LISTS)?, argument(words, 1, clock())?)
+}
+
+fn random_replay(words: &[&str]) -> Result<(), String> {
+    replay::try_replay(argument(words, 0, DEFAULT_FILES)?, argument(words, 1, clock())?)
 }
 
 fn random_cases(words: &[&str]) -> Result<(), String> {

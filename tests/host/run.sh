@@ -17,6 +17,7 @@ rustc --edition 2021 -O -L target/staticlib -o "$out/host" tests/host/main.rs
 "$out/host" reads
 "$out/host" images
 "$out/host" lists
+"$out/host" replay
 
 # $1: the program to write, $2: its file, the rest: what it is linked with
 build_c() {
@@ -33,7 +34,7 @@ done
 build_c bits tests/host/bits.c
 "$out/bits"
 
-for example in recipe cards scan; do
+for example in recipe cards scan night; do
     build_c "$example" "examples/$example.c" -lformula_c -lm
     build_c "${example}_bare" "examples/$example.c" -lformula_bare
     for program in "$example" "${example}_bare"; do

@@ -49,7 +49,7 @@ fn field_at(s: &[u8], at: usize, key: &[u8]) -> Field
 }
 
 // 0 for a text that is that of no number from 1 to 64.
-fn card_number(text: &[u8]) -> u32
+pub fn card_number(text: &[u8]) -> u32
     ensures { λ r. ⌜ r ≡ cardNumber (now (text .entry)) ⌝ }
 {
     match memory::names::number_below(text, 65) {

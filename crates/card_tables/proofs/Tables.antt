@@ -89,8 +89,14 @@ module _ (pre r : List ℕ) (n : ℕ) (t e : List ℕ) where
 
   expr-size : length (pre ++ to-expr) ≡ length pre + exprAt (widthOf n) (length t)
   expr-size =
-      omega (arith, length-append pre to-expr, length-append to-target (t ++ (10 ∷ exprKey)), length-append t (10 ∷ exprKey),
-      length-append (cardLine n) (10 ∷ targetKey), line-width n)
+      omega (
+        arith,
+        length-append pre to-expr,
+        length-append to-target (t ++ (10 ∷ exprKey)),
+        length-append t (10 ∷ exprKey),
+        length-append (cardLine n) (10 ∷ targetKey),
+        line-width n,
+      )
 
 first-cards : (s pre : List ℕ) (cs : List Card) → s ≡ pre ++ cardsBytes cs → firstCards s (length cs) (cardsWords (length pre) cs) ≡ cs
 first-cards s pre [] h = refl
@@ -98,9 +104,9 @@ first-cards s pre (card n t e ∷ cs) h =
     let c = card n t e in
     let whole : s ≡ pre ++ cardBefore c (cardsBytes cs) = h ∙ ap (λ (x : List ℕ). pre ++ x) (bytes-before c (cardsBytes cs)) in
     let target = part-at s (pre ++ to-target pre (cardsBytes cs) n t e) t (behind pre (cardsBytes cs) n t e) (length pre + targetAt (widthOf n))
-        (whole ∙ at-target pre (cardsBytes cs) n t e) (sym (target-size pre (cardsBytes cs) n t e)) in
+    (whole ∙ at-target pre (cardsBytes cs) n t e) (sym (target-size pre (cardsBytes cs) n t e)) in
     let expr = part-at s (pre ++ to-expr pre (cardsBytes cs) n t e) e (last pre (cardsBytes cs) n t e) (length pre + exprAt (widthOf n) (length t))
-        (whole ∙ at-expr pre (cardsBytes cs) n t e) (sym (expr-size pre (cardsBytes cs) n t e)) in
+    (whole ∙ at-expr pre (cardsBytes cs) n t e) (sym (expr-size pre (cardsBytes cs) n t e)) in
     let rest = first-cards s (pre ++ cardBytes c) cs (h ∙ sym (append-assoc pre (cardBytes c) (cardsBytes cs))) in
     let more = firstCards s (length cs) (cardsWords (length pre + length (cardBytes c)) cs) in
     ap (λ (x : List ℕ). card n x (part s (length pre + exprAt (widthOf n) (length t)) (length e)) ∷ more) target
@@ -122,9 +128,15 @@ card-size : (n : ℕ) (t e : List ℕ) → length (cardBytes (card n t e)) ≡ 3
 unfolding checkText
 card-size n t e =
     let k = checkKey ++ checkText t e in
-    omega (arith, length-append (cardLine n) (10 ∷ ((targetKey ++ t) ++ 10 ∷ ((exprKey ++ e) ++ 10 ∷ (k ++ 10 ∷ [])))), line-width n,
-    length-append (targetKey ++ t) (10 ∷ ((exprKey ++ e) ++ 10 ∷ (k ++ 10 ∷ []))), length-append (exprKey ++ e) (10 ∷ (k ++ 10 ∷ [])),
-    length-append k (10 ∷ []), length-digits 10 5 (checkOf (checkedLines t e)))
+    omega (
+      arith,
+      length-append (cardLine n) (10 ∷ ((targetKey ++ t) ++ 10 ∷ ((exprKey ++ e) ++ 10 ∷ (k ++ 10 ∷ [])))),
+      line-width n,
+      length-append (targetKey ++ t) (10 ∷ ((exprKey ++ e) ++ 10 ∷ (k ++ 10 ∷ []))),
+      length-append (exprKey ++ e) (10 ∷ (k ++ 10 ∷ [])),
+      length-append k (10 ∷ []),
+      length-digits 10 5 (checkOf (checkedLines t e)),
+    )
 
 -- the most bytes of j cards, the last numbered 64
 abbrev most : ℕ → ℕ
@@ -146,8 +158,16 @@ bounded last j (next {cs = cs} (good-card {n} {t} {e} l b a) v) q =
     let rest : length (cardsBytes cs) ≤ most i = bounded n i v (omega arith) in
     let own : widthOf (64 - i) ≡ widthOf n = ap widthOf (let z : 64 - i ≡ n = omega arith in z) in
     let up : most (suc i) ≤ most j = most-rises (suc i) j (omega arith) in
-    omega (arith, length-append (cardBytes (card n t e)) (cardsBytes cs), card-size n t e, judge-laws .target-short t e a,
-    judge-laws .expr-short t e a, rest, own, up)
+    omega (
+      arith,
+      length-append (cardBytes (card n t e)) (cardsBytes cs),
+      card-size n t e,
+      judge-laws .target-short t e a,
+      judge-laws .expr-short t e a,
+      rest,
+      own,
+      up,
+    )
 
 longest : (s : List ℕ) (cs : List Card) → readCards formulaAnswer s ≡ good cs → length s ≤ 133239
 longest s cs h =

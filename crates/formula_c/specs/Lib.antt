@@ -2,3 +2,4 @@ pub mod Words
 pub mod Cards
 pub mod Salvage
 pub mod Lists
+pub mod Replay

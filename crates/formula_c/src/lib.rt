@@ -17,6 +17,7 @@ mod cards;
 pub mod cells;
 pub mod conversions;
 mod lists;
+mod replay;
 mod salvage;
 
 fn kind_number(v: Value) -> u32

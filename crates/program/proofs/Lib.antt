@@ -1,2 +1,2 @@
 -- Laws for the proofs of several modules.
-mod Names
+pub mod Names

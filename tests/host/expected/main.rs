@@ -7,6 +7,7 @@ mod lists;
 mod literals;
 mod memory;
 mod reads;
+mod replay;
 mod replies;
 mod salvage;
 mod texts;
@@ -61,6 +62,7 @@ fn all() -> Result<Vec<Expected>, String> {
     let (salvage_in, salvage_out) = salvage::files(&replies::stored("salvage/stdin")?);
     let (reads_in, reads_out) = reads::files();
     let (lists_in, lists_out) = lists::files();
+    let (replay_in, replay_out) = replay::files();
     Ok(vec![
         ("value_cases/stdout", values::lines().into()),
         ("literal_cases/stdout", literals::lines().into()),
@@ -80,6 +82,8 @@ fn all() -> Result<Vec<Expected>, String> {
         ("cards/stdout", replies::of_cards("cards/stdin")?.into()),
         ("salvage_cases/stdin", salvage_in),
         ("salvage_cases/stdout", salvage_out),
+        ("replay_cases/stdin", replay_in),
+        ("replay_cases/stdout", replay_out),
         ("salvage/stdout", replies::of_salvage("salvage/stdin")?),
         ("cells/stdout", replies::of_cells("cells/stdin")?.into()),
     ])

@@ -12,6 +12,7 @@ pub mod memory;
 pub mod operations;
 pub mod operators;
 pub mod program;
+pub mod replay;
 pub mod salvage;
 pub mod reads;
 pub mod target;

@@ -22,15 +22,17 @@ pub fn read_input(lines: &[u8]) -> Input {
         match key {
             b"target" => input.target = value.to_vec(),
             b"expr" => input.expr = value.to_vec(),
-            _ => set_cell(&mut input.memory, key, value),
+            // A line of any other form is skipped.
+            _ => _ = set_cell(&mut input.memory, key, value),
         }
     }
     input
 }
 
-fn set_cell(memory: &mut [u8], key: &[u8], value: &[u8]) {
-    let Some((bank, Some(element))) = cell_name(key) else { return };
-    let Ok(text) = std::str::from_utf8(value) else { return };
+/// Sets the cell that a key names; nothing where the key or the value has another form.
+pub fn set_cell(memory: &mut [u8], key: &[u8], value: &[u8]) -> Option<()> {
+    let (bank, Some(element)) = cell_name(key)? else { return None };
+    let text = std::str::from_utf8(value).ok()?;
     let value = match bank {
         Bank::R => pattern(text),
         Bank::X | Bank::C => integer(text, 0, 1),
@@ -38,15 +40,15 @@ fn set_cell(memory: &mut [u8], key: &[u8], value: &[u8]) {
         Bank::N => integer(text, -32768, 32767),
         Bank::D => integer(text, i32::MIN, i32::MAX),
     };
-    match value {
+    match value? {
         // A pattern is written as it stands: it may be an infinity or a NaN, which no store gives.
-        Some(Value::Real(r)) => {
+        Value::Real(r) => {
             let at = offset(bank, element);
             memory[at..at + 4].copy_from_slice(&r.to_bits().to_le_bytes());
         }
-        Some(value) => store(memory, (bank, element), value).expect("the value is in range"),
-        None => {}
+        value => store(memory, (bank, element), value).expect("the value is in range"),
     }
+    Some(())
 }
 
 // Exactly the form in which integers are printed, so no plus sign and no leading zero.
@@ -56,22 +58,32 @@ fn integer(text: &str, least: i32, greatest: i32) -> Option<Value> {
 }
 
 fn pattern(text: &str) -> Option<Value> {
+    pattern_bits(text).map(|bits| Value::Real(f32::from_bits(bits)))
+}
+
+/// `0x` and eight hexadecimal digits of either case.
+pub fn pattern_bits(text: &str) -> Option<u32> {
     let digits = text.strip_prefix("0x")?;
     if digits.len() != 8 || !digits.bytes().all(|b| b.is_ascii_hexdigit()) {
         return None;
     }
-    u32::from_str_radix(digits, 16).ok().map(|bits| Value::Real(f32::from_bits(bits)))
+    u32::from_str_radix(digits, 16).ok()
 }
 
 /// What the program prints for one case, at any tick.
 pub fn output(mut input: Input, operation: Operation, tick: u32) -> String {
     let (mut code, mut index_code) = (vec![0; CODE_BYTES], vec![0; CODE_BYTES]);
     let report = operation(&input.target, &input.expr, &mut input.memory, [&mut code, &mut index_code], tick);
-    let mut printed = format!("answer={}\nplace={}\n", report.answer, report.place);
+    printed(&report, &input.memory)
+}
+
+/// Answer and place, and the cell stored to.
+pub fn printed(report: &Report, memory: &[u8]) -> String {
+    let mut lines = format!("answer={}\nplace={}\n", report.answer, report.place);
     if report.answer == 0 {
-        printed += &cell_line(&input.memory, BANKS[report.bank as usize], report.element as usize);
+        lines += &cell_line(memory, BANKS[report.bank as usize], report.element as usize);
     }
-    printed
+    lines
 }
 
 fn cell_line(memory: &[u8], bank: Bank, element: usize) -> String {

@@ -1,0 +1,27 @@
+-- `replay_cases::call_into` is safe: a part of a buffer is as long as its end says.
+use mathlib.Core.Path.{sym}
+use lib.Seq.{length-take-le}
+use borrow.Author.Needs.{needs}
+use Rattle.replay_cases.proofs.call_into.Statement.{statement}
+use Rattle.replay_cases.proofs.call_into.Tie as tie
+
+slice-relend-prefix-replay : tie.Need-slice-relend-prefix-replay
+slice-relend-prefix-replay c = search needs
+
+slice-aggregate-replay : tie.Need-slice-aggregate-replay
+slice-aggregate-replay c = sym (length-take-le _ _ (c .before .before .before .before .before .before .pre))
+
+replay-requires : tie.Need-replay-requires
+replay-requires c κs = search needs
+
+same-length : tie.Need-same-length
+same-length c = search needs
+
+same-length-2 : tie.Need-same-length-2
+same-length-2 c = search needs
+
+returns : tie.Need-returns
+returns c = search needs
+
+pub call-into-spec : {M : Type 1} → statement M
+call-into-spec = tie.close (tie.spec slice-relend-prefix-replay slice-aggregate-replay replay-requires same-length same-length-2 returns)
