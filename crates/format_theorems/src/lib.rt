@@ -1,0 +1,1 @@
+// What formatting a formula promises (paper 02, request 10): the theorems.
