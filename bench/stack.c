@@ -196,15 +196,17 @@ static void measure_inputs(void) {
 
 int main(void) {
     for (size_t i = 0; i < sizeof memory; i++) {
-        if (scanf("%2hhx", &memory[i]) != 1) {
+        unsigned byte;
+        if (scanf("%2x", &byte) != 1) {
             fprintf(stderr, "no memory\n");
             return 1;
         }
+        memory[i] = (uint8_t)byte;
     }
     measure_inputs();
     measure_nested();
     for (size_t i = 0; i < OPERATIONS; i++) {
-        printf("%-24s %7zu bytes, deepest with %s\n", measured[i].name, measured[i].deepest, measured[i].by);
+        printf("%-24s %7lu bytes, deepest with %s\n", measured[i].name, (unsigned long)measured[i].deepest, measured[i].by);
     }
     return 0;
 }

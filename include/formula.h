@@ -1,7 +1,8 @@
 /* Formulas of the dosing controller: compile, check and run them. docs/LANGUAGE.md has the language, docs/ANSWERS.md the answers.
  *
- * Linking. `sh include/build.sh` makes two archives, for x86-64 only today. libformula_c.a wants -lm, for fmodf;
+ * Linking. `sh include/build.sh` makes two archives for x86-64. libformula_c.a wants -lm, for fmodf;
  * libformula_bare.a has formula_remainder in its place and wants no library. Beside that they call memset and memcpy alone.
+ * `sh controller/run.sh` makes archives for 32-bit controllers, of the same functions: lengths have 64 bits there too (docs/CONTROLLER.md).
  *
  * Buffers. Each is lent for the call only. One passed as const is never written. No pointer may be null, also where its length
  * is 0, and no two buffers of a call may overlap, the report included. Byte buffers
