@@ -1,28 +1,32 @@
 -- The order of the answers: 10 for the buffer, 3 for the length, then 4 to 6 for the tokens, then what the table says; and the copy of the draft.
-use mathlib.Core.Path.{_≡_, refl, sym, ap, _∙_}
-use mathlib.Core.Bool.{Bool, true, false, not, _&&_}
+use mathlib.Core.Path.{_≡_, refl, sym, ap, subst, _∙_}
+use mathlib.Core.Bool.{Bool, true, false, not, _&&_, cond}
 use mathlib.Core.List.{List, []}
 use Prim.Native.Nat.{ℕ, zero, suc, _*_, _≤_, _<_}
 use native.Mathlib.Omega.{arith}
-use lib.Dec.{leb}
+use lib.Dec.{eqb, leb}
 use lib.ListN.{length, take, getD, replicate}
 use lib.Seq.{sets}
-use borrow.Author.Tests.{lt-ltb, le-ltb, le-leb, leb-true, not-true, not-false}
+use borrow.Author.Tests.{lt-ltb, le-ltb, le-leb, leb-true, not-true, not-false, ne-eqb}
 use Rattle.tokens.proofs.Tests.{both}
-use Rattle.tokens.specs.Scan.{scan}
+use Rattle.tokens.specs.Scan.{Scan, tokens, wrong, scan}
 use Rattle.token_table.specs.declared.Filled.the-variants.{Good, Wrong}
-use Rattle.token_table.specs.private.Table.{listed, Fills, blank, TokenWords}
+use Rattle.token_table.specs.private.Table.{wordPlace, listed, Fills, blank, TokenWords}
 use Rattle.token_table.proofs.Laws.{filled-good, filled-wrong}
-use Rattle.grammar.specs.Tree.{Tree}
+use Rattle.grammar.specs.Tree.{Tree, Diagnostic, clear, at}
 use Rattle.grammar.specs.Parse.{parseFrom}
 use Rattle.text.specs.Judge.{Judgement, accepted, refused, judgeParse, judgeScan, judgeFrom}
 use Rattle.text.specs.Theorems.{Sized}
+use Rattle.profile_text.specs.Tokens.{realAt}
+use Rattle.profile_text.specs.Judge.{tokenDiagnostic, judgeUnless, judgeScanIn, judgeIn}
+use Rattle.profile_text.proofs.Judging.{full}
+use Rattle.real_tokens.specs.private.Words.{shown}
 use Rattle.tree_code.specs.Code.{codeOf}
 use Rattle.draft.specs.private.Draft.{wordBytes, putCode}
 use Rattle.draft.proofs.Putting.{words-put}
 use Rattle.compiler.specs.declared.Coded.{Coded}
 use Rattle.compiler.specs.declared.Coded.the-variants.{Done, Refused}
-use Rattle.compiler.specs.Compile.{compilingFrom, codedAnswer, codedBytes}
+use Rattle.compiler.specs.Compile.{inRoom, compiling, compilingIn, codedAnswer, codedBytes}
 use Rattle.compiler.specs.private.Reading.{Judged}
 use Rattle.compiler.proofs.Bytes.{words-encoded}
 use Rattle.compiler.proofs.Theorems.{compiled}
@@ -38,34 +42,67 @@ turned-down q = record { answer = rw q refl; code = λ t e. let z : _≡_ {A = �
 pub taken-up : {j : Judgement} {o o′ : List ℕ} {n : ℕ} (t : Tree) → j ≡ accepted t → n ≡ length (codeOf t) → o′ ≡ putCode o 0 (codeOf t) → Judged j o o′ (Done n)
 taken-up {o = o} t q l d = record { answer = rw q (ap Done l); code = λ u e. let one : t ≡ u = cc in d ∙ ap (λ (v : Tree). putCode o 0 (codeOf v)) one }
 
+-- ---- a word that was found, or 0
+pub shown-none : {w : ℕ} {e : Diagnostic} → w ≡ 0 → shown w ≡ e → clear ≡ e
+shown-none z q = ap shown (sym z) ∙ q
+
+pub shown-real : {w p : ℕ} {e : Diagnostic} → (w ≡ 0 → ⊥) → p ≡ wordPlace w → shown w ≡ e → realAt p ≡ e
+shown-real {w} n l q = let z : eqb w 0 ≡ false = ne-eqb w 0 n in let r : shown w ≡ realAt (wordPlace w) = rw z in ap realAt l ∙ (sym r ∙ q)
+
 -- ---- the tokens
-module _ (d : ℕ) {s : List ℕ} (h : Sized s) where
-  goes-on : judgeFrom d s ≡ judgeScan d s (scan s)
-  unfolding judgeFrom
+module _ (reals : Bool) (d : ℕ) {s : List ℕ} (h : Sized s) where
+  goes-on : judgeIn reals d s ≡ judgeScanIn reals d s (scan s)
+  unfolding judgeIn
   goes-on = rw (le-leb 1 (length s) (h .some), le-leb (length s) 1024 (h .short)) refl
 
-  pub all-read : {table o o′ : List ℕ} {a : Coded} → Fills (scan s) table Good → ((x : List ℕ) → length x ≡ length s → Judged (judgeParse x (parseFrom d (listed table))) o o′ a) → Judged (judgeFrom d s) o o′ a
-  unfolding judgeScan
-  all-read i f = rw (goes-on ∙ ap (judgeScan d s) (filled-good i)) (f s refl)
+  -- no real token was found, or it is not asked for
+  pub all-read : {table o o′ : List ℕ} {a : Coded} → Fills (scan s) table Good → clear ≡ tokenDiagnostic reals (listed table)
+      → ((x : List ℕ) → length x ≡ length s → Judged (judgeParse x (parseFrom d (listed table))) o o′ a)
+      → Judged (judgeIn reals d s) o o′ a
+  unfolding judgeScanIn judgeScan
+  all-read i n f = rw (goes-on ∙ ap (judgeScanIn reals d s) (filled-good i), sym n) (f s refl)
 
-  pub wrong-token : {table o o′ : List ℕ} {a p : ℕ} → Fills (scan s) table (Wrong a p) → Judged (judgeFrom d s) o o′ (Refused a p)
-  unfolding judgeScan
-  wrong-token i = turned-down (goes-on ∙ ap (judgeScan d s) (filled-wrong i))
+  pub real-token : {table o o′ : List ℕ} {p : ℕ} → Fills (scan s) table Good → realAt p ≡ tokenDiagnostic reals (listed table)
+      → Judged (judgeIn reals d s) o o′ (Refused 19 p)
+  unfolding judgeScanIn
+  real-token i n = turned-down (goes-on ∙ ap (judgeScanIn reals d s) (filled-good i) ∙ rw (sym n) refl)
+
+  pub wrong-token : {table o o′ : List ℕ} {a p : ℕ} → Fills (scan s) table (Wrong a p) → Judged (judgeIn reals d s) o o′ (Refused a p)
+  unfolding judgeScanIn
+  wrong-token i = turned-down (goes-on ∙ ap (judgeScanIn reals d s) (filled-wrong i))
+
+-- ---- what is accepted without reals is accepted with them
+accepted-unless : (e : Diagnostic) (j : Judgement) {t : Tree} → judgeUnless e j ≡ accepted t → j ≡ accepted t
+accepted-unless clear j q = q
+accepted-unless (at p a) j q = let z : _≡_ {A = ℕ} 0 1 = cc in absurd (omega arith)
+
+accepted-scan : (reals : Bool) (d : ℕ) (s : List ℕ) (z : Scan) {t : Tree} → judgeScanIn reals d s z ≡ accepted t → judgeScan d s z ≡ accepted t
+unfolding judgeScanIn judgeScan
+accepted-scan reals d s (tokens ts) q = accepted-unless (tokenDiagnostic reals ts) (judgeScan d s (tokens ts)) q
+accepted-scan reals d s (wrong a p) q = q
+
+accepted-full : (reals : Bool) (d : ℕ) (s : List ℕ) (t : Tree) → judgeIn reals d s ≡ accepted t → judgeFrom d s ≡ accepted t
+unfolding judgeIn judgeFrom
+accepted-full reals d s t q = by (leb 1 (length s) && leb (length s) 1024) q
+  where
+    by : (b : Bool) → cond b (judgeScanIn reals d s (scan s)) (refused 3 0) ≡ accepted t → cond b (judgeScan d s (scan s)) (refused 3 0) ≡ accepted t
+    by true q = accepted-scan reals d s (scan s) q
+    by false q = q
 
 -- ---- the copy of the draft: a formula has at most two instructions a byte
-module _ (d : ℕ) {s o o′ : List ℕ} (h : Sized s) where
-  module _ {n : ℕ} (x : Judged (judgeFrom d s) o o′ (Done n)) (room : 2 * length s ≤ length o) where
+module _ (reals : Bool) (d : ℕ) {s o o′ : List ℕ} (h : Sized s) where
+  module _ {n : ℕ} (x : Judged (judgeIn reals d s) o o′ (Done n)) (room : 2 * length s ≤ length o) where
     pub held : (n ≤ length o) × (n ≤ 2048)
-    held = go (judgeFrom d s) refl
+    held = go (judgeIn reals d s) refl
       where
-        go : (j : Judgement) → judgeFrom d s ≡ j → (n ≤ length o) × (n ≤ 2048)
-        go (accepted t) q = let l : Done n ≡ codedAnswer (accepted t) = x .answer ∙ ap codedAnswer q in let m : n ≡ length (codeOf t) = cc in (omega (arith, compiled d s t q .short), omega (arith, compiled d s t q .short, h .short))
+        go : (j : Judgement) → judgeIn reals d s ≡ j → (n ≤ length o) × (n ≤ 2048)
+        go (accepted t) q = let l : Done n ≡ codedAnswer (accepted t) = x .answer ∙ ap codedAnswer q in let m : n ≡ length (codeOf t) = cc in (omega (arith, compiled d s t (accepted-full reals d s t q) .short), omega (arith, compiled d s t (accepted-full reals d s t q) .short, h .short))
         go (refused a p) q = let l : Done n ≡ Refused a p = x .answer ∙ ap codedAnswer q in let z : _≡_ {A = ℕ} 0 1 = cc in absurd (omega arith)
 
-    pub copied : (code : List ℕ) {code′ : List ℕ} → code′ ≡ sets code 0 (wordBytes (take n o′)) → Told code (judgeFrom d s) (Done n) code′
-    copied code {code′} e = (x .answer, go (judgeFrom d s) refl)
+    pub copied : (code : List ℕ) {code′ : List ℕ} → code′ ≡ sets code 0 (wordBytes (take n o′)) → Told code (judgeIn reals d s) (Done n) code′
+    copied code {code′} e = (x .answer, go (judgeIn reals d s) refl)
       where
-        go : (j : Judgement) → judgeFrom d s ≡ j → code′ ≡ codedBytes code (judgeFrom d s)
+        go : (j : Judgement) → judgeIn reals d s ≡ j → code′ ≡ codedBytes code (judgeIn reals d s)
         go (accepted t) q =
             let l : Done n ≡ codedAnswer (accepted t) = x .answer ∙ ap codedAnswer q in
             let m : n ≡ length (codeOf t) = cc in
@@ -74,10 +111,10 @@ module _ (d : ℕ) {s o o′ : List ℕ} (h : Sized s) where
             (e ∙ ap (λ (ws : List ℕ). sets code 0 (wordBytes ws)) (rw (m, x .code t q) (words-put o (codeOf t) fits)) ∙ ap (sets code 0) (words-encoded (codeOf t)))
         go (refused a p) q = let l : Done n ≡ Refused a p = x .answer ∙ ap codedAnswer q in let z : _≡_ {A = ℕ} 0 1 = cc in absurd (omega arith)
 
-  pub not-written : (code : List ℕ) {a p : ℕ} → Judged (judgeFrom d s) o o′ (Refused a p) → Told code (judgeFrom d s) (Refused a p) code
-  not-written code {a} {p} x = (x .answer, go (judgeFrom d s) refl)
+  pub not-written : (code : List ℕ) {a p : ℕ} → Judged (judgeIn reals d s) o o′ (Refused a p) → Told code (judgeIn reals d s) (Refused a p) code
+  not-written code {a} {p} x = (x .answer, go (judgeIn reals d s) refl)
     where
-      go : (j : Judgement) → judgeFrom d s ≡ j → code ≡ codedBytes code (judgeFrom d s)
+      go : (j : Judgement) → judgeIn reals d s ≡ j → code ≡ codedBytes code (judgeIn reals d s)
       go (accepted t) q = let l : Refused a p ≡ codedAnswer (accepted t) = x .answer ∙ ap codedAnswer q in let z : _≡_ {A = ℕ} 0 1 = cc in absurd (omega arith)
       go (refused b r) q = rw q refl
 
@@ -88,22 +125,27 @@ module _ (s : List ℕ) where
       let (some, short) = both (leb 1 (length s)) (leb (length s) 1024) (sym e ∙ not-false b h) in
       record { some = leb-true 1 (length s) some; short = leb-true (length s) 1024 short }
 
-  pub not-sized : {b : Bool} → b ≡ (leb 1 (length s) && leb (length s) 1024) → not b ≡ true → (d : ℕ) → judgeFrom d s ≡ refused 3 0
-  unfolding judgeFrom
-  not-sized {b} e h d = rw (sym e ∙ not-true b h) refl
+  pub not-sized : {b : Bool} → b ≡ (leb 1 (length s) && leb (length s) 1024) → not b ≡ true → (reals : Bool) (d : ℕ) → judgeIn reals d s ≡ refused 3 0
+  unfolding judgeIn
+  not-sized {b} e h reals d = rw (sym e ∙ not-true b h) refl
 
 -- ---- the buffer
-module _ (d : ℕ) (s code : List ℕ) where
-  pub small : length code < 16384 → Told code (compilingFrom d (length code) s) (Refused 10 0) code
+module _ (reals : Bool) (d : ℕ) (s code : List ℕ) where
+  pub small : length code < 16384 → Told code (compilingIn reals d (length code) s) (Refused 10 0) code
   small h = rw (lt-ltb (length code) 16384 h) (refl, refl)
 
   -- a buffer that is large enough
   module _ (h : 16384 ≤ length code) where
-    pub enough : (a : Coded) (code′ : List ℕ) → Told code (judgeFrom d s) a code′ → Told code (compilingFrom d (length code) s) a code′
+    pub enough : (a : Coded) (code′ : List ℕ) → Told code (judgeIn reals d s) a code′ → Told code (compilingIn reals d (length code) s) a code′
     enough a code′ t = rw (le-ltb (length code) 16384 h) t
 
-    pub too-long : judgeFrom d s ≡ refused 3 0 → Told code (compilingFrom d (length code) s) (Refused 3 0) code
+    pub too-long : judgeIn reals d s ≡ refused 3 0 → Told code (compilingIn reals d (length code) s) (Refused 3 0) code
     too-long q = enough (Refused 3 0) code (rw q (refl, refl))
+
+-- with reals
+pub told-full : (s code : List ℕ) {a : Coded} {code′ : List ℕ} → Told code (compilingIn true 0 (length code) s) a code′
+    → Told code (compiling (length code) s) a code′
+told-full s code {a} {code′} t = subst (λ (j : Judgement). Told code (inRoom (length code) j) a code′) (full 0 s) t
 
 -- ---- a table without tokens
 pub no-tokens : (n : ℕ) → TokenWords (replicate n 0)

@@ -1,7 +1,7 @@
 -- What compiling does (paper 01): "compiling, with a code buffer under 16,384 bytes" is 10, before the text is looked at; "1 to 10 .. change nothing"; "Compile alone returns .. the number of instructions"; "code bytes past the last
 -- instruction keep what they held". proofs/Theorems.antt proves `CompileTheorems`.
 use mathlib.Core.Path.{_≡_}
-use mathlib.Core.Bool.{cond}
+use mathlib.Core.Bool.{Bool, cond}
 use mathlib.Core.List.{List, [], _∷_, _++_}
 use Prim.Native.Nat.{ℕ, _≤_}
 use lib.Dec.{ltb}
@@ -9,6 +9,7 @@ use lib.ListN.{length}
 use lib.Seq.{sets}
 use Rattle.grammar.specs.Tree.{Tree}
 use Rattle.text.specs.Judge.{Judgement, accepted, refused, judgeFrom}
+use Rattle.profile_text.specs.Judge.{judgeIn}
 use Rattle.code.specs.declared.Instr.{Instr}
 use Rattle.code.specs.Encode.{encode}
 use Rattle.code.specs.Instructions.{instructions}
@@ -22,9 +23,17 @@ unfoldable pub encodeAll : List Instr → List ℕ
 encodeAll [] = []
 encodeAll (i ∷ c) = encode i ++ encodeAll c
 
--- the judgement of a text for a buffer of so many bytes, with d brackets open before the text
+-- for a buffer of so many bytes, what becomes of a text with the judgement j
+abbrev pub inRoom : ℕ → Judgement → Judgement
+inRoom room j = cond (ltb room 16384) (refused 10 0) j
+
+-- the judgement of a text, with d brackets open before it
 abbrev pub compilingFrom : ℕ → ℕ → List ℕ → Judgement
-compilingFrom d room s = cond (ltb room 16384) (refused 10 0) (judgeFrom d s)
+compilingFrom d room s = inRoom room (judgeFrom d s)
+
+-- the same where reals are taken or not (paper 02, request 12)
+abbrev pub compilingIn : Bool → ℕ → ℕ → List ℕ → Judgement
+compilingIn reals d room s = inRoom room (judgeIn reals d s)
 
 -- the expression that an operation is given
 abbrev pub compiling : ℕ → List ℕ → Judgement

@@ -5,9 +5,10 @@ ghost use Prim.Native.Nat.{_*_, _<_, _≤_};
 ghost use lib.Dec.{leb};
 ghost use lib.ListN.{length};
 ghost use Rattle.token_table.specs.private.Table.{TokenWords};
-ghost use Rattle.text.specs.Judge.{judge, judgeFrom};
+ghost use Rattle.text.specs.Judge.{judge};
 ghost use Rattle.text.specs.Theorems.{Sized};
-ghost use Rattle.compiler.specs.Compile.{compiling, compilingFrom, codedAnswer, codedBytes};
+ghost use Rattle.profile_text.specs.Judge.{judgeIn};
+ghost use Rattle.compiler.specs.Compile.{compiling, compilingIn, codedAnswer, codedBytes};
 ghost use Rattle.compiler.specs.private.Reading.{Judged};
 use token_table::Filled;
 
@@ -36,14 +37,24 @@ fn is_sized(text: &[u8]) -> bool
     }
 }
 
-// A text of one to 1,024 bytes behind so many open brackets, read with a table lent for its tokens and a draft for its code.
-fn read(text: &[u8], opened: u8, table: &mut [u64], draft: &mut [u64]) -> Coded
+// "19, at the first real token"
+const REAL_TOKEN: u32 = 19;
+
+// A text of one to 1,024 bytes behind so many open brackets, read with a table lent for its tokens and a draft for its code. Where reals are not
+// taken, a real token is looked for before the grammar.
+fn read(text: &[u8], opened: u8, table: &mut [u64], draft: &mut [u64], reals: bool) -> Coded
     requires { ⌜ Sized (now text) × (length (now text) < length (now table)) × (length (now table) ≤ 1025) ⌝ }
     requires { ⌜ TokenWords (now table) ⌝ }
-    ensures { λ r. ⌜ Judged (judgeFrom opened (now (text .entry))) (now (draft .entry)) (now (draft .exit)) r ⌝ }
+    ensures { λ r. ⌜ Judged (judgeIn reals opened (now (text .entry))) (now (draft .entry)) (now (draft .exit)) r ⌝ }
 {
     match token_table::fill(text, table) {
-        Filled::Good => reader::formula(table, draft, text.len(), opened),
+        Filled::Good => {
+            let w = real_tokens::first_real(table, reals);
+            if w != 0 {
+                return Coded::Refused(REAL_TOKEN, token_table::place_of(w));
+            }
+            reader::formula(table, draft, text.len(), opened)
+        }
         Filled::Wrong(a, p) => Coded::Refused(a, p),
     }
 }
@@ -51,12 +62,12 @@ fn read(text: &[u8], opened: u8, table: &mut [u64], draft: &mut [u64]) -> Coded
 pub fn judge(text: &[u8]) -> Coded
     ensures { λ r. ⌜ r ≡ codedAnswer (judge (now (text .entry))) ⌝ }
 {
-    judge_from(text, 0)
+    judge_in(text, 0, true)
 }
 
 // The answer alone: nothing is written behind a draft's end, so that of a judgement has no room.
-pub fn judge_from(text: &[u8], opened: u8) -> Coded
-    ensures { λ r. ⌜ r ≡ codedAnswer (judgeFrom opened (now (text .entry))) ⌝ }
+pub fn judge_in(text: &[u8], opened: u8, reals: bool) -> Coded
+    ensures { λ r. ⌜ r ≡ codedAnswer (judgeIn reals opened (now (text .entry))) ⌝ }
 {
     if !is_sized(text) {
         return Coded::Refused(3, 0);
@@ -64,27 +75,28 @@ pub fn judge_from(text: &[u8], opened: u8) -> Coded
     let mut draft = [0u64; 0];
     if text.len() < 64 {
         let mut table = [0u64; 64];
-        return read(text, opened, &mut table, &mut draft);
+        return read(text, opened, &mut table, &mut draft, reals);
     }
     let mut table = [0u64; 1025];
-    read(text, opened, &mut table, &mut draft)
+    read(text, opened, &mut table, &mut draft, reals)
 }
 
 // The code of a formula, from a draft with room for two instructions a byte.
-fn compile_in(
+fn compile_with(
     text: &[u8],
     opened: u8,
     table: &mut [u64],
     draft: &mut [u64],
     code: &mut [u8],
+    reals: bool,
 ) -> Coded
     requires { ⌜ Sized (now text) × (length (now text) < length (now table)) × (length (now table) ≤ 1025) ⌝ }
     requires { ⌜ TokenWords (now table) ⌝ }
     requires { ⌜ (2 * length (now text) ≤ length (now draft)) × (16384 ≤ length (now code)) ⌝ }
-    ensures { λ r. ⌜ r ≡ codedAnswer (judgeFrom opened (now (text .entry))) ⌝ }
-    ensures { λ r. ⌜ now (code .exit) ≡ codedBytes (now (code .entry)) (judgeFrom opened (now (text .entry))) ⌝ }
+    ensures { λ r. ⌜ r ≡ codedAnswer (judgeIn reals opened (now (text .entry))) ⌝ }
+    ensures { λ r. ⌜ now (code .exit) ≡ codedBytes (now (code .entry)) (judgeIn reals opened (now (text .entry))) ⌝ }
 {
-    match read(text, opened, table, draft) {
+    match read(text, opened, table, draft, reals) {
         Coded::Done(n) => {
             copying::copy(draft, n, code);
             Coded::Done(n)
@@ -97,13 +109,13 @@ pub fn compile(text: &[u8], code: &mut [u8]) -> Coded
     ensures { λ r. ⌜ r ≡ codedAnswer (compiling (length (now (code .entry))) (now (text .entry))) ⌝ }
     ensures { λ r. ⌜ now (code .exit) ≡ codedBytes (now (code .entry)) (compiling (length (now (code .entry))) (now (text .entry))) ⌝ }
 {
-    compile_from(text, 0, code)
+    compile_in(text, 0, code, true)
 }
 
 // Most formulas are short: small arrays are quicker to clear.
-pub fn compile_from(text: &[u8], opened: u8, code: &mut [u8]) -> Coded
-    ensures { λ r. ⌜ r ≡ codedAnswer (compilingFrom opened (length (now (code .entry))) (now (text .entry))) ⌝ }
-    ensures { λ r. ⌜ now (code .exit) ≡ codedBytes (now (code .entry)) (compilingFrom opened (length (now (code .entry))) (now (text .entry))) ⌝ }
+pub fn compile_in(text: &[u8], opened: u8, code: &mut [u8], reals: bool) -> Coded
+    ensures { λ r. ⌜ r ≡ codedAnswer (compilingIn reals opened (length (now (code .entry))) (now (text .entry))) ⌝ }
+    ensures { λ r. ⌜ now (code .exit) ≡ codedBytes (now (code .entry)) (compilingIn reals opened (length (now (code .entry))) (now (text .entry))) ⌝ }
 {
     if code.len() < LEAST_CODE {
         return Coded::Refused(10, 0);
@@ -114,14 +126,14 @@ pub fn compile_from(text: &[u8], opened: u8, code: &mut [u8]) -> Coded
     if text.len() < 64 {
         let mut table = [0u64; 64];
         let mut draft = [0u64; 128];
-        return compile_in(text, opened, &mut table, &mut draft, code);
+        return compile_with(text, opened, &mut table, &mut draft, code, reals);
     }
     if text.len() < 256 {
         let mut table = [0u64; 256];
         let mut draft = [0u64; 512];
-        return compile_in(text, opened, &mut table, &mut draft, code);
+        return compile_with(text, opened, &mut table, &mut draft, code, reals);
     }
     let mut table = [0u64; 1025];
     let mut draft = [0u64; 2048];
-    compile_in(text, opened, &mut table, &mut draft, code)
+    compile_with(text, opened, &mut table, &mut draft, code, reals)
 }

@@ -1,7 +1,7 @@
 -- What is found of a target, and its index's code (paper 02, request 1): "A run takes the bank and the index code, checked like the other; a plain cell has none
 -- and keeps that buffer." "demand 3 holds for each code, the index within a good target being an accepted formula too". proofs/Theorems.antt proves `TargetTheorems`.
 use mathlib.Core.Path.{_≡_}
-use mathlib.Core.Bool.{_&&_, cond}
+use mathlib.Core.Bool.{Bool, true, false, _&&_, cond}
 use mathlib.Core.List.{List, [], _∷_}
 use Prim.Native.Nat.{ℕ, _<_}
 use lib.Dec.{leb}
@@ -17,6 +17,7 @@ use Rattle.grammar.specs.Tree.{Tree}
 use Rattle.text.specs.Judge.{accepted}
 use Rattle.text.specs.Theorems.{AcceptedFormula}
 use Rattle.text.specs.Targets.{Target, toCell, toIndexed, noTarget, storedBank, isEnclosed, indexText, targetOf}
+use Rattle.profile.specs.Parts.{realBank}
 use Rattle.tree_code.specs.Code.{codeOf}
 use Rattle.compiler.specs.Compile.{codedBytes}
 use Rattle.targets.specs.declared.Element.the-variants.{Is, By}
@@ -52,6 +53,15 @@ abbrev pub foundToRun : ℕ → List ℕ → Found
 foundToRun k [] = Other
 foundToRun k (c ∷ []) = byLetter k (storedBank (letterBank c))
 foundToRun k (c ∷ d ∷ cs) = byName (targetRule (c ∷ d ∷ cs))
+
+-- where reals are not taken (paper 02, request 12), "an R target .. is 2": an R cell, and the letter R
+abbrev pub takenFound : Bool → Found → Found
+takenFound true x = x
+takenFound false (In b e) = cond (realBank b) Other (In b e)
+takenFound false Other = Other
+
+abbrev pub runTargetIn : Bool → ℕ → List ℕ → Found
+runTargetIn reals k s = takenFound reals (foundToRun k s)
 
 pub record TargetTheorems : Type 0 where
   -- "the index within a good target being an accepted formula too"

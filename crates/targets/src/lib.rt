@@ -4,7 +4,10 @@ ghost use Prim.Native.Nat.{_≤_};
 ghost use lib.ListN.{length};
 ghost use Rattle.memory.specs.Names.{letterBank};
 ghost use Rattle.text.specs.Targets.{storedBank, indexedTarget, targetOf};
-ghost use Rattle.targets.specs.Found.{enclosedBank, foundOf, foundToRun, indexBytes};
+ghost use Rattle.profile_text.specs.Targets.{takenTarget, targetIn, bankIn};
+ghost use Rattle.targets.specs.declared.Element.the-variants.{Is};
+ghost use Rattle.targets.specs.declared.Found.the-variants.{In};
+ghost use Rattle.targets.specs.Found.{enclosedBank, foundOf, foundToRun, takenFound, runTargetIn, indexBytes};
 use compiler::Coded;
 use memory::Bank;
 use memory::names;
@@ -35,6 +38,31 @@ fn stored_bank(letter: u8) -> Letter
     }
 }
 
+// "an R target .. is 2" where reals are not taken.
+fn taken_bank(l: Letter, reals: bool) -> Letter
+    ensures { λ r. ⌜ r ≡ bankIn reals l ⌝ }
+{
+    if reals {
+        return l;
+    }
+    match l {
+        Letter::Of(bank) => match bank {
+            Bank::R => Letter::Other,
+            _ => Letter::Of(bank),
+        },
+        Letter::Other => Letter::Other,
+    }
+}
+
+fn to_cell(bank: Bank, element: u32, reals: bool) -> Found
+    ensures { λ r. ⌜ r ≡ takenFound reals (In bank (Is element)) ⌝ }
+{
+    match taken_bank(Letter::Of(bank), reals) {
+        Letter::Of(b) => Found::In(b, Element::Is(element)),
+        Letter::Other => Found::Other,
+    }
+}
+
 // The bank before a bracket that is closed at the end.
 fn enclosed_bank(target: &[u8]) -> Letter
     ensures { λ r. ⌜ r ≡ enclosedBank (now (target .entry)) ⌝ }
@@ -59,20 +87,27 @@ fn enclosed_bank(target: &[u8]) -> Letter
 pub fn judge(target: &[u8]) -> Found
     ensures { λ r. ⌜ r ≡ foundOf (targetOf (now (target .entry))) ⌝ }
 {
+    judge_in(target, true)
+}
+
+// The same where reals are taken or not.
+pub fn judge_in(target: &[u8], reals: bool) -> Found
+    ensures { λ r. ⌜ r ≡ foundOf (targetIn reals (now (target .entry))) ⌝ }
+{
     match names::target_of(target) {
-        Named::Cell(bank, element) => Found::In(bank, Element::Is(element)),
-        Named::Other => judge_indexed(target),
+        Named::Cell(bank, element) => to_cell(bank, element, reals),
+        Named::Other => judge_indexed(target, reals),
     }
 }
 
-fn judge_indexed(target: &[u8]) -> Found
-    ensures { λ r. ⌜ r ≡ foundOf (indexedTarget (now (target .entry))) ⌝ }
+fn judge_indexed(target: &[u8], reals: bool) -> Found
+    ensures { λ r. ⌜ r ≡ foundOf (takenTarget reals (indexedTarget (now (target .entry)))) ⌝ }
 {
-    let Letter::Of(bank) = enclosed_bank(target) else {
+    let Letter::Of(bank) = taken_bank(enclosed_bank(target), reals) else {
         return Found::Other;
     };
     let end = target.len() - 1;
-    match compiler::judge_from(&target[2..end], 1) {
+    match compiler::judge_in(&target[2..end], 1, reals) {
         Coded::Done(n) => Found::In(bank, Element::By(n)),
         Coded::Refused(_, _) => Found::Other,
     }
@@ -84,22 +119,30 @@ pub fn compile(target: &[u8], code: &mut [u8]) -> Found
     ensures { λ r. ⌜ r ≡ foundOf (targetOf (now (target .entry))) ⌝ }
     ensures { λ r. ⌜ now (code .exit) ≡ indexBytes (now (code .entry)) (targetOf (now (target .entry))) ⌝ }
 {
+    compile_in(target, code, true)
+}
+
+pub fn compile_in(target: &[u8], code: &mut [u8], reals: bool) -> Found
+    requires { ⌜ 16384 ≤ length (now code) ⌝ }
+    ensures { λ r. ⌜ r ≡ foundOf (targetIn reals (now (target .entry))) ⌝ }
+    ensures { λ r. ⌜ now (code .exit) ≡ indexBytes (now (code .entry)) (targetIn reals (now (target .entry))) ⌝ }
+{
     match names::target_of(target) {
-        Named::Cell(bank, element) => Found::In(bank, Element::Is(element)),
-        Named::Other => compile_indexed(target, code),
+        Named::Cell(bank, element) => to_cell(bank, element, reals),
+        Named::Other => compile_indexed(target, code, reals),
     }
 }
 
-fn compile_indexed(target: &[u8], code: &mut [u8]) -> Found
+fn compile_indexed(target: &[u8], code: &mut [u8], reals: bool) -> Found
     requires { ⌜ 16384 ≤ length (now code) ⌝ }
-    ensures { λ r. ⌜ r ≡ foundOf (indexedTarget (now (target .entry))) ⌝ }
-    ensures { λ r. ⌜ now (code .exit) ≡ indexBytes (now (code .entry)) (indexedTarget (now (target .entry))) ⌝ }
+    ensures { λ r. ⌜ r ≡ foundOf (takenTarget reals (indexedTarget (now (target .entry)))) ⌝ }
+    ensures { λ r. ⌜ now (code .exit) ≡ indexBytes (now (code .entry)) (takenTarget reals (indexedTarget (now (target .entry)))) ⌝ }
 {
-    let Letter::Of(bank) = enclosed_bank(target) else {
+    let Letter::Of(bank) = taken_bank(enclosed_bank(target), reals) else {
         return Found::Other;
     };
     let end = target.len() - 1;
-    match compiler::compile_from(&target[2..end], 1, code) {
+    match compiler::compile_in(&target[2..end], 1, code, reals) {
         Coded::Done(n) => Found::In(bank, Element::By(n)),
         Coded::Refused(_, _) => Found::Other,
     }
@@ -109,13 +152,19 @@ fn compile_indexed(target: &[u8], code: &mut [u8]) -> Found
 pub fn to_run(target: &[u8], k: usize) -> Found
     ensures { λ r. ⌜ r ≡ foundToRun k (now (target .entry)) ⌝ }
 {
+    to_run_in(target, k, true)
+}
+
+pub fn to_run_in(target: &[u8], k: usize, reals: bool) -> Found
+    ensures { λ r. ⌜ r ≡ runTargetIn reals k (now (target .entry)) ⌝ }
+{
     if target.len() != 1 {
         return match names::target_of(target) {
-            Named::Cell(bank, element) => Found::In(bank, Element::Is(element)),
+            Named::Cell(bank, element) => to_cell(bank, element, reals),
             Named::Other => Found::Other,
         };
     }
-    match stored_bank(target[0]) {
+    match taken_bank(stored_bank(target[0]), reals) {
         Letter::Of(bank) => Found::In(bank, Element::By(k)),
         Letter::Other => Found::Other,
     }

@@ -1,0 +1,5 @@
+pub mod Instructions
+pub mod Checking
+pub mod Machine
+pub mod Theorems
+pub mod Shown
