@@ -66,6 +66,15 @@ joined k low (b ∷ bs) h B =
     let fits : bitOr low (2 ^ k * b) < 2 ^ (k + 8) = rw (next, more) (omega arith) in
     rw (joined (k + 8) (bitOr low (2 ^ k * b)) bs fits (λ j. B (suc j)), next, more, mul-add, mul-assoc) (omega arith)
 
-pub fetch-joined : (s : List ℕ) (p : ℕ) → Bytes s → p < length s / 8 → joins 8 (getD s (8 * p) 0) (bytesAt (8 * p) 1 7 s) ≡ fetched s p
-fetch-joined s p B h =
-    rw (fetch-within s p h, eight-bytes s p h) (joined 8 (getD s (8 * p) 0) (bytesAt (8 * p) 1 7 s) (B _) (are-bytes (8 * p) 1 7 s B))
+module _ (s : List ℕ) where
+  pub four-joined : (b : ℕ) → Bytes s → b + 4 ≤ length s → joins 8 (getD s b 0) (bytesAt b 1 3 s) ≡ littleEndian (take 4 (drop b s))
+  four-joined b B h =
+      let each : take 4 (drop b s) ≡ getD s b 0 ∷ bytesAt b 1 3 s = rw add-zero at (one-by-one b 0 4 s (omega arith)) in
+      rw each (joined 8 (getD s b 0) (bytesAt b 1 3 s) (B _) (are-bytes b 1 3 s B))
+
+  -- of two halves
+  pub fetch-halves : (p : ℕ) → p < length s / 8
+      → littleEndian (take 4 (drop (8 * p) s)) + 2 ^ 32 * littleEndian (take 4 (drop (8 * p + 4) s)) ≡ fetched s p
+  fetch-halves p h =
+      let low : take 4 (drop (8 * p) s) ≡ getD s (8 * p) 0 ∷ bytesAt (8 * p) 1 3 s = rw add-zero at (one-by-one (8 * p) 0 4 s (omega arith)) in
+      rw (fetch-within s p h, eight-bytes s p h, low, one-by-one (8 * p) 4 4 s (omega arith)) (omega arith)

@@ -1,6 +1,8 @@
 // Instructions and their eight bytes. docs/INSTRUCTIONS.md is the page of them.
 ghost use mathlib.Core.Path.{_≡_};
-ghost use Prim.Native.Nat.{_<_};
+ghost use Prim.Native.Nat.{_+_, _<_, _≤_};
+ghost use lib.ListN.{length, take, drop};
+ghost use Rattle.words.specs.Words.{littleEndian};
 ghost use Rattle.code.specs.Instructions.{opcodeOf, wordOf, rangeBank, rangeFirst, rangeCount, fetched};
 ghost use Rattle.code.specs.Encode.{joinWord, joinRange};
 ghost use Rattle.code.specs.private.Classes.{singleClass, rangeClass, classOf, numberOf};
@@ -191,13 +193,23 @@ pub fn class_of(n: u64) -> Class
     Class::Unary
 }
 
-fn wide(b: u8) -> u64
+fn wide(b: u8) -> u32
     ensures { λ r. ⌜ (r ≡ b) × (r < 256) ⌝ }
 {
-    b as u64
+    b as u32
 }
 
-// The eight bytes at a place of the code as one number; 0 where the code does not reach. Joined by `|`, from the lowest on, they are one load.
+// The number of four bytes. Joined by `|`, from the lowest on, they are one load.
+fn four(code: &[u8], at: usize) -> u32
+    requires { ⌜ at + 4 ≤ length (now code) ⌝ }
+    ensures { λ r. ⌜ r ≡ littleEndian (take 4 (drop at (now (code .entry)))) ⌝ }
+{
+    let two = wide(code[at]) | 256 * wide(code[at + 1]);
+    two | 65536 * wide(code[at + 2]) | 16777216 * wide(code[at + 3])
+}
+
+// The eight bytes at a place of the code as one number; 0 where the code does not reach. Joined of two halves, they stay in two
+// registers of 32 bits.
 pub fn fetch(code: &[u8], place: usize) -> u64
     ensures { λ r. ⌜ r ≡ fetched (now (code .entry)) place ⌝ }
 {
@@ -205,8 +217,5 @@ pub fn fetch(code: &[u8], place: usize) -> u64
         return 0;
     }
     let at = 8 * place;
-    let two = wide(code[at]) | 256 * wide(code[at + 1]);
-    let four = two | 65536 * wide(code[at + 2]) | 16777216 * wide(code[at + 3]);
-    let six = four | 4294967296 * wide(code[at + 4]) | 1099511627776 * wide(code[at + 5]);
-    six | 281474976710656 * wide(code[at + 6]) | 72057594037927936 * wide(code[at + 7])
+    join(four(code, at), four(code, at + 4))
 }

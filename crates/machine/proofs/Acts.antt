@@ -1,11 +1,10 @@
 -- `act` as the code works it out, on the values held in an array: what an instruction leads to, and the step that the code makes of it.
-use mathlib.Core.Path.{_≡_, refl}
+use mathlib.Core.Path.{_≡_, refl, ap}
 use mathlib.Core.Bool.{Bool, true, false, cond, Bool·beq}
 use mathlib.Core.List.{List, _∷_}
-use Prim.Native.Nat.{ℕ, zero, suc, _-_, _^_, _≤_, _<_}
+use Prim.Native.Nat.{ℕ, zero, suc, _-_, _≤_, _<_}
 use native.Mathlib.Omega.{arith}
-use mathlib.Core.Logic.{⊎-elim}
-use lib.Dec.{ltb, lit<}
+use lib.Dec.{ltb}
 use lib.ListN.{getD}
 use borrow.Author.Tests.{le-ltb, ltb-true}
 use Rattle.values.specs.declared.Value.{Value}
@@ -17,55 +16,18 @@ use Rattle.memory.specs.Environment.{Environment, indexedCell}
 use Rattle.totals.specs.Totals.{totalOver, matchOver}
 use Rattle.code.specs.declared.Instr.{Instr}
 use Rattle.code.specs.declared.Instr.the-variants.{PushInt, PushReal, Load, LoadIndexed, Unary, Binary, Jump, JumpIf, Tick, Since, Total, Match, Unknown}
-use Rattle.words.specs.Laws.{Bytes}
-use Rattle.code.specs.Instructions.{decodeAt}
-use Rattle.code.specs.Encode.{Encodable, push-int, push-real, load, load-indexed, unary, binary, jump, jump-if, push-tick, since, total, matching}
-use Rattle.code.proofs.Laws.{decode-encodable}
 use Rattle.machine.specs.declared.Ended.the-variants.{Stopped, Stuck}
 use Rattle.machine.specs.declared.Step.{Step}
 use Rattle.machine.specs.Machine.{maxHeight, Next, goes, halts, pushValue, pushOutcome, act}
-use Rattle.machine.specs.private.Steps.{stuckStep, stopStep, skipStep, pushStep, pushOrStuck, taking, outcomeStep, givenStep, stepOf}
+use Rattle.machine.specs.private.Steps.{stuckStep, stopStep, skipStep, pushStep, pushOrStuck, taking, outcomeStep, givenStep, jumpStep, stepOf}
 use Rattle.machine.proofs.Held.{none, held, length-held}
 
 -- of h values in the array s
 pub data Leads (s : List Value) (h : ℕ) : Next → Step → Type 0 where
   push : (k : ℕ) (v : Value) → k ≤ h → k < maxHeight → Leads s h (goes 0 (v ∷ held k s)) (pushStep k v)
-  skip : (k d : ℕ) → k ≤ h → d < 2 ^ 32 → Leads s h (goes d (held k s)) (skipStep k d)
+  skip : (k d : ℕ) → k ≤ h → Leads s h (goes d (held k s)) (skipStep k d)
   stop : (f : Fault) → Leads s h (halts (Stopped f)) (stopStep f)
   stick : Leads s h (halts Stuck) stuckStep
-
--- how many instructions a jump skips
-abbrev pub distance : Instr → ℕ
-distance (PushInt z) = 0
-distance (PushReal x) = 0
-distance (Load b i) = 0
-distance (LoadIndexed b) = 0
-distance (Unary o) = 0
-distance (Binary o) = 0
-distance (Jump d) = d
-distance (JumpIf t d) = d
-distance Tick = 0
-distance Since = 0
-distance (Total o b i n) = 0
-distance (Match o b i n) = 0
-distance Unknown = 0
-
-near : {i : Instr} → Encodable i → distance i < 2 ^ 32
-near (push-int z t) = lit< tt
-near (push-real x t) = lit< tt
-near (load b e t) = lit< tt
-near (load-indexed b) = lit< tt
-near (unary o) = lit< tt
-near (binary o) = lit< tt
-near (jump d t) = t
-near (jump-if t d h) = h
-near push-tick = lit< tt
-near since = lit< tt
-near (total o b i n g) = lit< tt
-near (matching o b i n g) = lit< tt
-
-pub decoded-near : (code : List ℕ) (p : ℕ) → Bytes code → distance (decodeAt code p) < 2 ^ 32
-decoded-near code p B = ⊎-elim near (λ e. rw e (lit< tt)) (decode-encodable code p B)
 
 last : (h : ℕ) → suc h - 1 ≡ h
 last h = omega arith
@@ -83,9 +45,9 @@ module _ (s : List Value) (h : ℕ) where
   given-leads k (Outcome.Stopped f) p = stop f
   given-leads k Outcome.WrongKind p = stick
 
-  jump-leads : (k d : ℕ) (t : Bool) → k ≤ h → d < 2 ^ 32 → Leads s h (cond t (goes d (held k s)) (goes 0 (held k s))) (cond t (skipStep k d) (skipStep k 0))
-  jump-leads k d true p q = skip k d p q
-  jump-leads k d false p q = skip k 0 p (omega arith)
+  jump-leads : (k d : ℕ) (t : Bool) → k ≤ h → Leads s h (cond t (goes d (held k s)) (goes 0 (held k s))) (cond t (skipStep k d) (skipStep k 0))
+  jump-leads k d true p = skip k d p
+  jump-leads k d false p = skip k 0 p
 
   -- t of the values are taken, and k kept
   taken-leads : (k t : ℕ) (o : Outcome) → t ≤ h → k ≤ h → Leads s h (pushOutcome o (held k s)) (taking h t (outcomeStep k o))
@@ -95,28 +57,52 @@ module _ (E : Environment) (s : List Value) where
   one-leads : (h : ℕ) (f : Value → Outcome) → Leads s (suc h) (pushOutcome (f (getD s h none)) (held h s)) (givenStep (suc h) 1 (f (getD s (suc h - 1) none)))
   one-leads h f = rw (last h) (taken-leads s (suc h) h 1 (f (getD s h none)) (omega arith) (omega arith))
 
-  pub leads : (i : Instr) (h : ℕ) → distance i < 2 ^ 32 → Leads s h (act E i (held h s)) (stepOf E i h (getD s (h - 2) none) (getD s (h - 1) none))
+  pub leads : (i : Instr) (h : ℕ) → Leads s h (act E i (held h s)) (stepOf E i h (getD s (h - 2) none) (getD s (h - 1) none))
   unfolding act held
-  leads (PushInt z) h q = push-leads s h h _ (omega arith)
-  leads (PushReal x) h q = push-leads s h h _ (omega arith)
-  leads (Load c e) h q = given-leads s h h (E .cell c e) (omega arith)
-  leads (LoadIndexed c) zero q = stick
-  leads (LoadIndexed c) (suc h) q = one-leads h (indexedCell E c)
-  leads (Unary o) zero q = stick
-  leads (Unary o) (suc h) q = one-leads h (unaryRule o)
-  leads (Binary o) zero q = stick
-  leads (Binary o) (suc zero) q = stick
-  leads (Binary o) (suc (suc h)) q =
+  leads (PushInt z) h = push-leads s h h _ (omega arith)
+  leads (PushReal x) h = push-leads s h h _ (omega arith)
+  leads (Load c e) h = given-leads s h h (E .cell c e) (omega arith)
+  leads (LoadIndexed c) zero = stick
+  leads (LoadIndexed c) (suc h) = one-leads h (indexedCell E c)
+  leads (Unary o) zero = stick
+  leads (Unary o) (suc h) = one-leads h (unaryRule o)
+  leads (Binary o) zero = stick
+  leads (Binary o) (suc zero) = stick
+  leads (Binary o) (suc (suc h)) =
       let d : suc (suc h) - 2 ≡ h = omega arith in
       rw (d, last (suc h)) (taken-leads s (suc (suc h)) h 2 (binaryRule o (getD s h none) (getD s (suc h) none)) (omega arith) (omega arith))
-  leads (Jump d) h q = skip h d (omega arith) q
-  leads (JumpIf t d) zero q = stick
-  leads (JumpIf t d) (suc h) q =
-      rw (le-ltb (suc h) 1 (omega arith), last h) (jump-leads s (suc h) h d (Bool·beq (truthRule (getD s h none)) t) (omega arith) q)
-  leads Tick h q = push-leads s h h _ (omega arith)
-  leads Since zero q = stick
-  leads Since (suc h) q = one-leads h (sinceRule (E .tick))
-  leads (Total o b i n) h q = given-leads s h h (totalOver E o b i n .result) (omega arith)
-  leads (Match o b i n) zero q = stick
-  leads (Match o b i n) (suc h) q = one-leads h (λ v. matchOver E o v b i n .result)
-  leads Unknown h q = stick
+  leads (Jump d) h = skip h d (omega arith)
+  leads (JumpIf t d) zero = stick
+  leads (JumpIf t d) (suc h) =
+      rw (le-ltb (suc h) 1 (omega arith), last h) (jump-leads s (suc h) h d (Bool·beq (truthRule (getD s h none)) t) (omega arith))
+  leads Tick h = push-leads s h h _ (omega arith)
+  leads Since zero = stick
+  leads Since (suc h) = one-leads h (sinceRule (E .tick))
+  leads (Total o b i n) h = given-leads s h h (totalOver E o b i n .result) (omega arith)
+  leads (Match o b i n) zero = stick
+  leads (Match o b i n) (suc h) = one-leads h (λ v. matchOver E o v b i n .result)
+  leads Unknown h = stick
+
+-- a value that is not there to be taken does not matter
+module _ (E : Environment) {l l′ r r′ : Value} where
+  pub regardless : (i : Instr) (h : ℕ) → (2 ≤ h → l ≡ l′) → (1 ≤ h → r ≡ r′) → stepOf E i h l r ≡ stepOf E i h l′ r′
+  regardless (PushInt z) h p q = refl
+  regardless (PushReal x) h p q = refl
+  regardless (Load b i) h p q = refl
+  regardless (LoadIndexed b) zero p q = refl
+  regardless (LoadIndexed b) (suc h) p q = ap (λ (v : Value). givenStep (suc h) 1 (indexedCell E b v)) (q (omega arith))
+  regardless (Unary o) zero p q = refl
+  regardless (Unary o) (suc h) p q = ap (λ (v : Value). givenStep (suc h) 1 (unaryRule o v)) (q (omega arith))
+  regardless (Binary o) zero p q = refl
+  regardless (Binary o) (suc zero) p q = refl
+  regardless (Binary o) (suc (suc h)) p q = rw (p (omega arith), q (omega arith))
+  regardless (Jump d) h p q = refl
+  regardless (JumpIf t d) zero p q = refl
+  regardless (JumpIf t d) (suc h) p q = ap (λ (v : Value). jumpStep (suc h) v t d) (q (omega arith))
+  regardless Tick h p q = refl
+  regardless Since zero p q = refl
+  regardless Since (suc h) p q = ap (λ (v : Value). givenStep (suc h) 1 (sinceRule (E .tick) v)) (q (omega arith))
+  regardless (Total o b i n) h p q = refl
+  regardless (Match o b i n) zero p q = refl
+  regardless (Match o b i n) (suc h) p q = ap (λ (v : Value). givenStep (suc h) 1 (matchOver E o v b i n .result)) (q (omega arith))
+  regardless Unknown h p q = refl

@@ -10,13 +10,13 @@ use Rattle.values.specs.declared.Value.{Value}
 use Rattle.values.specs.declared.Value.the-variants.{Real}
 use Rattle.values.specs.declared.Outcome.{Outcome}
 use Rattle.operators.specs.declared.UnaryOp.{UnaryOp}
-use Rattle.operators.specs.declared.BinaryOp.{BinaryOp}
 use Rattle.operators.specs.declared.tables.UnaryOf.{UnaryOf}
 use Rattle.operators.specs.declared.tables.UnaryOf.the-variants as UnaryOf
 use Rattle.operators.specs.declared.tables.BinaryOf.{BinaryOf}
 use Rattle.operators.specs.declared.tables.BinaryOf.the-variants as BinaryOf
-use Rattle.operators.specs.Tables.{unaryOf, binaryOf}
+use Rattle.operators.specs.Tables.{unaryOf}
 use Rattle.operators.specs.Operators.{unaryRule, sinceRule, binaryRule, truthRule}
+use Rattle.operators.specs.private.Numbered.{binaryNumbered}
 use Rattle.memory.specs.declared.Bank.{Bank}
 use Rattle.memory.specs.declared.Layout.{Layout}
 use Rattle.memory.specs.Layout.{layoutOf}
@@ -25,7 +25,7 @@ use Rattle.memory.specs.declared.numbers.BankOf.the-variants as BankOf
 use Rattle.memory.specs.Numbers.{bankNumbered}
 use Rattle.memory.specs.Environment.{Environment, indexedCell}
 use Rattle.code.specs.declared.Instr.{Instr}
-use Rattle.code.specs.declared.Instr.the-variants.{Load, JumpIf, Since, Unknown}
+use Rattle.code.specs.declared.Instr.the-variants.{Load, Binary, JumpIf, Since, Unknown}
 use Rattle.code.specs.Instructions.{ifZero, pushReal, loadElement, loadIndexed, applySince}
 use Rattle.code.specs.private.Classes.{ofBank, ofUnary, ofBinary}
 use Rattle.code.proofs.Finite.{finite-pushed, special-unknown}
@@ -120,8 +120,10 @@ module _ (E : Environment) (h : ℕ) (l r : Value) where
   pub since-made : {y : Outcome} {x : Step} → 1 ≤ h → y ≡ sinceRule (E .tick) r → x ≡ outcomeStep (h - 1) y → x ≡ made (applySince 0)
   since-made = worked 1 (sinceRule (E .tick) r) {i = Since} {j = Since} refl refl
 
-  pub binary-made : (a : ℕ) (o : BinaryOp) {y : Outcome} {x : Step} → binaryOf a ≡ BinaryOf.Is o → 2 ≤ h → y ≡ binaryRule o l r → x ≡ outcomeStep (h - 2) y → x ≡ made (ofBinary (binaryOf a) 0)
-  binary-made a o e = worked 2 (binaryRule o l r) (ap (λ (u : BinaryOf). ofBinary u 0) e) refl
+  -- the operator of a number, which may be none
+  pub binary-made : (u : BinaryOf) {y : Outcome} {x : Step} → 2 ≤ h → y ≡ binaryNumbered u l r → x ≡ outcomeStep (h - 2) y → x ≡ made (ofBinary u 0)
+  binary-made (BinaryOf.Is o) p d e = worked 2 (binaryRule o l r) {i = Binary o} {j = Binary o} refl refl p d e
+  binary-made BinaryOf.Nothing p d e = e ∙ ap (outcomeStep (h - 2)) d
 
   -- ---- jumps, where b is the truth that the code finds
   module _ (t : Bool) (d : ℕ) {b : Bool} (enough : 1 ≤ h) (found : b ≡ truthRule r) where

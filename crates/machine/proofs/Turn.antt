@@ -2,15 +2,14 @@
 use mathlib.Core.Path.{_≡_, refl, sym, ap, _∙_, subst}
 use mathlib.Core.Logic.{⊎-elim}
 use mathlib.Core.List.{List, [], _∷_}
-use Prim.Native.Nat.{ℕ, suc, _+_, _-_, _^_, _≤_, _<_}
+use Prim.Native.Nat.{ℕ, suc, _+_, _-_, _≤_, _<_}
 use native.Mathlib.Nat.{add-zero}
 use native.Mathlib.Omega.{arith}
-use lib.Dec.{T, lit<}
+use lib.Dec.{T}
 use types.Run.{OneOf}
 use denote.Enum.Declared.{tagOf}
 use lib.ListN.{length, getD, set}
 use Rattle.values.specs.declared.Value.{Value}
-use Rattle.words.specs.Laws.{Bytes}
 use Rattle.memory.specs.Environment.{Environment}
 use Rattle.totals.specs.declared.Visited.{Visited}
 use Rattle.totals.specs.Numbers.{totalOf, matchOf}
@@ -27,10 +26,10 @@ use Rattle.machine.specs.Machine.{maxHeight, Next, act, cellsBegun, cost
 use Rattle.machine.specs.private.Steps.{outcomeStep, stepOf, totalVisit, matchVisit, onLast, failedAt}
 use Rattle.machine.proofs.How.{the-type}
 use Rattle.machine.proofs.Held.{none, held, held-push}
-use Rattle.machine.proofs.Acts.{Leads, push, skip, stop, stick, decoded-near, leads}
+use Rattle.machine.proofs.Acts.{Leads, push, skip, stop, stick, leads, regardless}
 use Rattle.machine.proofs.Laws.{begun-most, cost-is}
 use Rattle.machine.proofs.Bounds.{isPlain, plain-none, decode-cells}
-use Rattle.machine.proofs.Visits.{total-step, total-cells, match-step, match-cells}
+use Rattle.machine.proofs.Visits.{total-step, total-cells, match-step, match-cells, on-last}
 use Rattle.machine.proofs.Rest.{wholeRun, Left, stops, Stands, advances}
 
 -- at the place p, with h values of the array s held and k counted: the instruction leads to y, makes the step x, and k′ are counted after it
@@ -45,10 +44,11 @@ pub record Performed (E : Environment) (h : ℕ) (s : List Value) (w k k′ : �
   pub step : x ≡ stepOf E (instructionOf w) h (getD s (h - 2) none) (getD s (h - 1) none)
   pub count : k′ ≡ k + cost E (instructionOf w) (held h s)
 
--- c is the class of the number w, told to be d, and l and r are the places of the two values at the top
-by-class : (E : Environment) (h : ℕ) (s : List Value) (w : ℕ) {l r : ℕ} {c d : Class} {x : Step} → c ≡ classOf (opcodeOf w) → c ≡ d → l ≡ h - 2 → r ≡ h - 1
+-- c is the class of the number w, told to be d, and l and r are the places of the two values at the top, if they are there
+by-class : (E : Environment) (h : ℕ) (s : List Value) (w : ℕ) {l r : ℕ} {c d : Class} {x : Step} → c ≡ classOf (opcodeOf w) → c ≡ d → (2 ≤ h → l ≡ h - 2) → (1 ≤ h → r ≡ h - 1)
     → x ≡ stepOf E (instrIn d w) h (getD s l none) (getD s r none) → x ≡ stepOf E (instructionOf w) h (getD s (h - 2) none) (getD s (h - 1) none)
-by-class E h s w f g u v e = rw (number-class w, ← f, g, ← u, ← v) e
+by-class E h s w {d = d} f g u v e =
+    rw (number-class w, ← f, g) (e ∙ regardless E (instrIn d w) h (λ q. ap (λ (j : ℕ). getD s j none) (u q)) (λ q. ap (λ (j : ℕ). getD s j none) (v q)))
 
 -- an instruction that begins b cells
 counts : (E : Environment) (st : List Value) (w k : ℕ) {c d : Class} {b k′ : ℕ} → c ≡ classOf (opcodeOf w) → c ≡ d → b ≡ cellsBegun E (instrIn d w) st
@@ -59,7 +59,7 @@ counts E st w k {b = b} f g e q =
 
 -- a plain one begins none
 pub performed : (E : Environment) (h : ℕ) (s : List Value) (w : ℕ) {l r : ℕ} {c d : Class} {x : Step} {k k′ : ℕ} → c ≡ classOf (opcodeOf w) → c ≡ d → T (isPlain d)
-    → l ≡ h - 2 → r ≡ h - 1 → x ≡ stepOf E (instrIn d w) h (getD s l none) (getD s r none) → k′ ≡ k + 1 → Performed E h s w k k′ x
+    → (2 ≤ h → l ≡ h - 2) → (1 ≤ h → r ≡ h - 1) → x ≡ stepOf E (instrIn d w) h (getD s l none) (getD s r none) → k′ ≡ k + 1 → Performed E h s w k k′ x
 performed E h s w {d = d} {k = k} f g t u v e q =
     let none-begun : 0 ≡ cellsBegun E (instrIn d w) (held h s) =
     omega (arith, begun-most E (instrIn d w) (held h s), plain-none d (numberOf w) (wordOf w) t) in
@@ -72,50 +72,45 @@ module _ (E : Environment) (h : ℕ) (s : List Value) (w : ℕ) {c : Class} {x :
   totalled g e y q =
       let u = totalOf (numberOf w) in
       record {
-        step = by-class E h s w f g refl refl (y ∙ rw e (total-step E h (getD s (h - 2) none) (getD s (h - 1) none) u (wordOf w)));
+        step = by-class E h s w f g (λ p. refl) (λ p. refl) (y ∙ rw e (total-step E h (getD s (h - 2) none) (getD s (h - 1) none) u (wordOf w)));
         count = counts E (held h s) w k f g (rw e (total-cells E (held h s) u (wordOf w))) q;
       }
 
-  pub matched : {r j : ℕ} → c ≡ Class.Match → r ≡ h - 1 → v ≡ onLast h (matchVisit E (matchOf (numberOf w)) (getD s r none) (wordOf w)) → j ≡ h - 1
+  pub matched : {r j : ℕ} → c ≡ Class.Match → (1 ≤ h → r ≡ h - 1) → v ≡ onLast h (matchVisit E (matchOf (numberOf w)) (getD s r none) (wordOf w)) → j ≡ h - 1
       → x ≡ outcomeStep j (v .result) → k′ ≡ k + 1 + v .cells → Performed E h s w k k′ x
   matched g i e j y q =
       let u = matchOf (numberOf w) in
-      let is = rw i at e in
+      let is : v ≡ onLast h (matchVisit E u (getD s (h - 1) none) (wordOf w)) =
+      e ∙ on-last h (λ a. matchVisit E u a (wordOf w)) (λ p. ap (λ (m : ℕ). getD s m none) (i p)) in
       record {
-        step = by-class E h s w f g refl refl (y ∙ rw (j, is) (match-step E (wordOf w) h (getD s (h - 2) none) (getD s (h - 1) none) u));
+        step = by-class E h s w f g (λ p. refl) (λ p. refl) (y ∙ rw (j, is) (match-step E (wordOf w) h (getD s (h - 2) none) (getD s (h - 1) none) u));
         count = counts E (held h s) w k f g (rw is (match-cells E (wordOf w) s h u)) q;
       }
 
 -- w is the number of the instruction
 pub turn :
-    {E : Environment} {code : List ℕ} {n p k k′ w : ℕ} {x : Step} (h : ℕ) (s : List Value) → p < n → Stands E code n p (held h s) k → Bytes code → w ≡ fetched code p
+    {E : Environment} {code : List ℕ} {n p k k′ w : ℕ} {x : Step} (h : ℕ) (s : List Value) → p < n → Stands E code n p (held h s) k → w ≡ fetched code p
     → Performed E h s w k k′ x → Turn E code n p h s k k′ x
-turn {E} {code} {p = p} {w = w} h s c S B d e =
+turn {E} {code} {p = p} {w = w} h s c S d e =
     let is : decodeAt code p ≡ instructionOf w = rw d (decode-fetched code p) in
     record {
       in-code = c;
       rest = S .within (omega arith);
-      made = rw (e .step, ← is) (leads E s (decodeAt code p) h (decoded-near code p B));
+      made = rw (e .step, ← is) (leads E s (decodeAt code p) h);
       counted = rw is (e .count);
     }
 
 module _ {s : List Value} {h : ℕ} where
   low : {y : Next} {x : Step} → Leads s h y x → x .height ≤ h
   low (push k v p q) = p
-  low (skip k d p q) = p
+  low (skip k d p) = p
   low (stop f) = omega arith
   low stick = omega arith
-
-  near : {y : Next} {x : Step} → Leads s h y x → x .skip < 2 ^ 32
-  near (push k v p q) = lit< tt
-  near (skip k d p q) = q
-  near (stop f) = lit< tt
-  near stick = lit< tt
 
 module _ (E : Environment) (code : List ℕ) (n p : ℕ) (s : List Value) (k′ : ℕ) (x : Step) where
   -- what follows from how a step goes on
   abbrev pub Onward : How → Type 0
-  Onward How.Push = (x .height < maxHeight) × (length s ≡ maxHeight → Stands E code n (p + (1 + x .skip)) (held (x .height + 1) (set s (x .height) (x .value))) k′)
+  Onward How.Push = (x .height < maxHeight) × (length s ≡ maxHeight → Stands E code n (p + 1) (held (x .height + 1) (set s (x .height) (x .value))) k′)
   Onward How.Skip = Stands E code n (p + (1 + x .skip)) (held (x .height) s) k′
   Onward How.Stop = failedAt How.Stop (x .fault) k′ ≡ wholeRun E code n
   Onward How.Stuck = failedAt How.Stuck (x .fault) k′ ≡ wholeRun E code n
@@ -131,7 +126,7 @@ module _ {E : Environment} {code : List ℕ} {n p h : ℕ} {s : List Value} {k :
   leads-on : {y : Next} {x : Step} → p < n → Left E code n p (held h s) k → act E (decodeAt code p) (held h s) ≡ y → Leads s h y x
       → Onward E code n p s (k + cost E (decodeAt code p) (held h s)) x (x .how)
   leads-on c L a (push m v q r) = (r, λ l. rw (held-push m s v (omega arith)) (advances c L _ refl a))
-  leads-on c L a (skip m d q r) = advances c L _ refl a
+  leads-on c L a (skip m d q) = advances c L _ refl a
   leads-on c L a (stop f) = stops c L _ refl a
   leads-on c L a stick = stops c L _ refl a
 
@@ -152,6 +147,3 @@ module _ {E : Environment} {code : List ℕ} {n p h : ℕ} {s : List Value} {k :
 
     pub lower : x .height ≤ h
     lower = low (t .made)
-
-    pub nearer : x .skip < 2 ^ 32
-    nearer = near (t .made)

@@ -1,5 +1,5 @@
 -- What an instruction over a range comes to, as the code works it out: the step of its outcome, and the cells that it began. Any other begins none.
-use mathlib.Core.Path.{_≡_, refl}
+use mathlib.Core.Path.{_≡_, refl, ap}
 use mathlib.Core.Bool.{Bool, true, false, cond}
 use mathlib.Core.List.{List, [], _∷_}
 use Prim.Native.Nat.{ℕ, zero, suc, _-_, _≤_}
@@ -117,3 +117,8 @@ module _ (E : Environment) (w : ℕ) where
       by (MatchOf.Is o) =
           range-cells E (getD s h none ∷ held h s) (Match o) (matchOver E o (getD s h none)) (λ b i n. refl) (bankNumbered (rangeBank w)) (rangeFirst w) (rangeCount w)
       by MatchOf.Nothing = refl
+
+-- without a value there is nothing to compare with
+pub on-last : (h : ℕ) (f : Value → Visited) {a b : Value} → (1 ≤ h → a ≡ b) → onLast h (f a) ≡ onLast h (f b)
+on-last zero f q = refl
+on-last (suc h) f q = ap (λ (v : Value). onLast (suc h) (f v)) (q (omega arith))

@@ -1,7 +1,7 @@
 // The machine: instructions run on values held, a memory that they only read, and the tick.
 // An instruction is performed from the number of its eight bytes, without being made an `Instr` first: enums pass through memory.
 ghost use mathlib.Core.Path.{_≡_};
-ghost use Prim.Native.Nat.{_+_, _*_, _-_, _≤_};
+ghost use Prim.Native.Nat.{_+_, _*_, _-_, _≤_, _<_};
 ghost use Rattle.memory.specs.Environment.{memoryOf};
 ghost use Rattle.code.specs.declared.Instr.the-variants.{JumpIf};
 ghost use Rattle.code.specs.declared.Class.the-variants.{PushInt, PushReal, Jump, Tick, Since, Load, LoadIndexed, Unary, Binary};
@@ -17,8 +17,8 @@ use code::Class;
 use memory::Bank;
 use memory::numbers;
 use memory::numbers::BankOf;
+use operators::numbered;
 use operators::tables;
-use operators::tables::BinaryOf;
 use operators::tables::UnaryOf;
 use totals::MatchOp;
 use totals::TotalOp;
@@ -55,8 +55,8 @@ pub enum How {
 // the run stops with the fault (Stop). A struct, and not an enum with a value in each variant, stays in registers.
 pub struct Step {
     pub how: How,
-    pub height: usize,
-    pub skip: usize,
+    pub height: u32,
+    pub skip: u32,
     pub value: Value,
     pub fault: Fault,
 }
@@ -74,7 +74,7 @@ fn stuck_step() -> Step
 }
 
 // No more than 128 values are held.
-fn push_step(height: usize, value: Value) -> Step
+fn push_step(height: u32, value: Value) -> Step
     ensures { λ r. ⌜ r ≡ pushOrStuck height value ⌝ }
 {
     if 128 <= height {
@@ -89,7 +89,7 @@ fn push_step(height: usize, value: Value) -> Step
     }
 }
 
-fn skip_step(height: usize, skip: usize) -> Step
+fn skip_step(height: u32, skip: u32) -> Step
     ensures { λ r. ⌜ r ≡ skipStep height skip ⌝ }
 {
     Step {
@@ -115,7 +115,7 @@ fn stop_step(fault: Fault) -> Step
 
 // An outcome, where the first values are kept, as many as height says. Its value is made anew, since a copy of the whole would keep the
 // value of every step in memory.
-fn outcome_step(height: usize, o: Outcome) -> Step
+fn outcome_step(height: u32, o: Outcome) -> Step
     ensures { λ r. ⌜ r ≡ outcomeStep height o ⌝ }
 {
     match o {
@@ -130,7 +130,7 @@ fn outcome_step(height: usize, o: Outcome) -> Step
 
 // One function for each class of instruction, with w the number of its eight bytes and h values held. Whatever it does not look at may
 // be anything.
-fn push_int(w: u64, h: usize) -> Step
+fn push_int(w: u64, h: u32) -> Step
     ensures { λ x. ⌜ IsStep (instrIn PushInt w) h x ⌝ }
 {
     push_step(
@@ -139,7 +139,7 @@ fn push_int(w: u64, h: usize) -> Step
     )
 }
 
-fn push_real(w: u64, h: usize) -> Step
+fn push_real(w: u64, h: u32) -> Step
     ensures { λ x. ⌜ IsStep (instrIn PushReal w) h x ⌝ }
 {
     let word = code::word_of(w);
@@ -149,7 +149,7 @@ fn push_real(w: u64, h: usize) -> Step
     stuck_step()
 }
 
-fn load_from(bank: Bank, word: u32, image: &[u8], h: usize) -> Step
+fn load_from(bank: Bank, word: u32, image: &[u8], h: u32) -> Step
     ensures { λ x. ⌜ x ≡ bankStep (memoryOf (now (image .entry))) bank word h ⌝ }
 {
     if word < memory::layout_of(bank).elements {
@@ -160,7 +160,7 @@ fn load_from(bank: Bank, word: u32, image: &[u8], h: usize) -> Step
 }
 
 // An arm for each bank, so that a bank's layout is known where its cell is read.
-fn load(w: u64, image: &[u8], h: usize) -> Step
+fn load(w: u64, image: &[u8], h: u32) -> Step
     ensures { λ x. ⌜ IsLoad (now (image .entry)) (instrIn Load w) h x ⌝ }
 {
     let word = code::word_of(w);
@@ -176,7 +176,7 @@ fn load(w: u64, image: &[u8], h: usize) -> Step
 }
 
 // v is the last of h values, and left the one before it; where there are fewer, they may be anything.
-fn load_indexed(w: u64, image: &[u8], h: usize, v: Value) -> Step
+fn load_indexed(w: u64, image: &[u8], h: u32, v: Value) -> Step
     ensures { λ x. ⌜ IsLoadOn (now (image .entry)) (instrIn LoadIndexed w) h v x ⌝ }
 {
     if h < 1 {
@@ -191,7 +191,7 @@ fn load_indexed(w: u64, image: &[u8], h: usize, v: Value) -> Step
     }
 }
 
-fn unary(w: u64, h: usize, v: Value) -> Step
+fn unary(w: u64, h: u32, v: Value) -> Step
     ensures { λ x. ⌜ IsStepOn (instrIn Unary w) h v x ⌝ }
 {
     if h < 1 {
@@ -206,7 +206,7 @@ fn unary(w: u64, h: usize, v: Value) -> Step
     }
 }
 
-fn binary(w: u64, h: usize, left: Value, v: Value) -> Step
+fn binary(w: u64, h: u32, left: Value, v: Value) -> Step
     ensures { λ x. ⌜ IsStepOnBoth (instrIn Binary w) h left v x ⌝ }
 {
     if h < 2 {
@@ -215,33 +215,30 @@ fn binary(w: u64, h: usize, left: Value, v: Value) -> Step
     if code::word_of(w) != 0 {
         return stuck_step();
     }
-    match tables::binary_of(code::number_of(w)) {
-        BinaryOf::Is(o) => outcome_step(h - 2, operators::binary(o, left, v)),
-        BinaryOf::Nothing => stuck_step(),
-    }
+    outcome_step(h - 2, numbered::binary(code::number_of(w), left, v))
 }
 
-fn jump(w: u64, h: usize) -> Step
+fn jump(w: u64, h: u32) -> Step
     ensures { λ x. ⌜ IsStep (instrIn Jump w) h x ⌝ }
 {
-    skip_step(h, code::word_of(w) as usize)
+    skip_step(h, code::word_of(w))
 }
 
 // A jump if the truth of v is t. Each way returns at once: where the two join, the loop tests once more what kind of step it is.
-fn jump_if(w: u64, h: usize, v: Value, t: bool) -> Step
+fn jump_if(w: u64, h: u32, v: Value, t: bool) -> Step
     ensures { λ x. ⌜ IsStepOn (JumpIf t (wordOf w)) h v x ⌝ }
 {
     if h < 1 {
         return stuck_step();
     }
     if operators::truth(v) == t {
-        return skip_step(h - 1, code::word_of(w) as usize);
+        return skip_step(h - 1, code::word_of(w));
     }
     skip_step(h - 1, 0)
 }
 
 // The height is tested here already: where the ways out of `push_step` join those of a load, every load takes longer.
-fn push_tick(w: u64, h: usize, tick: u32) -> Step
+fn push_tick(w: u64, h: u32, tick: u32) -> Step
     ensures { λ x. ⌜ IsTick tick (instrIn Tick w) h x ⌝ }
 {
     if code::word_of(w) != 0 {
@@ -253,7 +250,7 @@ fn push_tick(w: u64, h: usize, tick: u32) -> Step
     push_step(h, Value::Int(values::patterns::from_pattern(tick)))
 }
 
-fn since(w: u64, h: usize, tick: u32, v: Value) -> Step
+fn since(w: u64, h: u32, tick: u32, v: Value) -> Step
     ensures { λ x. ⌜ IsTickOn tick (instrIn Since w) h v x ⌝ }
 {
     if h < 1 {
@@ -319,7 +316,7 @@ fn match_over(o: MatchOp, w: u64, image: &[u8], v: Value) -> Visited
 }
 
 // Compared with v, the last of h values.
-fn matching(w: u64, image: &[u8], h: usize, v: Value) -> Visited
+fn matching(w: u64, image: &[u8], h: u32, v: Value) -> Visited
     ensures { λ x. ⌜ IsVisit (now (image .entry)) (λ E. onLast h (matchVisit E (matchOf (numberOf w)) v (wordOf w))) x ⌝ }
 {
     if h < 1 {
@@ -353,11 +350,20 @@ fn failed(how: How, fault: Fault, count: usize) -> Ran
     }
 }
 
-// Where the k-th value from the top lies among h; the lowest place if there are fewer.
-fn from_top(h: usize, k: usize) -> usize
-    ensures { λ r. ⌜ r ≡ h - k ⌝ }
+// Where the k-th value from the top of h lies in the array; anywhere in it if there are fewer, since whoever asks then is stuck. A
+// remainder by 128 takes the place of a test.
+fn from_top(h: u32, k: u32) -> usize
+    requires { ⌜ (h ≤ 128) × (1 ≤ k) × (k ≤ 2) ⌝ }
+    ensures { λ r. ⌜ (k ≤ h → r ≡ h - k) × (r < 128) ⌝ }
 {
-    if h < k { 0 } else { h - k }
+    ((h + (128 - k)) % 128) as usize
+}
+
+// The values that are left of h when the last is taken.
+fn less_one(h: u32) -> u32
+    ensures { λ r. ⌜ r ≡ h - 1 ⌝ }
+{
+    if h < 1 { 0 } else { h - 1 }
 }
 
 fn min(a: usize, b: usize) -> usize
@@ -368,7 +374,7 @@ fn min(a: usize, b: usize) -> usize
 
 // Past the instructions that the code has: at the end of n of them, beyond it after a jump, or before it where the code has fewer and
 // the next is none. h values are held, and the first of them is v.
-fn finished(n: usize, place: usize, h: usize, v: Value, count: usize) -> Ran
+fn finished(n: usize, place: usize, h: u32, v: Value, count: usize) -> Ran
     requires { ⌜ (count ≤ (1 + maxCells) * place) × (n ≤ 2048) ⌝ }
     ensures { λ r. ⌜ r ≡ finishedAt n place h v count ⌝ }
 {
@@ -387,19 +393,20 @@ fn finished(n: usize, place: usize, h: usize, v: Value, count: usize) -> Ran
 }
 
 // The first n instructions of the code, from no values held. They are no more than the check takes, so that the count fits. Bytes beyond
-// the code are no instruction. A jump past the end leaves the loop as the end does, and is told from it afterwards. The match stands whole:
-// with some of its arms in a function of their own a run takes a tenth to a half more machine instructions.
+// the code are no instruction. A jump past the end leaves the loop as the end does, and is told from it afterwards; one that no code holds
+// is stuck at once, so that places, heights and counts fit 32 bits, as a controller's registers do. The match stands whole: with some of its
+// arms in a function of their own a run takes a tenth to a half more machine instructions.
 pub fn run(code: &[u8], n: usize, image: &[u8], tick: u32) -> Ran
     requires { ⌜ n ≤ 2048 ⌝ }
     ensures { λ r. ⌜ r ≡ runsAt tick (now (code .entry)) n (now (image .entry)) ⌝ }
 {
     let mut stack = [Value::Int(0); 128];
-    let mut h: usize = 0;
-    let mut place: usize = 0;
-    let mut count: usize = 0;
-    let there = min(n, code.len() / 8);
+    let mut h: u32 = 0;
+    let mut place: u32 = 0;
+    let mut count: u32 = 0;
+    let there = min(n, code.len() / 8) as u32;
     while place < there {
-        let w = code::fetch(code, place);
+        let w = code::fetch(code, place as usize);
         count += 1;
         let step = match code::class_of(w) {
             Class::PushInt => push_int(w, h),
@@ -415,31 +422,37 @@ pub fn run(code: &[u8], n: usize, image: &[u8], tick: u32) -> Ran
             Class::Binary => binary(w, h, stack[from_top(h, 2)], stack[from_top(h, 1)]),
             Class::Total => {
                 let visited = total(w, image);
-                count += visited.cells as usize;
+                count += visited.cells;
                 let result = visited.result;
                 outcome_step(h, result)
             }
             Class::Match => {
                 let visited = matching(w, image, h, stack[from_top(h, 1)]);
-                count += visited.cells as usize;
+                count += visited.cells;
                 let result = visited.result;
-                outcome_step(from_top(h, 1), result)
+                outcome_step(less_one(h), result)
             }
             Class::Unknown => stuck_step(),
         };
         h = step.height;
-        place += 1 + step.skip;
+        let skip = step.skip;
         let fault = step.fault;
         let how = step.how;
         match how {
             How::Push => {
                 let value = step.value;
-                stack[h] = value;
+                stack[h as usize] = value;
                 h += 1;
+                place += 1;
             }
-            How::Skip => {}
-            How::Stop | How::Stuck => return failed(how, fault, count),
+            How::Skip => {
+                if 2048 <= skip {
+                    return stuck(count as usize);
+                }
+                place += 1 + skip;
+            }
+            How::Stop | How::Stuck => return failed(how, fault, count as usize),
         }
     }
-    finished(n, place, h, stack[0], count)
+    finished(n, place as usize, h, stack[0], count as usize)
 }

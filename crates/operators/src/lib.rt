@@ -14,6 +14,7 @@ use values::ShiftOp;
 use values::Value;
 
 pub mod kinds;
+pub mod numbered;
 pub mod tables;
 
 // The operators whose two operands are both worked out: && and || are not among them.

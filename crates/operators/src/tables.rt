@@ -1,13 +1,9 @@
-// The operators by number: specs/Tables.antt. A match: a table would be copied at every use.
+// The operators by number: specs/Tables.antt. A match: a table would be copied at every use. The binary ones are worked out by number in
+// numbered.rt.
 ghost use mathlib.Core.Path.{_≡_};
-ghost use Rattle.operators.specs.Tables.{unaryOf, binaryOf};
+ghost use Rattle.operators.specs.Tables.{unaryOf};
 use crate::BinaryOp;
 use crate::UnaryOp;
-use reals::ArithOp;
-use values::BitOp;
-use values::ChoiceOp;
-use values::CompareOp;
-use values::ShiftOp;
 
 // Numbers of unary operators.
 pub const NEG: u8 = 0;
@@ -36,6 +32,7 @@ pub enum UnaryOf {
     Nothing,
 }
 
+// What `binaryOf` of the definitions gives.
 pub enum BinaryOf {
     Is(BinaryOp),
     Nothing,
@@ -54,33 +51,5 @@ pub fn unary_of(n: u8) -> UnaryOf
         ROUND => UnaryOf::Is(UnaryOp::Round),
         FRAC => UnaryOf::Is(UnaryOp::Frac),
         _ => UnaryOf::Nothing,
-    }
-}
-
-pub fn binary_of(n: u8) -> BinaryOf
-    ensures { λ r. ⌜ r ≡ binaryOf n ⌝ }
-{
-    match n {
-        0 => BinaryOf::Is(BinaryOp::Power),
-        1 => BinaryOf::Is(BinaryOp::Arith(ArithOp::Mul)),
-        2 => BinaryOf::Is(BinaryOp::Arith(ArithOp::Div)),
-        3 => BinaryOf::Is(BinaryOp::Arith(ArithOp::Rem)),
-        4 => BinaryOf::Is(BinaryOp::Arith(ArithOp::Add)),
-        5 => BinaryOf::Is(BinaryOp::Arith(ArithOp::Sub)),
-        6 => BinaryOf::Is(BinaryOp::Shift(ShiftOp::Left)),
-        7 => BinaryOf::Is(BinaryOp::Shift(ShiftOp::Right)),
-        8 => BinaryOf::Is(BinaryOp::Shift(ShiftOp::RightZero)),
-        9 => BinaryOf::Is(BinaryOp::Compare(CompareOp::Lt)),
-        10 => BinaryOf::Is(BinaryOp::Compare(CompareOp::Gt)),
-        11 => BinaryOf::Is(BinaryOp::Compare(CompareOp::Le)),
-        12 => BinaryOf::Is(BinaryOp::Compare(CompareOp::Ge)),
-        13 => BinaryOf::Is(BinaryOp::Compare(CompareOp::Eq)),
-        14 => BinaryOf::Is(BinaryOp::Compare(CompareOp::Ne)),
-        15 => BinaryOf::Is(BinaryOp::Bits(BitOp::And)),
-        16 => BinaryOf::Is(BinaryOp::Bits(BitOp::Xor)),
-        17 => BinaryOf::Is(BinaryOp::Bits(BitOp::Or)),
-        MAX => BinaryOf::Is(BinaryOp::Choice(ChoiceOp::Max)),
-        MIN => BinaryOf::Is(BinaryOp::Choice(ChoiceOp::Min)),
-        _ => BinaryOf::Nothing,
     }
 }

@@ -8,9 +8,6 @@ use Rattle.machine.proofs.jump.Tie as tie
 word-of-requires : tie.Need-word-of-requires
 word-of-requires c κs = search needs
 
-cast-skip-step : tie.Need-cast-skip-step
-cast-skip-step c = search needs
-
 skip-step-requires : tie.Need-skip-step-requires
 skip-step-requires c κs = search needs
 
@@ -18,4 +15,4 @@ returns : tie.Need-returns
 returns c = λ E l r. c .skip-step .ensures ∙ ap (skipStep (c .before .before .args .h)) (c .before .word-of .ensures)
 
 pub jump-spec : {M : Type 1} → statement M
-jump-spec = tie.close (tie.spec word-of-requires cast-skip-step skip-step-requires returns)
+jump-spec = tie.close (tie.spec word-of-requires skip-step-requires returns)

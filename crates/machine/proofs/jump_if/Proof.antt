@@ -21,9 +21,6 @@ truth-requires c κs = search needs
 word-of-requires : tie.Need-word-of-requires
 word-of-requires c κs = search needs
 
-cast-skip-step : tie.Need-cast-skip-step
-cast-skip-step c = search needs
-
 skip-step-requires : tie.Need-skip-step-requires
 skip-step-requires c κs = search needs
 
@@ -51,7 +48,6 @@ jump-if-spec =
     returns
     truth-requires
     word-of-requires
-    cast-skip-step
     skip-step-requires
     returns-2
     skip-step-requires-2
