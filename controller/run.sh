@@ -17,48 +17,52 @@ chosen() {
     case $only in *" $1 "*) return 0 ;; *) return 1 ;; esac
 }
 
-# LIBRARY TARGET NUMBERS, a line for each archive that was asked for
-archives() {
-    awk -F ' *[|] *' '!/^#/ { n = split($2, targets, " "); for (i = 1; i <= n; i++) print $1, targets[i], $3 }' controller/archives.txt |
-        while read -r library target numbers; do
-            ! chosen "$target" || echo "$library $target $numbers"
+# LIBRARY TARGET NUMBERS FIRMWARE, a line for each archive that was asked for
+list_archives() {
+    awk -F ' *[|] *' '!/^#/ { n = split($2, targets, " "); for (i = 1; i <= n; i++) print $1, targets[i], $3, $4 }' controller/archives.txt |
+        while read -r library target rest; do
+            ! chosen "$target" || echo "$library $target $rest"
         done
 }
 
-make_archives() {
-    have "rt" "everything is" || exit 1
-    for library in $(archives | cut -d ' ' -f 1 | sort -u); do
+keep_modules() {
+    have rt "everything is" || exit 1
+    for library in $(cut -d ' ' -f 1 "$out/archives" | sort -u); do
         echo "== $library is proved, and its module kept"
         sh controller/module/capture.sh "$library" > "$out/capture.out" 2>&1 || { tail -5 "$out/capture.out"; fail "$library"; exit 1; }
         grep '^logic=' "$out/capture.out"
     done
-    echo "== the archives"
-    archives > "$out/archives"
-    while read -r library target numbers; do
-        archive=$out/$target/lib$library.a
-        sh controller/module/archive.sh "$library" "$target" && sh controller/module/wants.sh "$target" "$archive" "$numbers" || fail "$archive"
-    done < "$out/archives"
 }
 
 # The calls that are replayed, and the scans that are counted, come from this machine.
 prepare() {
     echo "== calls recorded on this machine"
-    ! have "rustc cc ar objcopy" "replays and counts are" || {
-        sh controller/calls/record.sh || fail "recording"
-        rustc --edition 2021 -O -L target/staticlib -o "$out/bench" bench/main.rs && "$out/bench" inputs > "$out/inputs" || fail "the scans"
-    }
+    have "rustc cc ar objcopy" "replays and counts are" || return
+    sh controller/calls/record.sh || fail "recording"
+    rustc --edition 2021 -O -L target/staticlib -o "$out/bench" bench/main.rs || { fail "bench/main.rs"; return; }
+    "$out/bench" inputs > "$out/inputs" || fail "the scans"
 }
 
-test_target() {
-    echo "== $1"
-    have "$(target_words "$1" 3) $(target_words "$1" 5)" "the board's tests on $1 are" || return
-    sh controller/board/test.sh "$1" || fail "tests on $1"
-    sh controller/board/firmware.sh "$1" || fail "the firmware on $1"
-    sh controller/count/count.sh "$1" || fail "counting on $1"
+# $1: library, $2: target, $3: numbers, $4: firmware
+make_and_test() {
+    echo "== $1 on $2"
+    sh controller/module/archive.sh "$1" "$2" || { fail "the archive of $1 for $2"; return; }
+    sh controller/module/wants.sh "$2" "$out/$2/lib$1.a" "$3" || fail "what $1 wants on $2"
+    case $2 in
+    wasm32) test_web ;;
+    *) test_board "$1" "$2" "$4" ;;
+    esac
+}
+
+test_board() {
+    have "$(target_tool "$2" cross) $(target_tool "$2" board)" "the board's tests on $2 are" || return
+    sh controller/board/firmware.sh "$2" "$1" "$3" || fail "examples/$3.c on $2"
+    [ "$1" = formula_c ] || return
+    sh controller/board/test.sh "$2" || fail "tests on $2"
+    sh controller/count/count.sh "$2" || fail "counting on $2"
 }
 
 test_web() {
-    echo "== the web"
     sh controller/web/build.sh || { fail "formula.wasm"; return; }
     wc -c "$out/web/formula.wasm"
     have node "the test of formula.wasm is" || return
@@ -68,17 +72,18 @@ test_web() {
     node controller/web/test.mjs "$PWD/$out/web" crates/vector_cases/stdin crates/vector_cases/stdout $calls || fail "formula.wasm"
 }
 
-make_archives
-prepare
-for target in $(awk '$1 == "formula_c" { print $2 }' "$out/archives"); do
-    case $target in
-    wasm32) test_web ;;
-    *) test_target "$target" ;;
-    esac
-done
-if chosen m4f && have "arm-none-eabi-gcc qemu-system-arm" "the controls are"; then
+test_controls() {
+    have "arm-none-eabi-gcc qemu-system-arm" "the controls are" || return
     echo "== controls: each mistake must be noticed"
     sh controller/board/controls.sh || fail "a control"
-fi
+}
+
+list_archives > "$out/archives"
+keep_modules
+prepare
+while read -r library target numbers firmware; do
+    make_and_test "$library" "$target" "$numbers" "$firmware" < /dev/null
+done < "$out/archives"
+! chosen m4f || test_controls
 [ "$failed" -ne 0 ] || echo "all targets as on x86-64"
 exit "$failed"

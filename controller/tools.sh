@@ -19,12 +19,25 @@ have() {
     done
 }
 
-# The rows of targets.txt: NAME | words for clang | ..
-target_names() {
-    awk -F ' *[|] *' '!/^#/ { print $1 }' controller/targets.txt
+# Writes what header.awk makes of include/formula.h for the functions of an archive. $1: what, $2: the archive
+from_header() {
+    names=$("$(kit_tool llvm-nm)" --defined-only "$2" 2> /dev/null | awk 'NF == 3 && $2 == "T" { print $3 }' | tr '\n' ' ')
+    awk -v write="$1" -v defined="$names" -f controller/header/header.awk include/formula.h
 }
 
-# $1: a target, $2: the number of a column
+target_names() {
+    awk '$1 == "target" { print $2 }' controller/targets.txt
+}
+
+# $1: a target of targets.txt, $2: clang, cross or board; its words
 target_words() {
-    awk -F ' *[|] *' -v name="$1" -v column="$2" '$1 == name { print $column; found = 1 } END { exit !found }' controller/targets.txt
+    awk -v name="$1" -v key="$2" '
+        $1 == "target" { on = $2 == name }
+        on && $1 == key { sub(/^[a-z]+ /, ""); print; found = 1 }
+        END { exit !found }' controller/targets.txt
+}
+
+# The first of those words, which is a tool.
+target_tool() {
+    target_words "$1" "$2" | cut -d ' ' -f 1
 }

@@ -8,12 +8,11 @@ target=$1 program=$2 archive=$3 files=$4
 shift 4
 words=
 for word in "$@"; do words="$words\"$word\", "; done
-gcc=$(target_words "$target" 3)
-machine=$(target_words "$target" 4)
+cross=$(target_words "$target" cross)
 work=$(mktemp -d)
 trap 'rm -rf "$work"' EXIT
 
-case $gcc in
+case $cross in
 arm-*)
     board=controller/board/mps2.c
     start='-nostartfiles -T controller/board/mps2.ld --specs=rdimon.specs -Wl,--no-warn-rwx-segments,--no-warn-execstack'
@@ -29,7 +28,7 @@ esac
 
 # shellcheck disable=SC2086
 compile() {
-    $gcc $specs $machine -std=gnu11 -O2 -Wall -Wextra -ffunction-sections -fdata-sections -I include -I controller/board ${CFLAGS:-} "$@"
+    $cross $specs -std=gnu11 -O2 -Wall -Wextra -ffunction-sections -fdata-sections -I include -I controller/board ${CFLAGS:-} "$@"
 }
 for file in $files; do
     compile -Dmain=program_main -c -o "$work/$(basename "$file" .c).o" "$file"
@@ -37,4 +36,4 @@ done
 compile -DWORDS="$words" -c -o "$work/program.o" controller/board/program.c
 compile -c -o "$work/board.o" "$board"
 # shellcheck disable=SC2086
-$gcc $specs $machine $start -Wl,--gc-sections -o "$program" "$work"/*.o "$archive"
+$cross $specs $start -Wl,--gc-sections -o "$program" "$work"/*.o "$archive"

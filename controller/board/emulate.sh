@@ -6,8 +6,6 @@ cd "$(dirname "$0")/../.."
 . controller/tools.sh
 target=$1 program=$2
 shift 2
-bios=
-case $target in rv*) bios='-bios none' ;; esac
-# shellcheck disable=SC2046,SC2086
-exec timeout "${LIMIT:-900}" $(target_words "$target" 5) $(target_words "$target" 6) $bios -display none -monitor none -serial "${SERIAL:-none}" \
+# shellcheck disable=SC2046
+exec timeout "${LIMIT:-900}" $(target_words "$target" board) -display none -monitor none -serial "${SERIAL:-none}" \
     -semihosting-config enable=on,target=native "$@" -kernel "$program" 2>&1

@@ -1,14 +1,14 @@
 #!/bin/sh
-# Builds examples/firmware.c for an emulated board, runs it and compares what it writes to the serial port: sh controller/board/firmware.sh TARGET
+# Builds a firmware of examples/ for an emulated board, runs it and compares what it writes to the serial port with what is stored:
+# sh controller/board/firmware.sh TARGET [LIBRARY [EXAMPLE]], formula_c and firmware if none is named
 # Linked are the archive, the board's file, the compiler's run-time, and of the C library what these want.
 set -eu
 cd "$(dirname "$0")/../.."
 . controller/tools.sh
-target=$1
+target=$1 library=${2:-formula_c} example=${3:-firmware}
 work=$out/$target
-gcc=$(target_words "$target" 3)
-machine=$(target_words "$target" 4)
-case $gcc in
+cross=$(target_words "$target" cross)
+case $cross in
 arm-*)
     board=controller/board/mps2.c
     words='-nostdlib -T controller/board/mps2.ld -Wl,--no-warn-rwx-segments,--no-warn-execstack'
@@ -22,9 +22,13 @@ riscv64-*)
     ;;
 esac
 # shellcheck disable=SC2086
-$gcc $machine -std=c11 -O2 -Wall -Wextra -Werror -ffunction-sections -fdata-sections -Wl,--gc-sections $words -I include -I controller/board \
-    -o "$work/firmware.elf" examples/firmware.c $board "$work/libformula_c.a" $libraries
-SERIAL=stdio sh controller/board/emulate.sh "$target" "$work/firmware.elf" > "$work/firmware.out" || { echo "$target: examples/firmware.c: FAILED"; cat "$work/firmware.out"; exit 1; }
-cmp "$work/firmware.out" examples/firmware.expected
-echo "$target: examples/firmware.c: as expected"
-"$(kit_tool llvm-size)" "$work/firmware.elf" | awk -v target="$target" 'NR == 2 { print target ": the firmware has " $1 " bytes of text, " $2 + $3 " of data" }'
+$cross -std=c11 -O2 -Wall -Wextra -Werror -ffunction-sections -fdata-sections -Wl,--gc-sections $words -I include -I controller/board \
+    -o "$work/$example.elf" "examples/$example.c" $board "$work/lib$library.a" $libraries
+if ! SERIAL=stdio sh controller/board/emulate.sh "$target" "$work/$example.elf" > "$work/$example.out" ||
+    ! cmp "$work/$example.out" "examples/$example.expected"; then
+    echo "$target: examples/$example.c: FAILED"
+    cat "$work/$example.out"
+    exit 1
+fi
+echo "$target: examples/$example.c: as expected"
+"$(kit_tool llvm-size)" "$work/$example.elf" | awk -v target="$target" 'NR == 2 { print target ": it has " $1 " bytes of text, " $2 + $3 " of data" }'

@@ -27,7 +27,7 @@ prints "the gate's vectors" crates/vector_cases/stdout controller/board/vectors.
 prints examples/recipe.c examples/recipe.expected examples/recipe.c
 
 if [ -s "$out/calls/calls.bin" ]; then
-    awk -v write=replay -f controller/header/header.awk include/formula.h > "$work/operations.inc"
+    from_header replay "$archive" > "$work/operations.inc"
     CFLAGS="-I $work ${CFLAGS:-}" sh controller/board/build.sh "$target" "$work/replay.elf" "$archive" "controller/calls/replay.c ${MORE:-}" \
         "$out/calls/calls.bin"
     sh controller/board/emulate.sh "$target" "$work/replay.elf" > "$work/replayed" || failed=1

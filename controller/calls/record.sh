@@ -9,9 +9,10 @@ seed=${1:-20261117}
 work=$out/calls
 mkdir -p "$work"
 rm -f "$work/calls.bin" "$work/libformula_c.a"
-awk -v write=record -f controller/header/header.awk include/formula.h > "$work/calls.inc"
-awk -v write=names -f controller/header/header.awk include/formula.h | grep -v '^formula_remainder$' | sed 's/.*/& recorded_&/' > "$work/renamed"
-ar p target/staticlib/libformula_c.a > "$work/library.o"
+library=target/staticlib/libformula_c.a
+from_header record "$library" > "$work/calls.inc"
+from_header names "$library" | grep -v '^formula_remainder$' | sed 's/.*/& recorded_&/' > "$work/renamed"
+ar p "$library" > "$work/library.o"
 objcopy --redefine-syms="$work/renamed" "$work/library.o"
 cc -std=gnu11 -Wall -Wextra -Werror -O2 -I include -I "$work" -c -o "$work/record.o" controller/calls/record.c
 ar rcs "$work/libformula_c.a" "$work/record.o" "$work/library.o"

@@ -11,12 +11,12 @@ work=$out/$target/count
 inputs=$out/inputs
 budget=5000000
 mkdir -p "$work"
-have "cc $(target_words "$target" 3) $(target_words "$target" 5)" "counting on $target is" || exit 0
+have "cc $(target_tool "$target" cross) $(target_tool "$target" board)" "counting on $target is" || exit 0
 [ -s "$inputs" ] || { echo "$inputs is missing: counting on $target is left out"; exit 0; }
 
 cc -shared -fPIC -O2 -Wall -Wextra -o "$work/counter.so" controller/count/counter.c
 sh controller/board/build.sh "$target" "$work/scans.elf" "$archive" controller/count/scans.c "$inputs"
-nm=$(target_words "$target" 3 | sed 's/gcc$/nm/')
+nm=$(target_tool "$target" cross | sed 's/gcc$/nm/')
 address() { "$nm" "$work/scans.elf" | awk -v name="$1" '$3 == name { print $1 }'; }
 words=$PWD/$work/counter.so,begin=$(address count_begin),end=$(address count_end),out=$work/counts
 [ -z "${PROFILE:-}" ] || words="$words,profile=$work/profile"

@@ -1,4 +1,5 @@
-# Reads include/formula.h, so that nothing here lists its operations a second time: awk -v write=WHAT -f header.awk include/formula.h
+# Reads include/formula.h, so that nothing here lists its operations a second time: awk -v write=WHAT -v defined=NAMES -f header.awk include/formula.h
+# Only the functions that an archive defines are written: NAMES has them.
 #   names    the functions, one a line
 #   record   functions of these names in C, each of which notes its call for record.c and makes it
 #   replay   a table of the operations in C, for replay.c
@@ -42,10 +43,11 @@ function add_part(form, name, size) {
 }
 
 function read_declaration(text,    head, each, count, i) {
-    n++
     head = text
     sub(/\(.*/, "", head)
     split(head, each, " ")
+    if (index(" " defined " ", " " each[2] " ") == 0) return
+    n++
     returned[n] = each[1]
     name[n] = each[2]
     parameters[n] = text

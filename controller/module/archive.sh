@@ -11,7 +11,7 @@ module=${archive%.a}
 mkdir -p "$out/$target"
 sh controller/module/retarget.sh "$crate" "$target" "$module.ll"
 # shellcheck disable=SC2046
-"$(kit_tool clang)" --no-default-config $(target_words "$target" 2) -ffunction-sections -fdata-sections -mllvm -trap-unreachable \
+"$(kit_tool clang)" --no-default-config $(target_words "$target" clang) -ffunction-sections -fdata-sections -mllvm -trap-unreachable \
     -mllvm -no-trap-after-noreturn -Werror -O3 -c -x ir "$module.ll" -o "$module.o"
 rm -f "$archive"
 "$(kit_tool llvm-ar)" rcs "$archive" "$module.o"

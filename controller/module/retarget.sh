@@ -8,7 +8,7 @@ cd "$(dirname "$0")/../.."
 module=$out/module/$1
 clang=$(kit_tool clang)
 # shellcheck disable=SC2046
-empty=$("$clang" --no-default-config $(target_words "$2" 2) -x c -S -emit-llvm -o - - < /dev/null)
+empty=$("$clang" --no-default-config $(target_words "$2" clang) -x c -S -emit-llvm -o - - < /dev/null)
 line() { echo "$empty" | grep "^target $1"; }
 "$clang" --no-default-config --target=x86_64-unknown-linux-gnu -x ir -S -emit-llvm -Xclang -disable-llvm-passes -o "$module.ll" "$module.bc"
 awk -v layout="$(line datalayout)" -v triple="$(line triple)" -v remainder="${REMAINDER:-formula_remainder}" \

@@ -6,9 +6,10 @@ set -eu
 cd "$(dirname "$0")/../.."
 . controller/tools.sh
 mkdir -p "$out/web"
-exports=$(awk -v write=names -f controller/header/header.awk include/formula.h | sed 's/^/--export=/')
+archive=$out/wasm32/libformula_c.a
+exports=$(from_header names "$archive" | sed 's/^/--export=/')
 # shellcheck disable=SC2086
 "$(kit_tool wasm-ld)" --no-entry --gc-sections --strip-all -z stack-size=262144 --export=__heap_base $exports \
-    -o "$out/web/formula.wasm" --whole-archive "$out/wasm32/libformula_c.a"
+    -o "$out/web/formula.wasm" --whole-archive "$archive"
 cp controller/web/formula.mjs "$out/web/"
-awk -v write=module -f controller/header/header.awk include/formula.h > "$out/web/header.mjs"
+from_header module "$archive" > "$out/web/header.mjs"

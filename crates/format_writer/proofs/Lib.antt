@@ -1,0 +1,2 @@
+-- Laws of what is written; formatter cites them.
+pub mod Holding

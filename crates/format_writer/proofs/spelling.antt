@@ -1,0 +1,2 @@
+-- Where tokens end; formatter cites it.
+pub mod Ends
