@@ -15,7 +15,8 @@ pub struct Scan {
     pub formulas: Vec<Formula>,
 }
 
-const SCAN: usize = 40;
+/// The formulas of a scan.
+pub const SCAN: usize = 40;
 
 /// The tick of every measured run: a second before the end of a day.
 pub const TICK: u32 = 86_399_000;
@@ -62,7 +63,7 @@ pub fn cards() -> Vec<u8> {
     (1..).zip(corpus().formulas).flat_map(card).collect()
 }
 
-/// Single formulas: the one of the requirements; one of the greatest length with a bit of everything; one of short numbers.
+/// Single formulas of the greatest length, whose jumps are many: one with a bit of everything; one of short numbers.
 pub fn texts() -> Vec<Scan> {
     let mixed = "IF(D12 > 5 && X3, MAX(V[7], -N255) * 2, 0x1F) + (R10 / 2.5 - ABS(R11)) ** 2 + (C1 | 6 << 1) - ";
     let one = |name: &str, text: Vec<u8>| {
@@ -70,7 +71,6 @@ pub fn texts() -> Vec<Scan> {
         Scan { name: name.into(), formulas }
     };
     vec![
-        one("(D1 + 2) / 4.0", b"(D1 + 2) / 4.0".into()),
         one("a mixed formula", longest("", mixed, "1")),
         one("short numbers", longest("", "1+23*4-", "5")),
     ]

@@ -1,12 +1,13 @@
 //! Times the library beside its rival, plain Rust (rival), in one run and on the same inputs, after holding their answers to each
 //! other. Built by run.sh.
 //!
-//!   bench [BATCHES [TEXTS]]     how many batches a row takes the least of, and on how many random texts both must agree
+//!   bench [BATCHES [TEXTS]]     how many batches a row takes the least and the median of, and on how many random texts both must agree
 //!   bench names                 the names of the scans
 //!   bench scan NAME             does a scan once
 //!   bench inputs                the memory and the formulas of the scans
 
 mod agree;
+mod codes;
 mod data;
 mod library;
 mod rival;
@@ -52,4 +53,5 @@ fn times(words: &[&str]) {
     rows::cards(batches);
     rows::cells(batches);
     rows::worst(batches.div_ceil(LONG));
+    rows::codes(batches.div_ceil(LONG));
 }

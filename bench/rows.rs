@@ -3,11 +3,11 @@
 
 use std::hint::black_box;
 
+use crate::codes::{self, Made};
 use crate::data::{self, Formula, Scan, CELLS, TICK};
-use crate::library::{self, Target, CODE_BYTES};
-use crate::reference::memory::FLAGS;
+use crate::library::{self, Target, CODE_BYTES, MEMORY_BYTES};
 use crate::rival;
-use crate::timing::{each, header, least, row, Pair};
+use crate::timing::{each, header, in_turn, measured, row, Times};
 
 // The code that each side compiled, in buffers of its own size, as a controller would keep it.
 struct Ready<'a> {
@@ -36,6 +36,19 @@ struct Measured<'a> {
     calls: usize,
 }
 
+impl<'a> Measured<'a> {
+    /// Code made by hand, for each target of a scan.
+    fn made(code: &Made, scan: &'a Scan, batches: usize) -> Measured<'a> {
+        let ready = |formula: &'a Formula| Ready {
+            target: Target::cell(&formula.target),
+            ours: code.ours.clone(),
+            theirs: code.theirs.clone(),
+            instructions: code.ours.len() / 8,
+        };
+        Measured { scan, ready: scan.formulas.iter().map(ready).collect(), batches, calls: 1 }
+    }
+}
+
 impl Measured<'_> {
     fn new(scan: &Scan, batches: usize, calls: usize) -> Measured<'_> {
         Measured { scan, ready: scan.formulas.iter().map(ready).collect(), batches, calls }
@@ -53,68 +66,84 @@ impl Measured<'_> {
         self.ready.len() as f64
     }
 
-    fn compile(&self) -> Pair {
+    fn compile(&self) -> Times {
         let (mut code, mut other) = (vec![0; CODE_BYTES], vec![0; CODE_BYTES]);
         let ours = &mut || each(&self.scan.formulas, |f| library::compile(&f.text, &mut code));
         let theirs = &mut || each(&self.scan.formulas, |f| rival::compile(&f.text, &mut other));
-        least(self.batches, self.calls, [ours, theirs])
+        measured(self.batches, self.calls, [ours, theirs])
     }
 
-    fn check(&self) -> Pair {
+    fn check(&self) -> Times {
         let ours = &mut || each(&self.ready, |r| library::check(&r.ours, r.instructions));
         let theirs = &mut || each(&self.ready, |r| rival::check(&r.theirs, r.instructions));
-        least(self.batches, self.calls, [ours, theirs])
+        measured(self.batches, self.calls, [ours, theirs])
     }
 
     // Each side has a memory of its own; they run equally often, so both are the same in the end.
-    fn run(&self) -> Pair {
+    fn run(&self) -> Times {
         let (mut memory, mut other) = (data::memory(), data::memory());
         let ours = &mut || each(&self.ready, |r| library::run(&r.ours, r.instructions, &mut memory, &r.target, TICK));
         let theirs = &mut || each(&self.ready, |r| rival::run(&r.theirs, r.instructions, &mut other, &r.target, TICK));
-        let times = least(self.batches, self.calls, [ours, theirs]);
+        let times = measured(self.batches, self.calls, [ours, theirs]);
         hold_to_each_other(&memory, &other);
         times
     }
 
-    fn compile_and_run(&self) -> Pair {
-        let (mut memory, mut other) = (data::memory(), data::memory());
-        let [mut code, mut index_code, mut other_code, mut other_index] = [(); 4].map(|()| vec![0; CODE_BYTES]);
+    // All of it in turn: compile, check, run (with the check), compile and run.
+    fn whole(&self) -> [Times; 4] {
         let formulas = &self.scan.formulas;
-        let ours = &mut || {
-            each(formulas, |f| library::compile_and_run(&f.target, &f.text, &mut memory, [&mut code, &mut index_code], TICK));
-        };
-        let theirs = &mut || {
-            each(formulas, |f| rival::compile_and_run(&f.target, &f.text, &mut other, [&mut other_code, &mut other_index], TICK));
-        };
-        let times = least(self.batches, self.calls, [ours, theirs]);
+        let [mut a, mut b, mut c, mut d, mut e, mut f] = [(); 6].map(|()| vec![0; CODE_BYTES]);
+        let [mut memory, mut other, mut again, mut other_again] = [(); 4].map(|()| data::memory());
+        let times = in_turn(
+            self.batches,
+            self.calls,
+            [
+                [
+                    &mut || each(formulas, |f| library::compile(&f.text, &mut a)),
+                    &mut || each(formulas, |f| rival::compile(&f.text, &mut b)),
+                ],
+                [
+                    &mut || each(&self.ready, |r| library::check(&r.ours, r.instructions)),
+                    &mut || each(&self.ready, |r| rival::check(&r.theirs, r.instructions)),
+                ],
+                [
+                    &mut || each(&self.ready, |r| library::run(&r.ours, r.instructions, &mut memory, &r.target, TICK)),
+                    &mut || each(&self.ready, |r| rival::run(&r.theirs, r.instructions, &mut other, &r.target, TICK)),
+                ],
+                [
+                    &mut || each(formulas, |x| library::compile_and_run(&x.target, &x.text, &mut again, [&mut c, &mut d], TICK)),
+                    &mut || each(formulas, |x| rival::compile_and_run(&x.target, &x.text, &mut other_again, [&mut e, &mut f], TICK)),
+                ],
+            ],
+        );
         hold_to_each_other(&memory, &other);
+        hold_to_each_other(&again, &other_again);
         times
     }
 }
+
+// The flags are the last bytes of the memory.
+const FLAGS: usize = 4;
 
 fn hold_to_each_other(ours: &[u8], theirs: &[u8]) {
     assert!(ours == theirs, "the memories differ after the runs");
-    assert_eq!(ours[FLAGS..], [0; 4], "a measured formula was at fault");
-}
-
-fn less(whole: Pair, part: Pair) -> Pair {
-    [whole[0] - part[0], whole[1] - part[1]]
+    assert_eq!(ours[MEMORY_BYTES - FLAGS..], [0; FLAGS], "a measured formula was at fault");
 }
 
 pub fn corpus(batches: usize) {
     let scan = data::corpus();
-    let m = Measured::new(&scan, batches, 4);
+    let m = Measured::new(&scan, batches, 1);
     println!("\ncorpus: {} formulas, {} bytes, {} instructions", m.formulas(), m.bytes(), m.instructions());
     header("nanoseconds");
-    let (check, run) = (m.check(), m.run());
-    row("compile, corpus", "a byte", m.bytes(), m.compile());
+    let [compile, check, run, all] = m.whole();
+    row("compile, corpus", "a byte", m.bytes(), compile);
     row("check, corpus", "an instruction", m.instructions(), check);
-    row("run and store, corpus", "a formula", m.formulas(), less(run, check));
+    row("run and store, corpus", "a formula", m.formulas(), run.less(check));
     row("check, run and store, corpus", "a formula", m.formulas(), run);
-    row("compile, run and store, corpus", "a formula", m.formulas(), m.compile_and_run());
+    row("compile, run and store, corpus", "a formula", m.formulas(), all);
 }
 
-/// Single formulas, short and long.
+/// Single long formulas.
 pub fn texts(batches: usize) {
     const CALLS: usize = 100;
     for scan in &data::texts() {
@@ -122,7 +151,7 @@ pub fn texts(batches: usize) {
         let (check, run) = (m.check(), m.run());
         row(&format!("compile, {}", scan.name), "a byte", m.bytes(), m.compile());
         row("  check", "an instruction", m.instructions(), check);
-        row("  run and store", "an instruction", m.instructions(), less(run, check));
+        row("  run and store", "an instruction", m.instructions(), run.less(check));
     }
 }
 
@@ -131,7 +160,7 @@ pub fn totals(batches: usize) {
     const CALLS: usize = 100;
     for scan in &data::totals() {
         let m = Measured::new(scan, batches, CALLS);
-        row(&format!("run and store, {}", scan.name), "a cell", CELLS as f64, less(m.run(), m.check()));
+        row(&format!("run and store, {}", scan.name), "a cell", CELLS as f64, m.run().less(m.check()));
     }
 }
 
@@ -141,7 +170,7 @@ pub fn cards(batches: usize) {
     assert!(library::cards_read(&file) == rival::cards_read(&file), "the cards that both read differ");
     let ours = &mut || drop(black_box(library::cards_read(black_box(&file))));
     let theirs = &mut || drop(black_box(rival::cards_read(black_box(&file))));
-    row("read a file of cards, corpus", "a byte", file.len() as f64, least(batches, 4, [ours, theirs]));
+    row("read a file of cards, corpus", "a byte", file.len() as f64, measured(batches, 4, [ours, theirs]));
 }
 
 /// The cells read by all code of the corpus in a row: the listing, which is all that there is of no code, and what each instruction adds.
@@ -160,11 +189,11 @@ pub fn cells(batches: usize) {
         let theirs = &mut || {
             black_box(rival::cells(black_box(&theirs), n, &mut other));
         };
-        least(batches, 20, [ours, theirs])
+        measured(batches, 20, [ours, theirs])
     };
     let (listing, whole) = (time(0), time(n));
     row("cells read, no code", "a list", 1.0, listing);
-    row("  corpus in a row", "an instruction", n as f64, less(whole, listing));
+    row("  corpus in a row", "an instruction", n as f64, whole.less(listing));
 }
 
 /// Forty formulas of 1,024 bytes each, of each kind that is dear in its way.
@@ -174,6 +203,21 @@ pub fn worst(batches: usize) {
     for scan in &data::worst() {
         let m = Measured::new(scan, batches, 2);
         row(&format!("compile, {}", scan.name), "a scan", MICROSECONDS, m.compile());
-        row("  check, run and store", "a scan", MICROSECONDS, m.run());
+        let (check, run) = (m.check(), m.run());
+        row("  check", "a scan", MICROSECONDS, check);
+        row("  check, run and store", "a scan", MICROSECONDS, run);
+    }
+}
+
+/// Forty times the same code of 2,048 instructions, made by hand.
+pub fn codes(batches: usize) {
+    header("nanoseconds, code made by hand");
+    for code in &codes::all() {
+        let scan = Scan { name: code.name.into(), formulas: codes::targets() };
+        let m = Measured::made(code, &scan, batches);
+        assert_eq!(library::check(&code.ours, code.ours.len() / 8).answer, 0, "{}", code.name);
+        let (check, run) = (m.check(), m.run());
+        row(&format!("check, {}", code.name), "an instruction", m.instructions(), check);
+        row("  run and store", "an instruction", m.instructions(), run.less(check));
     }
 }

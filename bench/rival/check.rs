@@ -1,9 +1,10 @@
-//! The check of code: one pass, since jumps go forward. Kinds held are bits, 1 for a real, the last pushed lowest.
+//! The check of code: one pass, since jumps go forward. Kinds held are bits, 1 for a real, the last pushed lowest. The tables of
+//! what jumps bring to a place are on the stack, of one of four sizes, so that nothing is allocated and short code clears little.
 
-use super::image::REAL_BANK;
-use super::machine::{decode, taken, BINARY, JUMP, LOAD, LOAD_INDEXED, MATCH, PUSH_REAL, SINCE, TOTAL, UNARY};
+use super::machine::{fields, Instruction};
 use super::op;
-use super::totals::{match_kind, total_kind};
+use super::opcode::{Form, Rule, RULES};
+use super::totals::{match_kind, total_kind, Range};
 use super::values::Kind;
 
 #[derive(Clone, Copy, PartialEq)]
@@ -13,12 +14,12 @@ struct Held {
 }
 
 // What jumps bring to each place: one more than the height, and the kinds.
-struct Arrivals {
-    tops: Vec<u8>,
-    kinds: Vec<u128>,
+struct Arrivals<const PLACES: usize> {
+    tops: [u8; PLACES],
+    kinds: [u128; PLACES],
 }
 
-impl Arrivals {
+impl<const PLACES: usize> Arrivals<PLACES> {
     #[inline]
     fn get(&self, place: usize) -> Option<Held> {
         let top = self.tops[place] as usize;
@@ -43,77 +44,95 @@ impl Arrivals {
     }
 }
 
-/// Whether the check accepts so many instructions.
+/// Whether the check accepts the instructions.
 #[inline(never)]
-pub fn accepts(code: &[u8], n: usize) -> bool {
-    n > 0 && n <= 2048 && height_at_end(code, n) == Some(1)
+pub fn accepts(code: &[Instruction]) -> bool {
+    let height = match code.len() {
+        0 => None,
+        1..=32 => height_at_end::<33>(code),
+        33..=128 => height_at_end::<129>(code),
+        129..=512 => height_at_end::<513>(code),
+        513..=2048 => height_at_end::<2049>(code),
+        _ => None,
+    };
+    height == Some(1)
 }
 
-fn height_at_end(code: &[u8], n: usize) -> Option<usize> {
-    let mut arrivals = Arrivals { tops: vec![0; n + 1], kinds: vec![0; n + 1] };
-    let mut held = Some(Held { height: 0, kinds: 0 });
-    for place in 0..n {
-        let (opcode, operand, word) = decode(code, place)?;
-        let skipped = word as usize;
-        if opcode >= JUMP && skipped > n - place - 1 {
+#[inline(never)]
+fn height_at_end<const PLACES: usize>(code: &[Instruction]) -> Option<usize> {
+    let mut arrivals = Arrivals { tops: [0; PLACES], kinds: [0; PLACES] };
+    let mut held = Held { height: 0, kinds: 0 };
+    let mut reached = true;
+    for (place, instruction) in code.iter().enumerate() {
+        let (opcode, operand, word) = fields(instruction);
+        let rule = &RULES[opcode as usize];
+        let left = code.len() - place - 1;
+        if !known(rule, operand, word, left) {
             return None;
         }
-        if let Some(now) = &mut held {
-            step(opcode, operand, word, now)?;
-            if opcode >= JUMP {
-                arrivals.add(place + 1 + skipped, *now)?;
-            }
-            if opcode == JUMP {
-                held = None;
+        if reached {
+            step(rule, operand, word, &mut held)?;
+            if rule.form >= Form::Alone {
+                arrivals.add(place + 1 + word as usize, held)?;
+                reached = rule.form == Form::Beside;
             }
         }
         if let Some(there) = arrivals.get(place + 1) {
-            if held.is_some_and(|now| now != there) {
+            if reached && held != there {
                 return None;
             }
-            held = Some(there);
+            held = there;
+            reached = true;
         }
     }
-    held.map(|end| end.height)
+    if reached {
+        Some(held.height)
+    } else {
+        None
+    }
+}
+
+// Whether an instruction is known, where so many follow it.
+#[inline(always)]
+fn known(rule: &Rule, operand: u32, word: u32, left: usize) -> bool {
+    if rule.form == Form::Plain {
+        return operand == 0 && word <= rule.most && rule.takes <= 2;
+    }
+    match rule.form {
+        Form::Total => operand < op::TOTALS as u32 && Range::of_word(word).is_some(),
+        Form::Match => operand < op::MATCHES as u32 && Range::of_word(word).is_some(),
+        Form::Finite => operand == 0 && f32::from_bits(word).is_finite(),
+        _ => operand == 0 && word as usize <= left,
+    }
 }
 
 // What an instruction makes of what is held, None where it needs more or other kinds.
-#[inline]
-fn step(opcode: u8, operand: u8, word: u32, held: &mut Held) -> Option<()> {
-    let takes = taken(opcode);
-    if held.height < takes {
+#[inline(always)]
+fn step(rule: &Rule, operand: u32, word: u32, held: &mut Held) -> Option<()> {
+    let takes = rule.takes as usize;
+    if held.height < takes || (held.kinds as u8 ^ rule.kinds) & rule.mask != 0 {
         return None;
     }
-    let leaves = kind_left(opcode, operand, word, held.kinds)?;
-    held.height -= takes;
-    held.kinds >>= takes;
-    if opcode < JUMP {
-        if held.height == 128 {
-            return None;
-        }
-        held.height += 1;
-        held.kinds = held.kinds << 1 | leaves as u128;
+    if rule.form >= Form::Alone {
+        held.height -= takes;
+        held.kinds >>= takes;
+        return Some(());
+    }
+    let leaves = match rule.form {
+        Form::Total => (total_kind(operand as u8, word as u8) == Kind::Real) as u8,
+        Form::Match => (match_kind(operand as u8, word as u8) == Kind::Real) as u8,
+        _ => rule.leaves,
+    };
+    // where the kind that is left stands lowest
+    let moved = match takes {
+        0 => held.kinds << 1,
+        1 => held.kinds,
+        _ => held.kinds >> 1,
+    };
+    held.height = held.height + 1 - takes;
+    held.kinds = moved & !1 | leaves as u128;
+    if held.height > 128 {
+        return None;
     }
     Some(())
-}
-
-// The kind that an instruction leaves, None where it takes other kinds; jumps leave nothing.
-#[inline]
-fn kind_left(opcode: u8, operand: u8, word: u32, kinds: u128) -> Option<u8> {
-    let right = (kinds & 1) as u8;
-    let left = (kinds >> 1 & 1) as u8;
-    match (opcode, operand) {
-        (PUSH_REAL, _) => Some(1),
-        (LOAD | LOAD_INDEXED, bank) => Some((bank == REAL_BANK) as u8),
-        (TOTAL, operator) => Some((total_kind(operator, word as u8) == Kind::Real) as u8),
-        (MATCH, operator) => Some((match_kind(operator, word as u8) == Kind::Real) as u8),
-        (UNARY, op::NEGATE | op::ABS) => Some(right),
-        (UNARY, op::INVERT) | (SINCE, _) if right == 1 => None,
-        (UNARY, op::TO_REAL | op::FRAC) => Some(1),
-        (BINARY, op::POWER) if right == 1 => None,
-        (BINARY, op::POWER) => Some(left),
-        (BINARY, op::TIMES..=op::MINUS | op::MAX | op::MIN) => Some(left | right),
-        (BINARY, op::SHIFT_LEFT..=op::SHIFT_RIGHT_ZERO | op::AND..=op::OR) if left | right == 1 => None,
-        _ => Some(0),
-    }
 }

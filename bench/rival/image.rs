@@ -16,40 +16,50 @@ pub fn elements(bank: u8) -> u32 {
     }
 }
 
-pub fn read(image: &[u8], bank: u8, element: usize) -> Outcome {
-    if image.len() != BYTES {
-        return Err(Stop::IndexError);
-    }
-    match bank {
-        0 => Ok(Int(bit(image, element))),
-        1 => Ok(Int(bit(image, 64 + element))),
-        2 => Ok(Int(half(image, 16 + 2 * element) as i32)),
-        3 => Ok(Int(half(image, 528 + 2 * element) as i16 as i32)),
-        4 => Ok(Int(word(image, 1040 + 4 * element) as i32)),
-        _ => {
-            let x = f32::from_bits(word(image, 2064 + 4 * element));
-            if x.is_finite() {
-                Ok(Real(x))
-            } else {
-                Err(Stop::OutOfRange)
-            }
-        }
-    }
+/// A cell of X or C, the banks 0 and 1.
+#[inline(always)]
+pub fn bit_cell(image: &[u8], bank: usize, element: usize) -> Outcome {
+    Ok(Int(bit(image, 64 * bank + element)))
 }
 
 /// A bit of X, or from 64 on of C.
-#[inline]
+#[inline(always)]
 pub fn bit(image: &[u8], k: usize) -> i32 {
     (image[k / 8] >> (k % 8) & 1) as i32
 }
 
-fn half(image: &[u8], at: usize) -> u16 {
-    u16::from_le_bytes([image[at], image[at + 1]])
+/// A cell of V.
+#[inline(always)]
+pub fn half(image: &[u8], element: usize) -> Outcome {
+    Ok(Int(u16::from_le_bytes(bytes(image, 16 + 2 * element)) as i32))
 }
 
-fn word(image: &[u8], at: usize) -> u32 {
-    let bytes = &image[at..at + 4];
-    u32::from_le_bytes([bytes[0], bytes[1], bytes[2], bytes[3]])
+/// A cell of N.
+#[inline(always)]
+pub fn signed_half(image: &[u8], element: usize) -> Outcome {
+    Ok(Int(i16::from_le_bytes(bytes(image, 528 + 2 * element)) as i32))
+}
+
+/// A cell of D.
+#[inline(always)]
+pub fn double(image: &[u8], element: usize) -> Outcome {
+    Ok(Int(i32::from_le_bytes(bytes(image, 1040 + 4 * element))))
+}
+
+/// A cell of R.
+#[inline(always)]
+pub fn real(image: &[u8], element: usize) -> Outcome {
+    let x = f32::from_le_bytes(bytes(image, 2064 + 4 * element));
+    if x.is_finite() {
+        Ok(Real(x))
+    } else {
+        Err(Stop::OutOfRange)
+    }
+}
+
+#[inline(always)]
+fn bytes<const N: usize>(image: &[u8], at: usize) -> [u8; N] {
+    *image[at..].first_chunk().expect("the image has its size")
 }
 
 /// The element that an index names.
@@ -66,10 +76,6 @@ pub fn indexed(bank: u8, index: Value) -> Result<u8, Stop> {
     } else {
         Err(Stop::IndexError)
     }
-}
-
-pub fn read_indexed(image: &[u8], bank: u8, index: Value) -> Outcome {
-    read(image, bank, indexed(bank, index)? as usize)
 }
 
 /// The bank by its letter.

@@ -1,5 +1,6 @@
 //! The rival: the same operations in plain Rust, written from the requirements and not from the proved code, without unsafe code
-//! and with its bounds checks on. Its instructions are its own.
+//! and with its bounds checks on. Its instructions are its own: one for each operation and its kinds, found by the compiler once, as
+//! many as the library's. Check and run allocate nothing, and the run does not decide again what the check decided.
 
 #![forbid(unsafe_code)]
 
@@ -8,7 +9,8 @@ mod check;
 mod emit;
 mod image;
 mod machine;
-mod op;
+pub mod op;
+mod opcode;
 mod operations;
 mod reader;
 mod reads;
@@ -17,5 +19,7 @@ mod totals;
 mod values;
 
 pub use cards::read as cards_read;
+pub use emit::Code;
 pub use operations::{check, compile, compile_and_run, compile_target, run};
 pub use reads::cells;
+pub use values::Kind;

@@ -8,7 +8,6 @@ pub const TO_REAL: u8 = 4;
 pub const TRUNC: u8 = 5;
 pub const ROUND: u8 = 6;
 pub const FRAC: u8 = 7;
-pub const UNARIES: u8 = 8;
 
 pub const POWER: u8 = 0;
 pub const TIMES: u8 = 1;
@@ -30,7 +29,6 @@ pub const XOR: u8 = 16;
 pub const OR: u8 = 17;
 pub const MAX: u8 = 18;
 pub const MIN: u8 = 19;
-pub const BINARIES: u8 = 20;
 
 pub const SUM: u8 = 0;
 pub const AVERAGE: u8 = 1;

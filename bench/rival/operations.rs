@@ -3,7 +3,7 @@
 use super::check::accepts;
 use super::emit::{self, Code};
 use super::image::{self, element, indexed, set_flag, store};
-use super::machine;
+use super::machine::{self, instructions, Instruction};
 use super::tokens::Refusal;
 use super::values::{Outcome, Stop, Value};
 use crate::library::{Report, Target, CODE_BYTES};
@@ -19,8 +19,8 @@ fn refused(refusal: Refusal) -> Report {
 // Where a value goes.
 enum Destination<'a> {
     Cell(u8, u8),
-    // the code of the index, and its instructions
-    Indexed(u8, &'a [u8], usize),
+    // with the code of the index
+    Indexed(u8, &'a [Instruction]),
 }
 
 impl Destination<'_> {
@@ -28,8 +28,8 @@ impl Destination<'_> {
     fn cell(&self, memory: &[u8], tick: u32, count: &mut usize) -> Result<(u8, u8), Stop> {
         match *self {
             Destination::Cell(bank, element) => Ok((bank, element)),
-            Destination::Indexed(bank, code, n) => {
-                let (index, begun) = machine::run(code, n, memory, tick);
+            Destination::Indexed(bank, code) => {
+                let (index, begun) = machine::run(code, memory, tick);
                 *count += begun;
                 Ok((bank, indexed(bank, index?)?))
             }
@@ -72,7 +72,7 @@ pub fn compile(text: &[u8], code: &mut [u8]) -> Report {
 
 #[inline(never)]
 pub fn check(code: &[u8], n: usize) -> Report {
-    answered(if accepts(code, n) { 0 } else { 15 })
+    answered(if instructions(code, n).is_some_and(accepts) { 0 } else { 15 })
 }
 
 // The bank of a target's text, with its element or the code of its index.
@@ -104,18 +104,24 @@ pub fn run(code: &[u8], n: usize, memory: &mut [u8], target: &Target, tick: u32)
     if memory.len() != image::BYTES {
         return answered(1);
     }
-    let to = match image::target(target.text) {
-        None => return answered(2),
-        Some((bank, [])) => Destination::Indexed(bank, target.index_code, target.index_instructions),
-        Some((bank, digits)) => match element(bank, digits) {
-            None => return answered(2),
-            Some(element) => Destination::Cell(bank, element),
+    let Some((bank, rest)) = image::target(target.text) else {
+        return answered(2);
+    };
+    let cell = element(bank, rest);
+    if !rest.is_empty() && cell.is_none() {
+        return answered(2);
+    }
+    let Some(code) = instructions(code, n).filter(|code| accepts(code)) else {
+        return answered(15);
+    };
+    let to = match cell {
+        Some(element) => Destination::Cell(bank, element),
+        None => match instructions(target.index_code, target.index_instructions).filter(|code| accepts(code)) {
+            Some(index) => Destination::Indexed(bank, index),
+            None => return answered(15),
         },
     };
-    if !accepts(code, n) || matches!(to, Destination::Indexed(_, index, k) if !accepts(index, k)) {
-        return answered(15);
-    }
-    let (given, count) = machine::run(code, n, memory, tick);
+    let (given, count) = machine::run(code, memory, tick);
     settled(memory, to, given, count, tick)
 }
 
@@ -139,10 +145,10 @@ pub fn compile_and_run(target: &[u8], text: &[u8], memory: &mut [u8], codes: [&m
         Ok(element) => Destination::Cell(bank, element),
         Err(compiled) => {
             let k = compiled.write(index_code);
-            Destination::Indexed(bank, index_code, k)
+            Destination::Indexed(bank, instructions(index_code, k).unwrap_or(&[]))
         }
     };
     // just compiled, so there is nothing to check
-    let (given, count) = machine::run(code, n, memory, tick);
+    let (given, count) = machine::run(instructions(code, n).unwrap_or(&[]), memory, tick);
     settled(memory, to, given, count, tick)
 }

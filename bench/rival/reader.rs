@@ -48,9 +48,9 @@ impl Reader<'_> {
             self.advance()?;
             let right = self.expression(open, group - 1)?;
             if operator >= op::LOGICAL_AND {
-                self.code.decide(operator == op::LOGICAL_OR, gap);
+                self.code.decide(operator == op::LOGICAL_OR, gap, left, right);
             } else {
-                self.code.binary(operator);
+                self.code.binary(operator, left, right);
             }
             left = self.infix(operator, place, left, right);
         }
@@ -94,22 +94,26 @@ impl Reader<'_> {
         }
         let signs = &self.ahead.text[start..self.ahead.place];
         let kind = self.primary(open)?;
-        self.prefixes(signs);
+        self.prefixes(signs, kind);
         if let (Real, Some(place)) = (kind, invert) {
             self.wrong_at(place);
         }
         Ok(if integer { Int } else { kind })
     }
 
-    // The operators before a primary, the innermost first. They are single bytes, so the text itself is the list of them.
+    // The operators before a primary of a kind, the innermost first. They are single bytes, so the text itself is the list of them.
     #[inline]
-    fn prefixes(&mut self, signs: &[u8]) {
+    fn prefixes(&mut self, signs: &[u8], mut kind: Kind) {
         for sign in signs.iter().rev() {
-            match sign {
-                b'-' => self.code.unary(op::NEGATE),
-                b'~' => self.code.unary(op::INVERT),
-                b'!' => self.code.unary(op::NOT),
-                _ => {}
+            let operator = match sign {
+                b'-' => op::NEGATE,
+                b'~' => op::INVERT,
+                b'!' => op::NOT,
+                _ => continue,
+            };
+            self.code.unary(operator, kind);
+            if operator != op::NEGATE {
+                kind = Int;
             }
         }
     }
@@ -142,11 +146,11 @@ impl Reader<'_> {
         if !matches!(self.ahead.token, Token::OpenIndex) {
             return self.refused(7);
         }
-        self.bracket(open)?;
+        let index = self.bracket(open)?;
         if !matches!(self.ahead.token, Token::CloseIndex) {
             return self.refused(7);
         }
-        self.code.indexed(bank);
+        self.code.indexed(bank, index);
         self.advance()?;
         Ok(kind_of(bank))
     }
@@ -165,7 +169,7 @@ impl Reader<'_> {
         let first = self.bracket(open)?;
         let kind = match function {
             Function::One(operator) => {
-                self.code.unary(operator);
+                self.code.unary(operator, first);
                 match operator {
                     op::ABS => first,
                     op::TO_REAL | op::FRAC => Real,
@@ -174,13 +178,13 @@ impl Reader<'_> {
             }
             Function::Two(operator) => {
                 let second = self.argument(open)?;
-                self.code.binary(operator);
+                self.code.binary(operator, first, second);
                 joined(first, second)
             }
             Function::If => {
-                let gap = self.code.gap();
+                let (condition, gap) = (first, self.code.gap());
                 let first = self.argument(open)?;
-                let gap = self.code.branch(gap);
+                let gap = self.code.branch(gap, condition);
                 let second = self.argument(open)?;
                 self.code.choose(gap, first, second);
                 joined(first, second)
@@ -188,7 +192,7 @@ impl Reader<'_> {
             Function::Match(operator) => {
                 self.comma()?;
                 let range = self.range()?;
-                self.code.matching(operator, range);
+                self.code.matching(operator, first, range);
                 match_kind(operator, range.bank)
             }
             // the other two have no argument

@@ -1,4 +1,4 @@
--- Kinds as bits: pushing, popping and comparing them, and unpacking them into the array, one at a time.
+-- Kinds as bits: pushing, popping and comparing them.
 use mathlib.Core.Path.{_≡_, refl, sym, ap, _∙_, subst}
 use mathlib.Core.Bool.{Bool, true, false, true≢false, false≢true}
 use mathlib.Core.List.{List, _∷_}
@@ -7,13 +7,12 @@ use native.Mathlib.Nat.{lt-of-lt-of-le, lt-of-not-le, not-le-of-lt, le-trans, mu
 use native.Mathlib.Numerals.{add-one}
 use native.Mathlib.Omega.{arith}
 use lib.Dec.{eqb}
-use lib.ListN.{length, getD, set, length-set}
+use lib.ListN.{length}
 use lib.Pow.{pow-mono}
-use lib.Seq.{getD-set-same, getD-set-other}
 use borrow.Author.Tests.{eqb-true, eqb-false}
 use Rattle.verifier.specs.declared.packing.Held.{Held}
 use Rattle.verifier.specs.Typing.{Shape}
-use Rattle.verifier.specs.private.Shapes.{numberKind, kindNumber, heldKinds, bitKinds, word, kindsOf, Canonical, Pushed, Popped}
+use Rattle.verifier.specs.private.Shapes.{numberKind, kindNumber, bitKinds, word, kindsOf, Canonical, SameKinds, Pushed, Popped}
 use Rattle.verifier.specs.private.Pass.{Agrees}
 
 -- two words halved still fit
@@ -61,6 +60,16 @@ module _ {w r : Held} (some : 0 < w .height) (p : Popped w r) where
   pub kinds-popped : kindsOf w ≡ numberKind (word w % 2) ∷ kindsOf r
   kinds-popped = rw (p .bits) (ap (λ h. bitKinds h (word w)) above)
 
+-- the bits of both are the same bits
+pub popped-same : {w v r : Held} → Popped w v → SameKinds v r → Popped w r
+popped-same p s = record { height = s .height ∙ p .height; bits = s .bits ∙ p .bits }
+
+pub same-kinds : {w r : Held} → SameKinds w r → kindsOf r ≡ kindsOf w
+same-kinds s = rw (s .height, s .bits)
+
+pub neat-same : {w r : Held} → SameKinds w r → Canonical w → Canonical r
+neat-same s k = record { low = rw (s .height) (k .low); few = rw (s .height, s .bits) (k .few) }
+
 -- ---- comparing
 
 number-back : (b : ℕ) → b < 2 → kindNumber (numberKind b) ≡ b
@@ -105,43 +114,3 @@ module _ (a c : Held) where
         go : (b : Bool) → eqb (a .high) (c .high) ≡ b → Agrees b (kindsOf a) (kindsOf c)
         go true e = agree refl (rw (h, l, eqb-true (a .high) (c .high) e))
         go false e = disagree refl (λ f. eqb-false (a .high) (c .high) e (omega (arith, words-same f)))
-
--- ---- the array and the bits, kind by kind
-
-none : (a : List ℕ) (i v : ℕ) → i ≤ 0 → heldKinds a i ≡ bitKinds i v
-none a zero v l = refl
-none a (suc i) v l = absurd (omega arith)
-
-pub apart : (a : List ℕ) (i g v : ℕ) → i ≡ suc g → heldKinds a i ≡ bitKinds i v → (numberKind (getD a g 0) ≡ numberKind (v % 2)) × (heldKinds a g ≡ bitKinds g (v / 2))
-apart a i g v n e =
-    let f : numberKind (getD a g 0) ∷ heldKinds a g ≡ numberKind (v % 2) ∷ bitKinds g (v / 2) = rw n at e in
-    (cc, cc)
-
-together : (a : List ℕ) (i g v : ℕ) → i ≡ suc g → numberKind (getD a g 0) ≡ numberKind (v % 2) → heldKinds a g ≡ bitKinds g (v / 2) → heldKinds a i ≡ bitKinds i v
-together a i g v n e f = rw (n, e, f)
-
--- ---- unpacking: with the bits left below them, the array's kinds from there on make up the whole
-
-pub record Unpacks (a : List ℕ) (all w : Held) : Type 0 where
-  pub whole : length a ≡ 128
-  pub within : w .height ≤ all .height
-  pub rest : (b : List ℕ) → ((j : ℕ) → w .height ≤ j → getD b j 0 ≡ getD a j 0) → heldKinds b (w .height) ≡ kindsOf w → heldKinds b (all .height) ≡ kindsOf all
-
-pub unpacks-start : {a : List ℕ} {all : Held} → length a ≡ 128 → Unpacks a all all
-unpacks-start e = record { whole = e; within = omega arith; rest = λ b _ f. f }
-
-pub unpacks-more : {a : List ℕ} {all w r : Held} {x : ℕ} → Unpacks a all w → all .height ≤ 128 → 0 < w .height → x ≡ word w % 2 → Popped w r → Unpacks (set a (r .height) x) all r
-unpacks-more {a} {all} {w} {r} {x} u m l e p = record {
-  whole = length-set a (r .height) x ∙ u .whole;
-  within = omega (arith, u .within, p .height);
-  rest = λ b g q. u .rest b (λ j k. g j (omega (arith, p .height)) ∙ getD-set-other a (r .height) j x 0 (over j k))
-      (together b (w .height) (r .height) (word w) (above l p)
-      (ap (λ n. numberKind n) (g (r .height) (omega arith) ∙ getD-set-same a (r .height) x 0 (omega (arith, u .whole, u .within, p .height)) ∙ e))
-      (q ∙ ap (bitKinds (r .height)) (p .bits)));
-}
-  where
-    over : (j : ℕ) → w .height ≤ j → j ≡ r .height → ⊥
-    over j k n = omega (arith, p .height)
-
-pub unpacked : {a : List ℕ} {all w : Held} → Unpacks a all w → w .height ≤ 0 → heldKinds a (all .height) ≡ kindsOf all
-unpacked {a} {w = w} u l = u .rest a (λ j _. refl) (none a (w .height) (word w) l)

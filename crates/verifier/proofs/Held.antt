@@ -37,13 +37,14 @@ use Rattle.verifier.specs.private.Shapes.{
   pushNumber,
   ReplacesKind,
   ReplacesTwo,
-  heldKinds,
+  kindBelow,
   bitKinds,
   word,
   kindsOf,
   none,
   Canonical,
   ArrayHolds,
+  SameKinds,
   Pushed,
   Popped,
   Replaced,
@@ -52,7 +53,7 @@ use Rattle.verifier.specs.private.Shapes.{
   stops,
   goes,
 }
-use Rattle.verifier.proofs.Bits.{bits-length, neat-pushed, kinds-pushed, neat-popped, heights-same, apart}
+use Rattle.verifier.proofs.Bits.{bits-length, neat-pushed, kinds-pushed, neat-popped, kinds-popped, same-kinds, neat-same}
 
 -- ---- numbers as kinds
 
@@ -65,47 +66,98 @@ real-number {n} e = rw (ne-eqb n 0 e)
 -- ---- the kinds kept
 
 pub keeps-none : {a : List ℕ} → length a ≡ 128 → ArrayHolds a none
-keeps-none e = record { whole = e; canonical = record { low = omega arith; few = omega arith }; is = refl }
+keeps-none e = record { whole = e; canonical = record { low = omega arith; few = omega arith }; ready = omega arith; is = λ i l m. absurd (omega arith) }
 
--- a store at the height or above changes none that is held
-held-set : (a : List ℕ) (h i v : ℕ) → h ≤ i → heldKinds (set a i v) h ≡ heldKinds a h
-held-set a zero i v l = refl
-held-set a (suc h) i v l =
-    let n : h ≡ i → ⊥ = λ e. omega arith in
-    rw (getD-set-other a i h v 0 n, held-set a h i v (omega arith))
+-- without the last
+abbrev halved : Held → Held
+halved w = record { height = w .height - 1; low = word w / 2; high = 0; floor = w .floor }
 
--- the same kinds
-pub keeps-same : {a : List ℕ} {w r : Held} → ArrayHolds a w → Canonical r → kindsOf w ≡ kindsOf r → ArrayHolds a r
-keeps-same {a} {w} {r} k n e = record { whole = k .whole; canonical = n; is = ap (heldKinds a) (sym (heights-same w r e)) ∙ k .is ∙ e }
+halves : (w : Held) → Popped w (halved w)
+halves w = record { height = refl; bits = zero-add (word w / 2) }
+
+-- the lowest bit and those above it
+top : (w : Held) → 0 < w .height → kindsOf w ≡ numberKind (word w % 2) ∷ below w
+top w l = let e : w .height ≡ suc (w .height - 1) = omega arith in ap (λ h. bitKinds h (word w)) e
 
 module _ {a : List ℕ} {w : Held} (k : ArrayHolds a w) where
-  -- one more
-  keeps-pushed : {r : Held} {n : ℕ} → n < 2 → w .height < 128 → Pushed n w r → ArrayHolds (set a (w .height) n) r
-  keeps-pushed {r} {n} b l p = record {
-    whole = length-set a (w .height) n ∙ k .whole;
-    canonical = neat-pushed b p (k .canonical) l;
-    is = rw (kinds-pushed b p, p .height, add-one (w .height), getD-set-same a (w .height) n 0 (omega (arith, k .whole)), held-set a (w .height) (w .height) n (omega arith), k .is);
-  }
-
-  -- one fewer
-  pub keeps-popped : {r : Held} → 0 < w .height → Popped w r → ArrayHolds a r
-  keeps-popped {r} l p = record {
-    whole = k .whole;
-    canonical = neat-popped l p (k .canonical);
-    is = apart a (w .height) (r .height) (word w) (omega (arith, p .height)) (k .is) .1 ∙ ap (bitKinds (r .height)) (sym (p .bits));
-  }
+  -- one fewer, if the array has the kinds of the last two then
+  pub keeps-popped : {r : Held} → 0 < w .height → Popped w r → r .floor ≡ w .floor → r .floor ≤ r .height → ArrayHolds a r
+  keeps-popped {r} l p f q = record { whole = k .whole; canonical = neat-popped l p (k .canonical); ready = q; is = at }
+    where
+      at : (i : ℕ) → i < r .height → i + r .floor ≤ r .height + 1 → numberKind (getD a (r .height - suc i) 0) ≡ kindBelow (kindsOf r) i
+      at i g m =
+          let e : r .height - suc i ≡ w .height - suc (suc i) = omega (arith, p .height) in
+          ap (λ j. numberKind (getD a j 0)) e ∙ k .is (suc i) (omega (arith, p .height)) (omega (arith, p .height, f)) ∙ ap (λ s. kindBelow s (suc i)) (kinds-popped l p)
 
   -- the last value's kind, and those below
   last : 0 < w .height → kindsOf w ≡ numberKind (getD a (w .height - 1) 0) ∷ below w
   last l =
-      let e : w .height ≡ suc (w .height - 1) = omega arith in
-      ap (λ h. bitKinds h (word w)) e ∙ ap (λ j. j ∷ below w) (sym (apart a (w .height) (w .height - 1) (word w) e (k .is) .0))
+      let e : kindsOf w ≡ numberKind (word w % 2) ∷ below w = top w l in
+      let t : numberKind (getD a (w .height - 1) 0) ≡ numberKind (word w % 2) = k .is 0 l (omega (arith, k .ready)) ∙ ap (λ s. kindBelow s 0) e in
+      e ∙ ap (λ j. j ∷ below w) (sym t)
+
+  -- and that of the one below it
+  next-last : {v : Held} → 1 < w .height → Popped w v → kindsOf v ≡ numberKind (getD a (w .height - 2) 0) ∷ below v
+  next-last {v} l p =
+      let e : kindsOf v ≡ numberKind (word v % 2) ∷ below v = top v (omega (arith, p .height)) in
+      let d : kindsOf w ≡ numberKind (word w % 2) ∷ (numberKind (word v % 2) ∷ below v) = kinds-popped (omega arith) p ∙ ap (λ s. numberKind (word w % 2) ∷ s) e in
+      let t : numberKind (getD a (w .height - 2) 0) ≡ numberKind (word v % 2) = k .is 1 l (omega (arith, k .ready)) ∙ ap (λ s. kindBelow s 1) d in
+      e ∙ ap (λ j. j ∷ below v) (sym t)
 
 -- ---- a push, and a value in the place of the last
 
 module _ {a : List ℕ} {w : Held} {n : ℕ} (k : ArrayHolds a w) where
+  keeps-pushed : {r : Held} → n < 2 → w .height < 128 → Pushed n w r → ArrayHolds (set a (w .height) n) r
+  keeps-pushed {r} b l p = record {
+    whole = length-set a (w .height) n ∙ k .whole;
+    canonical = neat-pushed b p (k .canonical) l;
+    ready = omega (arith, p .height, p .floor, k .ready);
+    is = at;
+  }
+    where
+      at : (i : ℕ) → i < r .height → i + r .floor ≤ r .height + 1 → numberKind (getD (set a (w .height) n) (r .height - suc i) 0) ≡ kindBelow (kindsOf r) i
+      at zero g m =
+          let e : r .height - 1 ≡ w .height = omega (arith, p .height) in
+          ap (λ j. numberKind (getD (set a (w .height) n) j 0)) e ∙ ap (λ x. numberKind x) (getD-set-same a (w .height) n 0 (omega (arith, k .whole))) ∙ sym (ap (λ s. kindBelow s 0) (kinds-pushed b p))
+      at (suc i) g m =
+          let e : r .height - suc (suc i) ≡ w .height - suc i = omega (arith, p .height) in
+          let o : w .height - suc i ≡ w .height → ⊥ = λ q. omega (arith, p .height) in
+          ap (λ j. numberKind (getD (set a (w .height) n) j 0)) e ∙ ap (λ x. numberKind x) (getD-set-other a (w .height) (w .height - suc i) n 0 o) ∙ k .is i (omega (arith, p .height)) (omega (arith, p .height, p .floor))
+          ∙ sym (ap (λ s. kindBelow s (suc i)) (kinds-pushed b p))
+
+  -- the bits as after a pop and a push
+  keeps-replaced : {r : Held} → n < 2 → 0 < w .height → Replaced n w r → (kindsOf r ≡ numberKind n ∷ below w) × ArrayHolds (set a (w .height - 1) n) r
+  keeps-replaced {r} b l p = (
+    now,
+    record {
+      whole = length-set a (w .height - 1) n ∙ k .whole;
+      canonical = neat-pushed b u (neat-popped l q (k .canonical)) (omega (arith, k .canonical .low));
+      ready = omega (arith, p .height, p .floor, k .ready);
+      is = at;
+    },
+  )
+    where
+      q : Popped w (halved w)
+      q = halves w
+
+      u : Pushed n (halved w) r
+      u = record { height = omega (arith, p .height); bits = p .bits ∙ ap (λ x. n + 2 * x) (sym (q .bits)); floor = p .floor }
+
+      now : kindsOf r ≡ numberKind n ∷ below w
+      now = kinds-pushed b u ∙ ap (λ x. numberKind n ∷ bitKinds (w .height - 1) x) (q .bits)
+
+      at : (i : ℕ) → i < r .height → i + r .floor ≤ r .height + 1 → numberKind (getD (set a (w .height - 1) n) (r .height - suc i) 0) ≡ kindBelow (kindsOf r) i
+      at zero g m =
+          let e : r .height - 1 ≡ w .height - 1 = ap (λ h. h - 1) (p .height) in
+          ap (λ j. numberKind (getD (set a (w .height - 1) n) j 0)) e ∙ ap (λ x. numberKind x) (getD-set-same a (w .height - 1) n 0 (omega (arith, k .whole, k .canonical .low))) ∙ sym (ap (λ s. kindBelow s 0) now)
+      at (suc i) g m =
+          let e : r .height - suc (suc i) ≡ w .height - suc (suc i) = ap (λ h. h - suc (suc i)) (p .height) in
+          let o : w .height - suc (suc i) ≡ w .height - 1 → ⊥ = λ d. omega (arith, p .height) in
+          ap (λ j. numberKind (getD (set a (w .height - 1) n) j 0)) e ∙ ap (λ x. numberKind x) (getD-set-other a (w .height - 1) (w .height - suc (suc i)) n 0 o)
+          ∙ k .is (suc i) (omega (arith, p .height)) (omega (arith, p .height, p .floor)) ∙ ap (λ s. kindBelow s (suc i)) (top w l) ∙ sym (ap (λ s. kindBelow s (suc i)) now)
+
   pub pushes : {r : Held} → n < 2 → w .height < 128 → Pushed n w r → Leaves (set a (w .height) n) (record { reach = 2; held = r }) (pushNumber n (kindsOf w))
-  pushes b l p = rw (lt-ltb n 2 b, bits-length (w .height) (word w), lt-ltb (w .height) 128 l, ← kinds-pushed b p) (goes refl (keeps-pushed k b l p))
+  pushes b l p = rw (lt-ltb n 2 b, bits-length (w .height) (word w), lt-ltb (w .height) 128 l, ← kinds-pushed b p) (goes refl (keeps-pushed b l p))
 
   pub full : n < 2 → 128 ≤ w .height → Leaves a (record { reach = 0; held = w }) (pushNumber n (kindsOf w))
   full b l = rw (lt-ltb n 2 b, bits-length (w .height) (word w), le-ltb (w .height) 128 l) (stops refl k)
@@ -113,18 +165,65 @@ module _ {a : List ℕ} {w : Held} {n : ℕ} (k : ArrayHolds a w) where
   pub unpushed : 2 ≤ n → Leaves a (record { reach = 0; held = w }) (pushNumber n (kindsOf w))
   unpushed b = rw (le-ltb n 2 b) (stops refl k)
 
-  pub unplaced : 2 ≤ n → Leaves a (record { reach = 0; held = w }) (leaving n (below w))
-  unplaced b = rw (le-ltb n 2 b) (stops refl k)
+  pub unplaced : (s : Shape) → 2 ≤ n → Leaves a (record { reach = 0; held = w }) (leaving n s)
+  unplaced s b = rw (le-ltb n 2 b) (stops refl k)
 
-  -- as a pop and a push
   pub places : {r : Held} → n < 2 → 0 < w .height → Replaced n w r → Leaves (set a (w .height - 1) n) (record { reach = 2; held = r }) (leaving n (below w))
-  places {r} b l p =
-      let v : Held = record { height = w .height - 1; low = word w / 2; high = 0 } in
-      let z : word v ≡ word w / 2 = zero-add (word w / 2) in
-      let q : Popped w v = record { height = refl; bits = z } in
-      let u : Pushed n v r = record { height = omega (arith, p .height); bits = p .bits ∙ ap (λ x. n + 2 * x) (sym z) } in
-      let e : numberKind n ∷ below w ≡ kindsOf r = ap (λ x. numberKind n ∷ bitKinds (w .height - 1) x) (sym z) ∙ sym (kinds-pushed b u) in
-      rw (lt-ltb n 2 b, e) (goes refl (keeps-pushed (keeps-popped k l q) b (omega (arith, k .canonical .low)) u))
+  places {r} b l p = let e = keeps-replaced b l p in rw (lt-ltb n 2 b, ← e .0) (goes refl (e .1))
+
+-- ---- the last two brought from the bits
+
+module _ (a : List ℕ) (w r : Held) (e : length a ≡ 128) (k : Canonical w) (s : SameKinds w r) (f : r .floor ≡ w .height) where
+  ready-same : r .floor ≤ r .height
+  ready-same = omega (arith, f, s .height)
+
+  pub refills-none : w .height ≡ 0 → ArrayHolds a r
+  refills-none z = record { whole = e; canonical = neat-same s k; ready = ready-same; is = λ i g m. absurd (omega (arith, s .height)) }
+
+  module _ (x : ℕ) (o : x ≡ word w % 2) (l : 0 < w .height) where
+    abbrev pub a₁ : List ℕ
+    a₁ = set a (w .height - 1) x
+
+    top-kind : kindBelow (kindsOf r) 0 ≡ numberKind x
+    top-kind = ap (λ t. kindBelow t 0) (same-kinds s ∙ top w l) ∙ ap (λ y. numberKind y) (sym o)
+
+    pub refills-one : w .height ≡ 1 → ArrayHolds a₁ r
+    refills-one z = record { whole = length-set a (w .height - 1) x ∙ e; canonical = neat-same s k; ready = ready-same; is = at }
+      where
+        at : (i : ℕ) → i < r .height → i + r .floor ≤ r .height + 1 → numberKind (getD a₁ (r .height - suc i) 0) ≡ kindBelow (kindsOf r) i
+        at zero g m =
+            ap (λ h. numberKind (getD a₁ (h - 1) 0)) (s .height) ∙ ap (λ y. numberKind y) (getD-set-same a (w .height - 1) x 0 (omega (arith, e))) ∙ sym top-kind
+        at (suc i) g m = absurd (omega (arith, s .height))
+
+    pub refills-two : {y : ℕ} → y ≡ word w / 2 % 2 → 1 < w .height → ArrayHolds (set a₁ (w .height - 2) y) r
+    refills-two {y} d g = record {
+      whole = length-set a₁ (w .height - 2) y ∙ length-set a (w .height - 1) x ∙ e;
+      canonical = neat-same s k;
+      ready = ready-same;
+      is = at;
+    }
+      where
+        a₂ : List ℕ
+        a₂ = set a₁ (w .height - 2) y
+
+        apart : w .height - 1 ≡ w .height - 2 → ⊥
+        apart q = omega arith
+
+        size : length a₁ ≡ 128
+        size = length-set a (w .height - 1) x ∙ e
+
+        low : w .height ≤ 128
+        low = k .low
+
+        both : kindsOf r ≡ numberKind (word w % 2) ∷ (numberKind (word w / 2 % 2) ∷ bitKinds (w .height - 2) (word w / 2 / 2))
+        both = let h : w .height ≡ suc (suc (w .height - 2)) = omega arith in same-kinds s ∙ ap (λ h. bitKinds h (word w)) h
+
+        at : (i : ℕ) → i < r .height → i + r .floor ≤ r .height + 1 → numberKind (getD a₂ (r .height - suc i) 0) ≡ kindBelow (kindsOf r) i
+        at zero q m =
+            ap (λ h. numberKind (getD a₂ (h - 1) 0)) (s .height) ∙ ap (λ y. numberKind y) (getD-set-other a₁ (w .height - 2) (w .height - 1) y 0 apart ∙ getD-set-same a (w .height - 1) x 0 (omega (arith, e, low))) ∙ sym top-kind
+        at (suc zero) q m =
+            ap (λ h. numberKind (getD a₂ (h - 2) 0)) (s .height) ∙ ap (λ y. numberKind y) (getD-set-same a₁ (w .height - 2) y 0 (omega (arith, size, low)) ∙ d) ∙ sym (ap (λ t. kindBelow t 1) both)
+        at (suc (suc i)) q m = absurd (omega (arith, s .height, f))
 
 -- ---- one value is taken, or two
 
@@ -134,19 +233,22 @@ short k e = rw e (stops refl k)
 likewise : {a : List ℕ} {f : Flow} {m m′ : Move} → m ≡ m′ → Leaves a f m′ → Leaves a f m
 likewise {a} {f} e = subst (Leaves a f) (sym e)
 
-module _ {a : List ℕ} {w : Held} (k : ArrayHolds a w) {i : Instr} {n : ℕ} {b : List ℕ} {f : Flow} where
-  pub taken-one : 0 < w .height → ReplacesKind i (getD a (w .height - 1) 0) n → Leaves b f (leaving n (below w)) → Leaves b f (moveOf i (kindsOf w))
-  taken-one l t = likewise (ap (moveOf i) (last k l) ∙ t .is (below w))
+module _ {a : List ℕ} {w : Held} (k : ArrayHolds a w) {i : Instr} {n : ℕ} where
+  module _ {b : List ℕ} {f : Flow} where
+    pub taken-one : 0 < w .height → ReplacesKind i (getD a (w .height - 1) 0) n → Leaves b f (leaving n (below w)) → Leaves b f (moveOf i (kindsOf w))
+    taken-one l t = likewise (ap (moveOf i) (last k l) ∙ t .is (below w))
 
-  pub taken-two : {v : Held} → 1 < w .height → Popped w v → ReplacesTwo i (getD a (w .height - 2) 0) (getD a (w .height - 1) 0) n → Leaves b f (leaving n (below v))
-      → Leaves b f (moveOf i (kindsOf w))
-  taken-two {v} l p t = likewise (ap (moveOf i) all ∙ t .is (below v))
-    where
-      all : kindsOf w ≡ numberKind (getD a (w .height - 1) 0) ∷ (numberKind (getD a (w .height - 2) 0) ∷ below v)
-      all =
-          let h : v .height - 1 ≡ w .height - 2 = omega (arith, p .height) in
-          let e : below w ≡ kindsOf v = rw (p .height, p .bits) in
-          last k (omega arith) ∙ ap (λ s. numberKind (getD a (w .height - 1) 0) ∷ s) (e ∙ last (keeps-popped k (omega arith) p) (omega (arith, p .height)) ∙ ap (λ j. numberKind (getD a j 0) ∷ below v) h)
+    pub taken-two : {v : Held} → 1 < w .height → Popped w v → ReplacesTwo i (getD a (w .height - 2) 0) (getD a (w .height - 1) 0) n → Leaves b f (leaving n (below v))
+        → Leaves b f (moveOf i (kindsOf w))
+    taken-two {v} l p t = likewise (ap (moveOf i) all ∙ t .is (below v))
+      where
+        all : kindsOf w ≡ numberKind (getD a (w .height - 1) 0) ∷ (numberKind (getD a (w .height - 2) 0) ∷ below v)
+        all =
+            let e : below w ≡ kindsOf v = rw (p .height, p .bits) in
+            last k (omega arith) ∙ ap (λ s. numberKind (getD a (w .height - 1) 0) ∷ s) (e ∙ next-last k l p)
+
+  pub refused-two : 1 < w .height → ReplacesTwo i (getD a (w .height - 2) 0) (getD a (w .height - 1) 0) n → 2 ≤ n → Leaves a (record { reach = 0; held = w }) (moveOf i (kindsOf w))
+  refused-two l t g = taken-two l (halves w) t (unplaced k (below (halved w)) g)
 
 -- ---- short of a value
 

@@ -2,7 +2,7 @@
 use mathlib.Core.Path.{_≡_, refl, _∙_}
 use mathlib.Core.Bool.{Bool, true, false}
 use mathlib.Core.List.{List}
-use Prim.Native.Nat.{ℕ, zero, suc, _+_, _-_, _≤_, _<_}
+use Prim.Native.Nat.{ℕ, zero, suc, _+_, _-_, _≤_, _<_, _%_}
 use native.Mathlib.Omega.{arith}
 use lib.Dec.{leb}
 use lib.ListN.{getD}
@@ -114,9 +114,9 @@ stands-at code n p e f =
 
 -- ---- the end
 
-module _ {a : List ℕ} {w : Held} (keeps : ArrayHolds a w) where
-  pub end-one : w .height ≡ 1 → Verdict.Accepted (numberKind (getD a 0 0)) ≡ verdictOf (holds (kindsOf w))
-  end-one e = rw (← keeps .is, e)
+module _ (w : Held) where
+  pub end-one : {x : ℕ} → x ≡ word w % 2 → w .height ≡ 1 → Verdict.Accepted (numberKind x) ≡ verdictOf (holds (kindsOf w))
+  end-one o e = rw (e, ← o)
 
   pub end-other : (w .height ≡ 1 → ⊥) → Verdict.Refused ≡ verdictOf (holds (kindsOf w))
   end-other n = go (w .height) (word w) n

@@ -75,6 +75,10 @@ entryStates = joinAt [] 0 (λ p. unreached)
 abbrev pub verdict : List Instr → Verdict
 verdict c = cond (leb (length c) 2048) (verdictOf (dataflow c 0 entryStates)) Refused
 
+abbrev pub isAccepted : Verdict → Bool
+isAccepted (Accepted k) = true
+isAccepted Refused = false
+
 pub record VerdictLaws : Type 0 where
   pub exact : (c : List Instr) (k : Kind) → verdict c ≡ Accepted k ↔ Accepts c k
   -- the kind at the end is the only one

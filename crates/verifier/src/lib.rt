@@ -5,8 +5,9 @@ ghost use Prim.Native.Nat.{ℕ, _-_, _<_, _≤_};
 ghost use mathlib.Core.List.{List};
 ghost use lib.ListN.{length, getD};
 ghost use Rattle.code.specs.declared.Instr.the-variants.{Jump, JumpIf};
-ghost use Rattle.code.specs.Instructions.{wordOf, instructionOf};
+ghost use Rattle.code.specs.Instructions.{wordOf, instructionOf, instructions};
 ghost use Rattle.verifier.specs.Accepts.{CorrectVerdict};
+ghost use Rattle.verifier.specs.Verdicts.{isAccepted, verdict};
 ghost use Rattle.verifier.specs.private.Shapes.{rejected, holds, kindsOf, Canonical, ArrayHolds, stateOf, tableOf, Table, Blank};
 ghost use Rattle.verifier.specs.private.Pass.{Joins, Merges, Steps, Skips, verdictOf};
 
@@ -31,10 +32,12 @@ fn joined_at(place: usize, tops: &[u8], lows: &[u64], highs: &[u64]) -> Held
     requires { ⌜ Table (length (now tops)) (now tops) (now lows) (now highs) ⌝ }
     ensures { λ r. ⌜ Canonical r × (holds (kindsOf r) ≡ tableOf (now (tops .entry)) (now (lows .entry)) (now (highs .entry)) place) ⌝ }
 {
+    let height = (tops[place] - 1) as usize;
     Held {
-        height: (tops[place] - 1) as usize,
+        height,
         low: lows[place],
         high: highs[place],
+        floor: height,
     }
 }
 
@@ -103,13 +106,15 @@ fn fork(
     n: usize,
     held: Held,
     next: usize,
+    kinds: &mut [u8; 128],
     tops: &mut [u8],
     lows: &mut [u64],
     highs: &mut [u64],
 ) -> Flow
-    requires { ⌜ Canonical held × (next ≤ n) × (n < length (now tops)) ⌝ }
+    requires { ⌜ ArrayHolds (now kinds) held ⌝ }
+    requires { ⌜ (next ≤ n) × (n < length (now tops)) ⌝ }
     requires { ⌜ Table (length (now tops)) (now tops) (now lows) (now highs) ⌝ }
-    ensures { λ r. ⌜ ((a : List ℕ) → ArrayHolds a held → ArrayHolds a (r .held)) ⌝ }
+    ensures { λ r. ⌜ ArrayHolds (now (kinds .exit)) (r .held) ⌝ }
     ensures { λ r. ⌜ Table (length (now (tops .entry))) (now (tops .exit)) (now (lows .exit)) (now (highs .exit)) ⌝ }
     ensures { λ r. ⌜ ((t : Bool) → Steps (JumpIf t (wordOf w)) (n - next) next (kindsOf held)
         (tableOf (now (tops .entry)) (now (lows .entry)) (now (highs .entry))) (stateOf r)
@@ -121,7 +126,7 @@ fn fork(
     if !kinds::stays(w, n - next) {
         return Flow { reach: 0, held };
     }
-    let rest = packing::popped(held);
+    let rest = packing::uncovered(kinds, packing::popped(held));
     let target = next + (code::word_of(w) as usize);
     if merge(rest, target, tops, lows, highs) {
         Flow {
@@ -159,8 +164,8 @@ fn step(
         Class::PushInt => typing::push(kinds, held, INT),
         Class::PushReal => typing::push(kinds, held, kinds::real_kind(w)),
         Class::Jump => jump(w, n, held, next, tops, lows, highs),
-        Class::JumpIfFalse => fork(w, n, held, next, tops, lows, highs),
-        Class::JumpIfTrue => fork(w, n, held, next, tops, lows, highs),
+        Class::JumpIfFalse => fork(w, n, held, next, kinds, tops, lows, highs),
+        Class::JumpIfTrue => fork(w, n, held, next, kinds, tops, lows, highs),
         Class::Tick => typing::push(kinds, held, kinds::tick_kind(w)),
         Class::Since => typing::since(kinds, held, w),
         Class::Load => typing::push(kinds, held, kinds::load_kind(w)),
@@ -194,12 +199,11 @@ fn skipped(code: &[u8], n: usize, from: usize, tops: &[u8]) -> usize
 }
 
 // The end has one value.
-fn ended(held: Held, kinds: &[u8; 128]) -> Verdict
-    requires { ⌜ ArrayHolds (now kinds) held ⌝ }
+fn ended(held: Held) -> Verdict
     ensures { λ r. ⌜ r ≡ verdictOf (holds (kindsOf held)) ⌝ }
 {
     if held.height == 1 {
-        return Verdict::Accepted(typing::kind(kinds[0]));
+        return Verdict::Accepted(typing::kind(packing::lowest(held)));
     }
     Verdict::Refused
 }
@@ -218,6 +222,7 @@ fn checked(code: &[u8], n: usize, tops: &mut [u8], lows: &mut [u64], highs: &mut
         height: 0,
         low: 0,
         high: 0,
+        floor: 0,
     };
     let mut place: usize = 0;
     while place < n {
@@ -234,47 +239,138 @@ fn checked(code: &[u8], n: usize, tops: &mut [u8], lows: &mut [u64], highs: &mut
                 return Verdict::Refused;
             }
             let there = joined_at(place, tops, lows, highs);
-            packing::restore(&mut kinds, held, there);
-            held = there;
+            held = packing::refilled(&mut kinds, there);
             continue;
         }
         if !agrees(held, place, tops, lows, highs) {
             return Verdict::Refused;
         }
     }
-    ended(held, &kinds)
+    ended(held)
 }
 
-// The first n instructions of the code. Short code gets short tables, since clearing long ones would take longer than the pass.
-pub fn check(code: &[u8], n: usize) -> Verdict
+// A function for each size of tables: those of a size that is not wanted have no part in the frame. Short code gets short tables, since
+// clearing long ones would take longer than the pass.
+fn within_32(code: &[u8], n: usize) -> Verdict
+    requires { ⌜ (0 < n) × (n < 32) ⌝ }
+    ensures { λ r. ⌜ CorrectVerdict (now (code .entry)) n r ⌝ }
+{
+    let mut tops = [0u8; 32];
+    let mut lows = [0u64; 32];
+    let mut highs = [0u64; 32];
+    checked(code, n, &mut tops, &mut lows, &mut highs)
+}
+
+fn within_64(code: &[u8], n: usize) -> Verdict
+    requires { ⌜ (0 < n) × (n < 64) ⌝ }
+    ensures { λ r. ⌜ CorrectVerdict (now (code .entry)) n r ⌝ }
+{
+    let mut tops = [0u8; 64];
+    let mut lows = [0u64; 64];
+    let mut highs = [0u64; 64];
+    checked(code, n, &mut tops, &mut lows, &mut highs)
+}
+
+fn within_129(code: &[u8], n: usize) -> Verdict
+    requires { ⌜ (0 < n) × (n < 129) ⌝ }
+    ensures { λ r. ⌜ CorrectVerdict (now (code .entry)) n r ⌝ }
+{
+    let mut tops = [0u8; 129];
+    let mut lows = [0u64; 129];
+    let mut highs = [0u64; 129];
+    checked(code, n, &mut tops, &mut lows, &mut highs)
+}
+
+fn within_513(code: &[u8], n: usize) -> Verdict
+    requires { ⌜ (0 < n) × (n < 513) ⌝ }
+    ensures { λ r. ⌜ CorrectVerdict (now (code .entry)) n r ⌝ }
+{
+    let mut tops = [0u8; 513];
+    let mut lows = [0u64; 513];
+    let mut highs = [0u64; 513];
+    checked(code, n, &mut tops, &mut lows, &mut highs)
+}
+
+fn within_1025(code: &[u8], n: usize) -> Verdict
+    requires { ⌜ (0 < n) × (n < 1025) ⌝ }
+    ensures { λ r. ⌜ CorrectVerdict (now (code .entry)) n r ⌝ }
+{
+    let mut tops = [0u8; 1025];
+    let mut lows = [0u64; 1025];
+    let mut highs = [0u64; 1025];
+    checked(code, n, &mut tops, &mut lows, &mut highs)
+}
+
+fn within_2049(code: &[u8], n: usize) -> Verdict
+    requires { ⌜ (0 < n) × (n < 2049) ⌝ }
+    ensures { λ r. ⌜ CorrectVerdict (now (code .entry)) n r ⌝ }
+{
+    let mut tops = [0u8; 2049];
+    let mut lows = [0u64; 2049];
+    let mut highs = [0u64; 2049];
+    checked(code, n, &mut tops, &mut lows, &mut highs)
+}
+
+// Under 129 instructions, in a small frame. It and `long` have two callers each, so that they are not made a part of either.
+fn short(code: &[u8], n: usize) -> Verdict
+    requires { ⌜ n < 129 ⌝ }
     ensures { λ r. ⌜ CorrectVerdict (now (code .entry)) n r ⌝ }
 {
     if n == 0 {
         return Verdict::Refused;
     }
-    if n < 33 {
-        let mut tops = [0u8; 33];
-        let mut lows = [0u64; 33];
-        let mut highs = [0u64; 33];
-        return checked(code, n, &mut tops, &mut lows, &mut highs);
+    if n < 32 {
+        return within_32(code, n);
     }
-    if n < 129 {
-        let mut tops = [0u8; 129];
-        let mut lows = [0u64; 129];
-        let mut highs = [0u64; 129];
-        return checked(code, n, &mut tops, &mut lows, &mut highs);
+    if n < 64 {
+        return within_64(code, n);
     }
+    within_129(code, n)
+}
+
+fn long(code: &[u8], n: usize) -> Verdict
+    requires { ⌜ 0 < n ⌝ }
+    ensures { λ r. ⌜ CorrectVerdict (now (code .entry)) n r ⌝ }
+{
     if n < 513 {
-        let mut tops = [0u8; 513];
-        let mut lows = [0u64; 513];
-        let mut highs = [0u64; 513];
-        return checked(code, n, &mut tops, &mut lows, &mut highs);
+        return within_513(code, n);
+    }
+    if n < 1025 {
+        return within_1025(code, n);
     }
     if n < 2049 {
-        let mut tops = [0u8; 2049];
-        let mut lows = [0u64; 2049];
-        let mut highs = [0u64; 2049];
-        return checked(code, n, &mut tops, &mut lows, &mut highs);
+        return within_2049(code, n);
     }
     Verdict::Refused
+}
+
+// The first n instructions of the code.
+pub fn check(code: &[u8], n: usize) -> Verdict
+    ensures { λ r. ⌜ CorrectVerdict (now (code .entry)) n r ⌝ }
+{
+    if n < 129 {
+        short(code, n)
+    } else {
+        long(code, n)
+    }
+}
+
+fn is_accepted(verdict: Verdict) -> bool
+    ensures { λ r. ⌜ r ≡ isAccepted verdict ⌝ }
+{
+    match verdict {
+        Verdict::Accepted(_) => true,
+        Verdict::Refused => false,
+    }
+}
+
+// The same for a caller that does not ask for the kind.
+pub fn accepts(code: &[u8], n: usize) -> bool
+    ensures { λ r. ⌜ r ≡ isAccepted (verdict (instructions (now (code .entry)) n)) ⌝ }
+{
+    if n < 129 {
+        is_accepted(short(code, n))
+    } else {
+        is_accepted(long(code, n))
+    }
 }

@@ -104,7 +104,11 @@ pub fn binary(kinds: &mut [u8; 128], held: Held, w: u64) -> Flow
         return Flow { reach: 0, held };
     }
     let k = kinds::binary_kind(w, kinds[h - 2], kinds[h - 1]);
-    replace(kinds, packing::popped(held), k)
+    if NOT_TAKEN <= k {
+        return Flow { reach: 0, held };
+    }
+    let rest = packing::uncovered(kinds, packing::popped(held));
+    replace(kinds, rest, k)
 }
 
 pub fn matching(kinds: &mut [u8; 128], held: Held, w: u64) -> Flow

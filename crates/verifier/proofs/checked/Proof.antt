@@ -11,6 +11,7 @@ use Rattle.code.proofs.Parts.{decode-fetched}
 use Rattle.operators.proofs.Arms.{first as some}
 use Rattle.verifier.specs.private.Shapes.{State, unreached, holds, kindsOf, stateAt, stateOf, tableOf}
 use Rattle.verifier.proofs.Checking.{too-short, Passing, first, Came, turn, fails, agreed, disagreed, landed, lost, ends}
+use Rattle.verifier.proofs.Bits.{same-kinds}
 use Rattle.verifier.proofs.Merging.{sized, resized}
 use Rattle.verifier.proofs.Stepping.{state-holds}
 use Rattle.verifier.proofs.checked.Statement.{statement}
@@ -135,8 +136,8 @@ joined-at-requires c κs =
     let m = c .before .before .before .before .before .before .before .before .before .before .before .before .before .before .before .before .before .before in
     ((omega (arith, c .before .before .before .before .before .skipped .ensures .way .within, tops-after m, entry m .pre .1 .room), some (c .before .before .before .if4 .left)), sized (m .step .ensures .1 .0))
 
-restore-requires : tie.Need-restore-requires Inv-loop μ-loop
-restore-requires c κs = (c .before .before .before .before .before .before .before .before .before .before .before .before .before .before .before .before .before .before .before .before .step .ensures .0, c .before .joined-at .ensures .0)
+refilled-requires : tie.Need-refilled-requires Inv-loop μ-loop
+refilled-requires c κs = (c .before .before .before .before .before .before .before .before .before .before .before .before .before .before .before .before .before .before .before .before .step .ensures .0 .whole, c .before .joined-at .ensures .0)
 
 loop-less : tie.Need-loop-less Inv-loop μ-loop
 loop-less c = omega (arith, c .before .before .before .before .before .before .before .before .skipped .ensures .way .onward, c .before .before .before .before .before .before .before .before .skipped .ensures .way .within, c .before .before .before .before .before .before .before .before .before .before .before .before .before .before .before .before .before .before .before .before .before .before .before .before .before .before .before .loop-test .taken)
@@ -146,9 +147,9 @@ loop-again c =
     let m = c .before .before .before .before .before .before .before .before .before .before .before .before .before .before .before .before .before .before .before .before .before in
     record {
       within = c .before .before .before .before .before .before .before .before .skipped .ensures .way .within;
-      keeps = c .restore .ensures;
+      keeps = c .refilled .ensures .0;
       table = resized (tops-kept (at-loop m)) (m .step .ensures .1 .0);
-      knows = landed _ _ (came m) (came-not m (c .before .before .before .before .before .before .before .before .before .before .if3 .taken)) (λ q e. rw e) (c .before .before .before .before .before .before .before .before .skipped .ensures) (c .before .before .joined-at .ensures .1);
+      knows = landed _ _ (came m) (came-not m (c .before .before .before .before .before .before .before .before .before .before .if3 .taken)) (λ q e. rw e) (c .before .before .before .before .before .before .before .before .skipped .ensures) (ap holds (same-kinds (c .refilled .ensures .1)) ∙ c .before .before .joined-at .ensures .1);
     }
 
 agrees-requires : tie.Need-agrees-requires Inv-loop μ-loop
@@ -184,20 +185,20 @@ loop-again-2 c =
     }
 
 ended-requires : tie.Need-ended-requires Inv-loop μ-loop
-ended-requires c κs = c .before .before .loop .inv .keeps
+ended-requires c κs = search needs
 
 same-length-10 : tie.Need-same-length-10 Inv-loop μ-loop
-same-length-10 c = tops-kept (c .before .before .before)
+same-length-10 c = tops-kept (c .before .before)
 
 same-length-11 : tie.Need-same-length-11 Inv-loop μ-loop
-same-length-11 c = lows-kept (c .before .before .before)
+same-length-11 c = lows-kept (c .before .before)
 
 same-length-12 : tie.Need-same-length-12 Inv-loop μ-loop
-same-length-12 c = highs-kept (c .before .before .before)
+same-length-12 c = highs-kept (c .before .before)
 
 returns-5 : tie.Need-returns-5 Inv-loop μ-loop
 returns-5 c =
-    let l = c .before .before .before in
+    let l = c .before .before in
     ends _ _ (start l .pre .0 .0) (start l .pre .0 .1) (omega arith) (l .loop .inv .knows) (c .ended .ensures)
 
 pub checked-spec : {M : Type 1} → statement M
@@ -222,7 +223,7 @@ checked-spec =
     same-length-6
     returns-3
     joined-at-requires
-    restore-requires
+    refilled-requires
     loop-less
     loop-again
     agrees-requires

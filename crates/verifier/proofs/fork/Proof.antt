@@ -5,7 +5,7 @@ use native.Mathlib.Omega.{arith}
 use borrow.Author.Needs.{needs}
 use borrow.Author.Tests.{leb-true, not-true, not-false}
 use Rattle.code.specs.Instructions.{wordOf}
-use Rattle.verifier.proofs.Bits.{neat-popped}
+use Rattle.verifier.proofs.Bits.{neat-popped, popped-same}
 use Rattle.verifier.proofs.Held.{keeps-popped}
 use Rattle.verifier.proofs.Stepping.{fork-short, fork-strays, fork-lands, fork-fails}
 use Rattle.verifier.proofs.fork.Statement.{statement}
@@ -14,7 +14,7 @@ use Rattle.verifier.proofs.fork.Tie as tie
 returns : tie.Need-returns
 returns c =
     let start = c .before .before .before .before .before in
-    (λ a k. k, (start .pre .1, λ t. fork-short _ _ t (start .args .held) (c .if1 .taken)))
+    (start .pre .0, (start .pre .1 .1, λ t. fork-short _ _ t (start .args .held) (c .if1 .taken)))
 
 sub-stays : tie.Need-sub-stays
 sub-stays c = search needs
@@ -24,18 +24,17 @@ stays-requires c κs = search needs
 
 returns-2 : tie.Need-returns-2
 returns-2 c =
-    let at-stays = c .before in
-    let start = at-stays .before .before .before .before .before .before in (
-      λ a k. k,
-      (
-        start .pre .1,
-        λ t. fork-strays _ _ t (start .args .held) (sym (at-stays .stays .ensures) ∙ not-true _
-            (c .if2 .taken)),
-      ),
-    )
+    let start = c .before .before .before .before .before .before .before in
+    (start .pre .0, (start .pre .1 .1, λ t. fork-strays _ _ t (start .args .held) (sym (c .before .stays .ensures) ∙ not-true _ (c .if2 .taken))))
 
 popped-requires : tie.Need-popped-requires
 popped-requires c κs = search needs
+
+uncovered-requires : tie.Need-uncovered-requires
+uncovered-requires c κs =
+    let start = c .before .before .before .before .before .before .before .before .before in
+    let p = c .popped .ensures in
+    (start .pre .0 .whole, neat-popped (omega arith) (p .0) (start .pre .0 .canonical), λ f. keeps-popped (start .pre .0) (omega arith) (p .0) (p .1) f)
 
 word-of-requires : tie.Need-word-of-requires
 word-of-requires c κs = search needs
@@ -48,22 +47,16 @@ add-target c = search needs
 
 merge-requires : tie.Need-merge-requires
 merge-requires c κs =
-    let at-word-of = c .before .before .before in
-    let at-popped = at-word-of .before in
-    let at-if2 = at-popped .before in
-    let at-stays = at-if2 .before in
-    let start = at-stays .before .before .before .before .before .before in (
-      neat-popped (omega arith) (at-popped .popped .ensures) (start .pre .0 .0),
+    let start = c .before .before .before .before .before .before .before .before .before .before .before .before .before .before in (
+      c .before .before .before .before .uncovered .ensures .0 .canonical,
       (
         omega (
           arith,
-          leb-true
-              (wordOf (start .args .w)) (start .args .n - start .args .next) (sym (at-stays .stays .ensures) ∙ not-false _
-              (at-if2 .if2 .left)),
-          at-word-of .word-of .ensures,
-          start .pre .0 .1,
+          leb-true (wordOf (start .args .w)) (start .args .n - start .args .next) (sym (c .before .before .before .before .before .before .before .before .stays .ensures) ∙ not-false _ (c .before .before .before .before .before .before .before .if2 .left)),
+          c .before .before .before .word-of .ensures,
+          start .pre .1 .0 .1,
         ),
-        start .pre .1,
+        start .pre .1 .1,
       ),
     )
 
@@ -78,18 +71,12 @@ same-length-3 c = search needs
 
 returns-3 : tie.Need-returns-3
 returns-3 c =
-    let at-merge = c .before .before .before .before .before .before .before in
-    let at-word-of = at-merge .before .before .before .before in
-    let at-popped = at-word-of .before in
-    let at-if2 = at-popped .before in
-    let at-stays = at-if2 .before in
-    let start = at-stays .before .before .before .before .before .before in (
-      λ a k. keeps-popped k (omega arith) (at-popped .popped .ensures),
+    let start = c .before .before .before .before .before .before .before .before .before .before .before .before .before .before .before .before .before .before .before .before .before .before in (
+      c .before .before .before .before .before .before .before .before .before .before .before .before .uncovered .ensures .0,
       (
-        at-merge .merge .ensures .0,
-        λ t. fork-lands _ _ t
-            (start .args .held) (omega arith) (at-popped .popped .ensures) (sym (at-stays .stays .ensures) ∙ not-false _
-            (at-if2 .if2 .left)) (c .if3 .taken) (rw (at-word-of .word-of .ensures) at (at-merge .merge .ensures .1)),
+        c .before .before .before .before .before .before .before .merge .ensures .0,
+        λ t. fork-lands _ _ t (start .args .held) (omega (arith, c .before .before .before .before .before .before .before .before .before .before .before .before .before .before .before .before .before .if1 .left)) (popped-same (c .before .before .before .before .before .before .before .before .before .before .before .before .before .popped .ensures .0) (c .before .before .before .before .before .before .before .before .before .before .before .before .uncovered .ensures .1)) (sym (c .before .before .before .before .before .before .before .before .before .before .before .before .before .before .before .before .stays .ensures) ∙ not-false _ (c .before .before .before .before .before .before .before .before .before .before .before .before .before .before .before .if2 .left)) (c .if3 .taken)
+            (rw (c .before .before .before .before .before .before .before .before .before .before .before .word-of .ensures) at (c .before .before .before .before .before .before .before .merge .ensures .1)),
       ),
     )
 
@@ -104,16 +91,11 @@ same-length-6 c = search needs
 
 returns-4 : tie.Need-returns-4
 returns-4 c =
-    let at-merge = c .before .before .before .before .before .before .before in
-    let at-word-of = at-merge .before .before .before .before in
-    let at-popped = at-word-of .before in
-    let start = at-popped .before .before .before .before .before .before .before .before in (
-      λ a k. keeps-popped k (omega arith) (at-popped .popped .ensures),
+    let start = c .before .before .before .before .before .before .before .before .before .before .before .before .before .before .before .before .before .before .before .before .before .before in (
+      c .before .before .before .before .before .before .before .before .before .before .before .before .uncovered .ensures .0,
       (
-        at-merge .merge .ensures .0,
-        λ t. fork-fails _ _ t
-            (start .args .held) (omega arith) (at-popped .popped .ensures) (c .if3 .left) (rw (at-word-of .word-of .ensures) at
-            (at-merge .merge .ensures .1)),
+        c .before .before .before .before .before .before .before .merge .ensures .0,
+        λ t. fork-fails _ _ t (start .args .held) (omega (arith, c .before .before .before .before .before .before .before .before .before .before .before .before .before .before .before .before .before .if1 .left)) (popped-same (c .before .before .before .before .before .before .before .before .before .before .before .before .before .popped .ensures .0) (c .before .before .before .before .before .before .before .before .before .before .before .before .uncovered .ensures .1)) (c .if3 .left) (rw (c .before .before .before .before .before .before .before .before .before .before .before .word-of .ensures) at (c .before .before .before .before .before .before .before .merge .ensures .1)),
       ),
     )
 
@@ -126,6 +108,7 @@ fork-spec =
     stays-requires
     returns-2
     popped-requires
+    uncovered-requires
     word-of-requires
     cast-target
     add-target

@@ -1,7 +1,8 @@
 -- `verifier::typing::binary` meets its contract: two values are replaced by one where their kinds are taken.
 use native.Mathlib.Omega.{arith}
 use borrow.Author.Needs.{needs}
-use Rattle.verifier.proofs.Held.{keeps-popped, short, taken-two, binary-short}
+use Rattle.verifier.proofs.Bits.{popped-same, neat-popped}
+use Rattle.verifier.proofs.Held.{keeps-popped, short, taken-two, refused-two, binary-short}
 use Rattle.verifier.proofs.typing.binary.Statement.{statement}
 use Rattle.verifier.proofs.typing.binary.Tie as tie
 
@@ -20,21 +21,20 @@ element-copy-out-binary-kind-2 c = search needs
 binary-kind-requires : tie.Need-binary-kind-requires
 binary-kind-requires c κs = search needs
 
+returns-2 : tie.Need-returns-2
+returns-2 c = refused-two (c .before .before .before .before .before .pre) (omega arith) (c .before .binary-kind .ensures) (c .if2 .taken)
+
 popped-requires : tie.Need-popped-requires
 popped-requires c κs = search needs
 
-replace-requires : tie.Need-replace-requires
-replace-requires c κs =
-    let start = c .before .before .before .before .before .before in
-    (keeps-popped (start .pre) (omega arith) (c .popped .ensures), omega (arith, c .popped .ensures .height))
+uncovered-requires : tie.Need-uncovered-requires
+uncovered-requires c κs = (c .before .before .before .before .before .before .before .pre .whole, neat-popped (omega arith) (c .popped .ensures .0) (c .before .before .before .before .before .before .before .pre .canonical), λ f. keeps-popped (c .before .before .before .before .before .before .before .pre) (omega arith) (c .popped .ensures .0) (c .popped .ensures .1) f)
 
-returns-2 : tie.Need-returns-2
-returns-2 c =
-    let at-popped = c .before in
-    let at-binary-kind = at-popped .before .before in
-    let start = at-binary-kind .before .before .before .before in
-    taken-two (start .pre) (omega arith) (at-popped .popped .ensures) (at-binary-kind .binary-kind .ensures)
-    (c .replace .ensures)
+replace-requires : tie.Need-replace-requires
+replace-requires c κs = (c .before .uncovered .ensures .0, omega (arith, c .before .before .popped .ensures .0 .height, c .before .uncovered .ensures .1 .height))
+
+returns-3 : tie.Need-returns-3
+returns-3 c = taken-two (c .before .before .before .before .before .before .before .before .before .before .pre) (omega arith) (popped-same (c .before .before .before .popped .ensures .0) (c .before .before .uncovered .ensures .1)) (c .before .before .before .before .before .before .binary-kind .ensures) (c .replace .ensures)
 
 pub binary-spec : {M : Type 1} → statement M
 binary-spec =
@@ -45,6 +45,8 @@ binary-spec =
     sub-binary-kind
     element-copy-out-binary-kind-2
     binary-kind-requires
+    returns-2
     popped-requires
+    uncovered-requires
     replace-requires
-    returns-2)
+    returns-3)

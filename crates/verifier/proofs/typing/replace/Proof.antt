@@ -5,7 +5,7 @@ use Rattle.verifier.proofs.typing.replace.Statement.{statement}
 use Rattle.verifier.proofs.typing.replace.Tie as tie
 
 returns : tie.Need-returns
-returns c = unplaced (c .before .pre .0) (c .if1 .taken)
+returns c = unplaced (c .before .pre .0) _ (c .if1 .taken)
 
 sub-kinds : tie.Need-sub-kinds
 sub-kinds c = search needs
