@@ -28,7 +28,7 @@ list_archives() {
 keep_modules() {
     have rt "everything is" || exit 1
     for library in $(cut -d ' ' -f 1 "$out/archives" | sort -u); do
-        echo "== $library is proved, and its module kept"
+        echo "== $library is proved, with all that it uses, and its module kept: the first time that takes many minutes"
         sh controller/module/capture.sh "$library" > "$out/capture.out" 2>&1 || { tail -5 "$out/capture.out"; fail "$library"; exit 1; }
         grep '^logic=' "$out/capture.out"
     done

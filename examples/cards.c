@@ -20,10 +20,11 @@ static uint8_t index_code[FORMULA_CODE_BYTES];
 /* 1 if every card is good. The texts of the cards stay in the file: the result has where they stand. */
 static int read_file(const uint8_t *file, size_t length, struct formula_cards *found)
 {
+    char words[FORMULA_WORDS_BYTES + 1];
     formula_cards_read(file, length, found);
     if (found->answer != FORMULA_DONE) {
         printf("refused: answer %u, the card at byte %u: %s\n", (unsigned)found->answer, (unsigned)found->place,
-               formula_answer_text(found->answer));
+               formula_answer_text(found->answer, words));
         return 0;
     }
     printf("%u cards\n", (unsigned)found->count);
@@ -34,10 +35,11 @@ static void show_value(const struct formula_report *report)
 {
     float real;
     int32_t integer;
+    char words[FORMULA_WORDS_BYTES + 1];
     memcpy(&real, &report->bits, 4);
     memcpy(&integer, &report->bits, 4);
     if (report->answer != FORMULA_DONE) {
-        printf("answer %u, %s\n", (unsigned)report->answer, formula_answer_text(report->answer));
+        printf("answer %u, %s\n", (unsigned)report->answer, formula_answer_text(report->answer, words));
     } else if (report->kind == FORMULA_REAL) {
         printf("%c%u = %.3f\n", "XCVNDR"[report->bank], (unsigned)report->element, real);
     } else {

@@ -59,8 +59,9 @@ static void set_r(unsigned element, float value)
 /* Points at the byte of the formula that a refusal is about. */
 static void show_refusal(const char *formula, const struct formula_report *report)
 {
+    char words[FORMULA_WORDS_BYTES + 1];
     printf("  refused: answer %u at place %u, %s\n", (unsigned)report->answer, (unsigned)report->place,
-           formula_answer_text(report->answer));
+           formula_answer_text(report->answer, words));
     printf("    %s\n    %*s\n", formula, (int)report->place + 1, "^");
 }
 
@@ -68,6 +69,7 @@ static void show_refusal(const char *formula, const struct formula_report *repor
 static int load(struct line *line)
 {
     struct formula_report report;
+    char words[FORMULA_WORDS_BYTES + 1];
     const uint8_t *text = (const uint8_t *)line->formula;
     formula_compile(text, strlen(line->formula), line->code, sizeof line->code, &report);
     if (report.answer != FORMULA_DONE) {
@@ -78,7 +80,7 @@ static int load(struct line *line)
     formula_compile_target((const uint8_t *)line->target, strlen(line->target), line->index_code, sizeof line->index_code,
                            &report);
     if (report.answer != FORMULA_DONE) {
-        printf("  refused: answer %u, %s\n", (unsigned)report.answer, formula_answer_text(report.answer));
+        printf("  refused: answer %u, %s\n", (unsigned)report.answer, formula_answer_text(report.answer, words));
         return 0;
     }
     line->index_instructions = report.count;
@@ -109,11 +111,12 @@ static void show_value(const struct line *line, const struct formula_report *rep
     unsigned element = (unsigned)report->element;
     float real;
     int32_t integer;
+    char words[FORMULA_WORDS_BYTES + 1];
     memcpy(&real, &report->bits, 4);
     memcpy(&integer, &report->bits, 4);
     if (report->answer != FORMULA_DONE) {
         printf("  %s keeps its value: answer %u, %s\n", line->target, (unsigned)report->answer,
-               formula_answer_text(report->answer));
+               formula_answer_text(report->answer, words));
     } else if (report->kind == FORMULA_REAL) {
         printf("  %c%u = %.3f\n", bank, element, real);
     } else {
@@ -142,13 +145,14 @@ static void show_on_panel(uint32_t tick)
 {
     const struct line *line = &recipe[0];
     struct formula_report report;
+    char words[FORMULA_WORDS_BYTES + 1];
     float millilitres;
     formula_evaluate(line->code, sizeof line->code, line->instructions, memory, sizeof memory, tick, &report);
     memcpy(&millilitres, &report.bits, 4);
     if (report.answer == FORMULA_DONE) {
         printf("  panel: %.3f ml\n", millilitres);
     } else {
-        printf("  panel: %s\n", formula_answer_text(report.answer));
+        printf("  panel: %s\n", formula_answer_text(report.answer, words));
     }
 }
 

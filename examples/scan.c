@@ -116,6 +116,7 @@ static int independent(size_t a, size_t b)
 static void scan(uint32_t tick, uint16_t grams, uint16_t skeins, uint16_t vat)
 {
     struct formula_answers result;
+    char words[FORMULA_WORDS_BYTES + 1];
     set_v(0, grams);
     set_v(1, skeins);
     set_v(2, vat);
@@ -123,7 +124,7 @@ static void scan(uint32_t tick, uint16_t grams, uint16_t skeins, uint16_t vat)
                      tick, &result);
     printf("scan: %u g, %u skeins, vat %u: answer %u\n", grams, skeins, vat, (unsigned)result.answer);
     for (size_t i = 0; i < LINES; i++) {
-        printf("  %s: %s\n", lines[i][0], formula_answer_text(result.answers[i]));
+        printf("  %s: %s\n", lines[i][0], formula_answer_text(result.answers[i], words));
     }
     printf("  D0 = %ld, D20 = %ld\n", (long)get_d(0), (long)get_d(20));
 }

@@ -29,7 +29,7 @@
 extern "C" {
 #endif
 
-#define FORMULA_VERSION 5 /* rises where this header, an answer or the bytes of an instruction change their meaning */
+#define FORMULA_VERSION 6 /* rises where this header, an answer or the bytes of an instruction change their meaning */
 
 #define FORMULA_TEXT_BYTES        1024u  /* the longest expression, and the longest target */
 #define FORMULA_MEMORY_BYTES      3092u  /* the only size of a memory */
@@ -66,7 +66,7 @@ static inline void formula_set_bit(uint8_t *memory, uint32_t bank, uint32_t elem
     memory[bank + element / 8] = (uint8_t)(others | (unsigned)(value != 0) << element % 8);
 }
 
-/* formula_answer_text, below, says what each means. */
+/* formula_words, below, says what each means. */
 enum formula_answer {
     FORMULA_DONE = 0,
     FORMULA_BAD_MEMORY = 1,
@@ -246,6 +246,26 @@ void formula_replay(const uint8_t *cards, uint64_t cards_len, const uint8_t *log
 uint32_t formula_cells(const uint8_t *code, uint64_t code_len, uint64_t instructions, const uint8_t *index_code, uint64_t index_len,
                        uint64_t index_instructions, uint16_t *list, uint64_t list_len);
 
+/* ---- Code and answers in words. */
+
+#define FORMULA_LISTING_BYTES 65536u /* the least size of a text to list into: 32 bytes an instruction */
+#define FORMULA_WORDS_BYTES   47u    /* the longest words of an answer */
+
+/* length is 0 on a refusal. */
+struct formula_listed {
+    uint32_t answer, length;
+};
+
+/* Lists the first instructions of a code, a line each: the place, the name of docs/INSTRUCTIONS.md and what it works on, a jump with the place that it
+ * leads to, as in "2 JUMP_IF_FALSE 5" or "3 SUMR D0 10". The bytes behind what is written are left alone, and a refusal writes nothing. Answers: 0; 10 for
+ * a text under FORMULA_LISTING_BYTES; 15 where formula_check answers it. */
+void formula_listing(const uint8_t *code, uint64_t code_len, uint64_t instructions, uint8_t *text, uint64_t text_len,
+                     struct formula_listed *result);
+
+/* What an answer means, in a few words: the bytes, no final zero. Returns how many there are, at most FORMULA_WORDS_BYTES, 0 for a number that is no
+ * answer; text gets as many as fit, and its rest is left alone. */
+uint32_t formula_words(uint32_t answer, uint8_t *text, uint64_t text_len);
+
 #define FORMULA_OLD_MEMORY_BYTES 3204u /* a memory as it was before version 5: one byte a bit, any non-zero byte reads 1 */
 
 /* An old memory into a new one, and back with 0 or 1 for each bit; every other byte is carried over as it is, flags too. Both answer
@@ -266,32 +286,11 @@ static inline int formula_float_mode_ok(void)
     return tie_down <= one && tie_up > next && half > 0 && least > 0;
 }
 
-/* What an answer means, in a few words. */
-static inline const char *formula_answer_text(uint32_t answer)
+/* formula_words with a final zero, for printing; returns text. */
+static inline const char *formula_answer_text(uint32_t answer, char text[FORMULA_WORDS_BYTES + 1])
 {
-    switch (answer) {
-    case FORMULA_DONE: return "done";
-    case FORMULA_BAD_MEMORY: return "the memory has not its size, 3,092 bytes";
-    case FORMULA_BAD_TARGET: return "no C, V, N, D or R cell, nor indexed bank";
-    case FORMULA_BAD_LENGTH: return "the expression is empty or has over 1,024 bytes";
-    case FORMULA_BAD_BYTES: return "bytes that form no token";
-    case FORMULA_BAD_NUMBER: return "a number out of range";
-    case FORMULA_BAD_NAME: return "no such name, cell or run of cells";
-    case FORMULA_BAD_GRAMMAR: return "not in the grammar";
-    case FORMULA_TOO_DEEP: return "more than eight open ( and [";
-    case FORMULA_BAD_KIND: return "a real where an integer is needed";
-    case FORMULA_SMALL_BUFFER: return "compiling into fewer than 16,384 bytes, or a file that does not fit";
-    case FORMULA_DIVIDE_FAULT: return "divided by zero";
-    case FORMULA_OVERFLOW_FAULT: return "overflow";
-    case FORMULA_RANGE_FAULT: return "out of range";
-    case FORMULA_INDEX_FAULT: return "an index below zero or beyond its bank";
-    case FORMULA_BAD_CODE: return "the instructions do not lie in the buffer, or the check does not accept them";
-    case FORMULA_BAD_LINE: return "a line out of form or order";
-    case FORMULA_BAD_CHECK: return "the check differs";
-    case FORMULA_BAD_ORDER: return "the number is not above the one before";
-    case FORMULA_LONG_LIST: return "more than forty formulas in a list";
-    default: return "no answer of this library";
-    }
+    text[formula_words(answer, (uint8_t *)text, FORMULA_WORDS_BYTES)] = 0;
+    return text;
 }
 
 #ifdef __cplusplus

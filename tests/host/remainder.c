@@ -142,6 +142,7 @@ static void compile_operator(void)
 static unsigned test_operator(void)
 {
     struct formula_report report;
+    char words[FORMULA_WORDS_BYTES + 1];
     for (unsigned i = 0; i < BATCH; i++) {
         int fault = (dividends[i] & INFINITE) == INFINITE || (divisors[i] & INFINITE) == INFINITE || (divisors[i] & ~SIGN) == 0;
         memcpy(memory + FORMULA_R, &dividends[i], 4);
@@ -150,7 +151,7 @@ static unsigned test_operator(void)
         found[i] = fault ? expected[i] : report.bits;
         if (fault != (report.answer != FORMULA_DONE)) {
             printf("R0 %% R1: %08x %% %08x gives answer %u, %s\n", dividends[i], divisors[i], report.answer,
-                   formula_answer_text(report.answer));
+                   formula_answer_text(report.answer, words));
             return 1;
         }
     }

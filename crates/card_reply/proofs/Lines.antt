@@ -11,11 +11,12 @@ use lib.Seq.{take-all}
 use borrow.Author.Tests.{eq-eqb, ne-eqb}
 use Rattle.words.specs.Ascii.{ascii}
 use Rattle.lines.specs.Printing.{decimalText}
+use Rattle.answer_words.specs.Words.{wordsOf}
 use Rattle.lines.specs.private.Steps.{Puts}
 use Rattle.lines.proofs.Stores.{as-text}
 use Rattle.card_laws.specs.Cards.{cardKey}
 use Rattle.card_file.specs.Spans.{lineNumber}
-use Rattle.card_reply.specs.Reply.{wordsOf, resultLines, cardText, refusedLines, replyText}
+use Rattle.card_reply.specs.Reply.{resultLines, cardText, refusedLines, replyText}
 
 pub none-put : (l : List ℕ) (at : ℕ) → Puts l at l at []
 none-put l at = record { bytes = refl; end = sym (add-zero at) }

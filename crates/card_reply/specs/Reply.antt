@@ -1,5 +1,5 @@
 -- What the program `cards` prints of a file (issue of request 6): "Three lines always, and two more on a refusal": `card=` the number in the refused card's first line, left out where that line has not its form,
--- and `words=` the answer in the words of the header's text.
+-- and `words=` the answer in words.
 use mathlib.Core.Bool.{Bool, cond}
 use mathlib.Core.List.{List, [], _∷_, _++_}
 use Prim.Native.Nat.{ℕ}
@@ -7,24 +7,10 @@ use lib.Dec.{eqb}
 use lib.ListN.{drop, getD}
 use Rattle.words.specs.Ascii.{ascii}
 use Rattle.lines.specs.Printing.{decimalText}
+use Rattle.answer_words.specs.Words.{wordsOf}
 use Rattle.card_laws.specs.Lines.{ended}
 use Rattle.card_laws.specs.Cards.{cardKey}
 use Rattle.card_file.specs.Spans.{lineNumber}
-
-unfoldable pub wordsOf : ℕ → List ℕ
-wordsOf a =
-    cond (eqb a 2) (ascii "no C, V, N, D or R cell, nor indexed bank")
-    (cond (eqb a 3) (ascii "the expression is empty or has over 1,024 bytes")
-    (cond (eqb a 4) (ascii "bytes that form no token")
-    (cond (eqb a 5) (ascii "a number out of range")
-    (cond (eqb a 6) (ascii "no such name, cell or run of cells")
-    (cond (eqb a 7) (ascii "not in the grammar")
-    (cond (eqb a 8) (ascii "more than eight open ( and [")
-    (cond (eqb a 9) (ascii "a real where an integer is needed")
-    (cond (eqb a 16) (ascii "a line out of form or order")
-    (cond (eqb a 17) (ascii "the check differs")
-    (cond (eqb a 18) (ascii "the number is not above the one before")
-    []))))))))))
 
 -- a line `key=` and a number
 abbrev pub numberLine : List ℕ → ℕ → List ℕ → List ℕ

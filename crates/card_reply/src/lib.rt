@@ -6,52 +6,10 @@ ghost use Rattle.lines.specs.private.Steps.{Puts};
 ghost use Rattle.card_laws.specs.Reading.{readCards};
 ghost use Rattle.card_laws.specs.Formulas.{formulaAnswer};
 ghost use Rattle.card_file.specs.Words.{readWords};
-ghost use Rattle.card_reply.specs.Reply.{wordsOf, resultLines, cardText, refusedLines, replyText};
+ghost use Rattle.card_reply.specs.Reply.{resultLines, cardText, refusedLines, replyText};
 use card_file::form;
 use card_file::read;
 use lines::printing;
-
-// The answer in words: those of the header's text.
-fn put_words(out: &mut [u8], at: usize, a: u32) -> usize
-    requires { ⌜ at + 47 ≤ length (now out) ⌝ }
-    ensures { λ r. ⌜ Puts (now (out .entry)) at (now (out .exit)) r (wordsOf a) ⌝ }
-    ensures { λ r. ⌜ r ≤ at + 47 ⌝ }
-{
-    if a == 2 {
-        return printing::put_all(out, at, b"no C, V, N, D or R cell, nor indexed bank");
-    }
-    if a == 3 {
-        return printing::put_all(out, at, b"the expression is empty or has over 1,024 bytes");
-    }
-    if a == 4 {
-        return printing::put_all(out, at, b"bytes that form no token");
-    }
-    if a == 5 {
-        return printing::put_all(out, at, b"a number out of range");
-    }
-    if a == 6 {
-        return printing::put_all(out, at, b"no such name, cell or run of cells");
-    }
-    if a == 7 {
-        return printing::put_all(out, at, b"not in the grammar");
-    }
-    if a == 8 {
-        return printing::put_all(out, at, b"more than eight open ( and [");
-    }
-    if a == 9 {
-        return printing::put_all(out, at, b"a real where an integer is needed");
-    }
-    if a == 16 {
-        return printing::put_all(out, at, b"a line out of form or order");
-    }
-    if a == 17 {
-        return printing::put_all(out, at, b"the check differs");
-    }
-    if a == 18 {
-        return printing::put_all(out, at, b"the number is not above the one before");
-    }
-    at
-}
 
 fn put_result(out: &mut [u8], answer: u32, place: u32, count: u32) -> usize
     requires { ⌜ 52 ≤ length (now out) ⌝ }
@@ -89,7 +47,7 @@ fn put_refused(out: &mut [u8], at: usize, card: &[u8], answer: u32) -> usize
 {
     let a = put_number(out, at, card);
     let b = printing::put_all(out, a, b"words=");
-    let c = put_words(out, b, answer);
+    let c = answer_words::put(out, b, answer);
     printing::put_all(out, c, b"\n")
 }
 

@@ -3,3 +3,4 @@ pub mod Cards
 pub mod Salvage
 pub mod Lists
 pub mod Replay
+pub mod Listing

@@ -16,6 +16,7 @@ use values::Value;
 mod cards;
 pub mod cells;
 pub mod conversions;
+mod listing;
 mod lists;
 mod replay;
 mod salvage;

@@ -3,6 +3,7 @@
 
 mod cards;
 mod codes;
+mod listings;
 mod lists;
 mod literals;
 mod memory;
@@ -61,6 +62,7 @@ fn all() -> Result<Vec<Expected>, String> {
     let (cards_in, cards_out) = cards::files();
     let (salvage_in, salvage_out) = salvage::files(&replies::stored("salvage/stdin")?);
     let (reads_in, reads_out) = reads::files();
+    let (listings_in, listings_out) = listings::files();
     let (lists_in, lists_out) = lists::files();
     let (replay_in, replay_out) = replay::files();
     Ok(vec![
@@ -75,6 +77,8 @@ fn all() -> Result<Vec<Expected>, String> {
         ("card_cases/stdout", cards_out.into()),
         ("read_cases/stdin", reads_in.into()),
         ("read_cases/stdout", reads_out.into()),
+        ("listing_cases/stdin", listings_in.into()),
+        ("listing_cases/stdout", listings_out.into()),
         ("list_cases/stdin", lists_in),
         ("list_cases/stdout", lists_out.into()),
         ("vector_cases/stdout", replies::of_list("vector_cases/stdin")?.into()),

@@ -100,12 +100,17 @@ pub fn output(input: &Input) -> String {
     cells.iter().map(|n| name(*n) + "\n").collect()
 }
 
-/// What the program reads, and what it prints.
-pub fn files() -> (String, String) {
+/// Targets and expressions.
+pub fn cases() -> Vec<(String, String)> {
     let texts: Vec<String> = FORMS.iter().chain(&READS).map(|text| text.to_string()).chain(BANKS.into_iter().flat_map(ends)).collect();
     let plain = texts.iter().map(|text| ("D0", text.as_str()));
+    plain.chain(TARGETS).chain(REFUSALS).map(|(target, expr)| (target.to_string(), expr.to_string())).collect()
+}
+
+/// What the program reads, and what it prints.
+pub fn files() -> (String, String) {
     let (mut lines, mut printed) = (String::new(), String::new());
-    for (target, expr) in plain.chain(TARGETS).chain(REFUSALS) {
+    for (target, expr) in cases() {
         lines += &format!("{target}|{expr}\n");
         printed += &output(&Input { memory: Vec::new(), target: target.into(), expr: expr.into() });
         printed += "\n";

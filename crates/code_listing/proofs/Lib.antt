@@ -1,0 +1,4 @@
+-- Laws for the proofs of the functions.
+mod Numbers
+mod Texts
+mod Lines

@@ -1,0 +1,44 @@
+// Listings of code. A line of the standard input has a target, `|` and an expression; printed are the lines of the program `listing`, and an empty one.
+// tests/host/expected/listings.rs has what is expected.
+ghost use Prim.Native.Nat.{_≤_};
+ghost use lib.ListN.{length};
+use libc::STDIN_FILENO;
+use libc::STDOUT_FILENO;
+
+// The byte 10 that ends the line in which a place lies, or the input's end.
+fn line_end(input: &[u8], at: usize) -> usize
+    requires { ⌜ at ≤ length (now input) ⌝ }
+    ensures { λ r. ⌜ (at ≤ r) × (r ≤ length (now (input .entry))) ⌝ }
+{
+    at + lines::until(&input[at..], b'\n')
+}
+
+fn tell(target: &[u8], text: &[u8]) {
+    let mut out = listing_reply::blank_reply();
+    let n = listing_reply::reply(target, text, &mut out);
+    io::write_all(STDOUT_FILENO, &out[..n]);
+    io::write_all(STDOUT_FILENO, b"\n");
+}
+
+fn one_case(line: &[u8]) {
+    let bar = lines::until(line, b'|');
+    if bar < line.len() {
+        let from = bar + 1;
+        tell(&line[..bar], &line[from..]);
+    }
+}
+
+fn every_line(input: &[u8]) {
+    let mut at: usize = 0;
+    while at < input.len() {
+        let end = line_end(input, at);
+        one_case(&input[at..end]);
+        at = end + 1;
+    }
+}
+
+fn main() {
+    let mut input = io::large_buffer();
+    let n = io::read_full(STDIN_FILENO, &mut input);
+    every_line(&input[..n]);
+}

@@ -1,0 +1,4 @@
+-- Other crates cite Short and Fits.
+pub mod Short
+pub mod Fits
+mod Rows
