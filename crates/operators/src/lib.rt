@@ -1,7 +1,7 @@
 // Every operator of paper 01 on values: mixed kinds, truth, the branches of IF, and the element that an index names.
 ghost use mathlib.Core.Path.{_≡_};
-ghost use Rattle.operators.specs.Operators.{asReal, pairOf, arithRule, compareRule, choiceRule, powerRule, bitsRule, shiftRule};
-ghost use Rattle.operators.specs.Operators.{fromBool, cutOutcome, truthRule, unaryRule, sinceRule, binaryRule, branchRule, elementBelow, cutBelow, indexRule};
+ghost use Rattle.operators.specs.Operators.{asReal, pairOf, arithRule, powerRule};
+ghost use Rattle.operators.specs.Operators.{fromBool, cutOutcome, truthRule, unaryRule, sinceRule, branchRule, elementBelow, cutBelow, indexRule};
 use reals::ArithOp;
 use values::BitOp;
 use values::ChoiceOp;
@@ -83,24 +83,6 @@ pub fn arith(op: ArithOp, a: Value, b: Value) -> Outcome
     }
 }
 
-pub fn compare(op: CompareOp, a: Value, b: Value) -> bool
-    ensures { λ r. ⌜ r ≡ compareRule op a b ⌝ }
-{
-    match paired(a, b) {
-        Pair::Ints(i, j) => values::integers::compare(op, i, j),
-        Pair::Reals(x, y) => values::singles::compare(op, x, y),
-    }
-}
-
-pub fn choose(op: ChoiceOp, a: Value, b: Value) -> Value
-    ensures { λ r. ⌜ r ≡ choiceRule op a b ⌝ }
-{
-    match paired(a, b) {
-        Pair::Ints(i, j) => Value::Int(values::integers::choose(op, i, j)),
-        Pair::Reals(x, y) => Value::Real(values::singles::choose(op, x, y)),
-    }
-}
-
 pub fn power(a: Value, n: Value) -> Outcome
     ensures { λ r. ⌜ r ≡ powerRule a n ⌝ }
 {
@@ -113,47 +95,10 @@ pub fn power(a: Value, n: Value) -> Outcome
     }
 }
 
-pub fn bits(op: BitOp, a: Value, b: Value) -> Outcome
-    ensures { λ r. ⌜ r ≡ bitsRule op a b ⌝ }
-{
-    match a {
-        Value::Int(i) => match b {
-            Value::Int(j) => Outcome::Done(Value::Int(values::patterns::bitwise(op, i, j))),
-            Value::Real(_) => Outcome::WrongKind,
-        },
-        Value::Real(_) => Outcome::WrongKind,
-    }
-}
-
-pub fn shift(op: ShiftOp, a: Value, s: Value) -> Outcome
-    ensures { λ r. ⌜ r ≡ shiftRule op a s ⌝ }
-{
-    match a {
-        Value::Int(i) => match s {
-            Value::Int(j) => values::patterns::shift(op, i, j),
-            Value::Real(_) => Outcome::WrongKind,
-        },
-        Value::Real(_) => Outcome::WrongKind,
-    }
-}
-
 fn from_bool(b: bool) -> Value
     ensures { λ r. ⌜ r ≡ fromBool b ⌝ }
 {
     if b { Value::Int(1) } else { Value::Int(0) }
-}
-
-pub fn binary(op: BinaryOp, a: Value, b: Value) -> Outcome
-    ensures { λ r. ⌜ r ≡ binaryRule op a b ⌝ }
-{
-    match op {
-        BinaryOp::Arith(o) => arith(o, a, b),
-        BinaryOp::Power => power(a, b),
-        BinaryOp::Shift(o) => shift(o, a, b),
-        BinaryOp::Compare(o) => Outcome::Done(from_bool(compare(o, a, b))),
-        BinaryOp::Bits(o) => bits(o, a, b),
-        BinaryOp::Choice(o) => Outcome::Done(choose(o, a, b)),
-    }
 }
 
 // Non-zero is true, and -0.0 is zero.
@@ -232,7 +177,7 @@ pub fn unary(op: UnaryOp, v: Value) -> Outcome
         UnaryOp::ToReal => Outcome::Done(Value::Real(as_real(v))),
         UnaryOp::Trunc => truncate(v),
         UnaryOp::Round => round(v),
-        UnaryOp::Frac => values::singles::arith(ArithOp::Rem, as_real(v), 1.0),
+        UnaryOp::Frac => arith(ArithOp::Rem, v, Value::Real(1.0)),
     }
 }
 

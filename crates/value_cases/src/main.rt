@@ -2,17 +2,13 @@
 // A line has a name and the results for every operand of the table; for two operands the left one stands after the name.
 // A result is i and a signed decimal, r and a pattern, ! and a fault's number, or ? for an operand of the wrong kind.
 // The last lines have whole powers, and the most multiplications that one of them takes.
-use operators::BinaryOp;
 use operators::Position;
 use operators::UnaryOp;
-use reals::ArithOp;
-use values::BitOp;
-use values::ChoiceOp;
-use values::CompareOp;
+use operators::tables;
+use tokens::symbols;
 use values::Fault;
 use values::Kind;
 use values::Outcome;
-use values::ShiftOp;
 use values::Value;
 
 // Around the bounds of shift counts and exponents, above the 24 bits of a single, and the limits of 32 bits.
@@ -106,7 +102,7 @@ enum Function {
     Index(u32),
     Branch(Kind),
     Since(u32),
-    Binary(BinaryOp, Value),
+    Binary(u8, Value),
 }
 
 // The integers of the table, and then its singles.
@@ -143,7 +139,7 @@ fn apply(f: Function, v: Value) -> Outcome {
         Function::Index(elements) => index(v, elements),
         Function::Branch(other) => Outcome::Done(operators::branch(v, other)),
         Function::Since(tick) => operators::since(tick, v),
-        Function::Binary(op, a) => operators::binary(op, a, v),
+        Function::Binary(op, a) => operators::numbered::binary(op, a, v),
     }
 }
 
@@ -162,7 +158,7 @@ fn one(name: &[u8], f: Function) {
     results(&mut line, end, f);
 }
 
-fn left(name: &[u8], op: BinaryOp, a: Value) {
+fn left(name: &[u8], op: u8, a: Value) {
     let mut line = [0u8; 512];
     let mut end = case_lines::put_all(&mut line, 0, name);
     end = case_lines::put_outcome(&mut line, end, Outcome::Done(a));
@@ -171,7 +167,7 @@ fn left(name: &[u8], op: BinaryOp, a: Value) {
 }
 
 // A line for each left operand.
-fn two(name: &[u8], op: BinaryOp) {
+fn two(name: &[u8], op: u8) {
     for n in 0usize..37 {
         left(name, op, operand(n));
     }
@@ -223,26 +219,26 @@ fn sinces() {
 }
 
 fn twos() {
-    two(b"+", BinaryOp::Arith(ArithOp::Add));
-    two(b"-", BinaryOp::Arith(ArithOp::Sub));
-    two(b"*", BinaryOp::Arith(ArithOp::Mul));
-    two(b"/", BinaryOp::Arith(ArithOp::Div));
-    two(b"%", BinaryOp::Arith(ArithOp::Rem));
-    two(b"**", BinaryOp::Power);
-    two(b"<<", BinaryOp::Shift(ShiftOp::Left));
-    two(b">>", BinaryOp::Shift(ShiftOp::Right));
-    two(b">>>", BinaryOp::Shift(ShiftOp::RightZero));
-    two(b"<", BinaryOp::Compare(CompareOp::Lt));
-    two(b">", BinaryOp::Compare(CompareOp::Gt));
-    two(b"<=", BinaryOp::Compare(CompareOp::Le));
-    two(b">=", BinaryOp::Compare(CompareOp::Ge));
-    two(b"==", BinaryOp::Compare(CompareOp::Eq));
-    two(b"!=", BinaryOp::Compare(CompareOp::Ne));
-    two(b"&", BinaryOp::Bits(BitOp::And));
-    two(b"|", BinaryOp::Bits(BitOp::Or));
-    two(b"^", BinaryOp::Bits(BitOp::Xor));
-    two(b"MAX", BinaryOp::Choice(ChoiceOp::Max));
-    two(b"MIN", BinaryOp::Choice(ChoiceOp::Min));
+    two(b"+", symbols::PLUS);
+    two(b"-", symbols::MINUS);
+    two(b"*", symbols::TIMES);
+    two(b"/", symbols::DIVIDE);
+    two(b"%", symbols::REMAINDER);
+    two(b"**", symbols::POWER);
+    two(b"<<", symbols::SHIFT_LEFT);
+    two(b">>", symbols::SHIFT_RIGHT);
+    two(b">>>", symbols::SHIFT_RIGHT_ZEROS);
+    two(b"<", symbols::LESS);
+    two(b">", symbols::GREATER);
+    two(b"<=", symbols::LESS_OR_EQUAL);
+    two(b">=", symbols::GREATER_OR_EQUAL);
+    two(b"==", symbols::EQUAL);
+    two(b"!=", symbols::NOT_EQUAL);
+    two(b"&", symbols::BIT_AND);
+    two(b"|", symbols::BIT_OR);
+    two(b"^", symbols::BIT_XOR);
+    two(b"MAX", tables::MAX);
+    two(b"MIN", tables::MIN);
 }
 
 // Writes a line of the powers of one base, and gives the most multiplications that one of them takes.

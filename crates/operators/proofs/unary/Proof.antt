@@ -1,6 +1,10 @@
 -- `operators::unary` meets its contract: each operator is one call.
 use borrow.Author.Needs.{needs}
+use Rattle.reals.specs.declared.ArithOp.the-variants.{Rem}
+use Rattle.values.specs.Integers.{intArith}
+use Rattle.values.specs.Singles.{realArith}
 use Rattle.values.proofs.singles.Finite.{one-pattern}
+use Rattle.operators.proofs.Cases.{beside-real}
 use Rattle.operators.proofs.unary.Statement.{statement}
 use Rattle.operators.proofs.unary.Tie as tie
 
@@ -52,9 +56,6 @@ round-requires c κs = search needs
 enum-told-8 : tie.Need-enum-told-8
 enum-told-8 c = search needs
 
-as-real-requires-2 : tie.Need-as-real-requires-2
-as-real-requires-2 c κs = search needs
-
 arith-requires : tie.Need-arith-requires
 arith-requires c κs = search needs
 
@@ -80,7 +81,9 @@ returns-7 : tie.Need-returns-7
 returns-7 c = search needs
 
 returns-8 : tie.Need-returns-8
-returns-8 c = rw (c .before .before .enum-told8 .given .1, ← c .before .as-real2 .ensures, ← one-pattern) (c .arith .ensures)
+returns-8 c =
+    let v = c .before .before .before .args .v in
+    rw (c .before .enum-told8 .given .1, ← one-pattern) (beside-real (intArith Rem) (realArith Rem) v _ (c .arith .ensures))
 
 pub unary-spec : {M : Type 1} → statement M
 unary-spec =
@@ -102,7 +105,6 @@ unary-spec =
     enum-told-7
     round-requires
     enum-told-8
-    as-real-requires-2
     arith-requires
     returns
     returns-2
