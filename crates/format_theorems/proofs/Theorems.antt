@@ -43,6 +43,7 @@ record Tokens (s : List ℕ) (t : Tree) (x : List ℕ) : Type 0 where
   formula : Formula toks tree
   same : withoutPlaces tree ≡ withoutPlaces t
   alike : Alike x toks
+  spelled : spellings x tree ≡ spellings s t
   text : formatted x tree ≡ formatted s t
   some : 1 ≤ length x
 
@@ -58,6 +59,7 @@ tokens-again s t a =
     let first = subst (λ (i : List ℕ). Lexed 0 i (r .toks ++ []) (spellings s t ++ [])) (append-nil x) whole in
     let second = subst (λ (i : List Tok). Lexed 0 x i (spellings s t ++ [])) (append-nil (r .toks)) first in
     let read : Lexed 0 x (r .toks) (spellings s t) = subst (λ (i : List (List ℕ)). Lexed 0 x (r .toks) i) (append-nil (spellings s t)) second in
+    let typed = kept-tree x (r .derives) ∙ kept-of read x refl in
     record {
       toks = r .toks;
       tree = r .tree;
@@ -65,14 +67,15 @@ tokens-again s t a =
       formula = lift (top t) loosest (top-most t) (r .derives);
       same = r .same;
       alike = alike-of read;
-      text = of-tree x s (r .tree) t (r .same) (kept-tree x (r .derives) ∙ kept-of read x refl);
+      spelled = typed;
+      text = of-tree x s (r .tree) t (r .same) typed;
       some = starts-some x (k .begins);
     }
 
 accepts : (s : List ℕ) (t : Tree) → judge s ≡ accepted t → AcceptedFrom 0 s t
 accepts s t e = text-theorems .accepts s t .0 e
 
-again : (s : List ℕ) (t : Tree) → judge s ≡ accepted t → length (formatted s t) ≤ textLimit → levels (formatted s t) ≤ mostOpen → ReadAgain t (formatted s t)
+again : (s : List ℕ) (t : Tree) → judge s ≡ accepted t → length (formatted s t) ≤ textLimit → levels (formatted s t) ≤ mostOpen → ReadAgain s t (formatted s t)
 again s t e short low =
     let a = accepts s t e in
     let r = tokens-again s t a in
@@ -85,7 +88,7 @@ again s t e short low =
       shallow = r .alike .shallow 0 low;
       faultless = faultless-placeless (r .tree) t (r .same) (a .faultless);
     } in
-    record { tree = r .tree; judged = text-theorems .accepts (formatted s t) (r .tree) .1 all; same = r .same; text = r .text }
+    record { tree = r .tree; judged = text-theorems .accepts (formatted s t) (r .tree) .1 all; same = r .same; spelled = r .spelled; text = r .text }
 
 -- ---- too many levels: whatever else could refuse the text does not
 module _ (s : List ℕ) (t : Tree) (x : List ℕ) (r : Tokens s t x) (short : length x ≤ textLimit) (high : mostOpen < levels x) where

@@ -15,17 +15,19 @@ use Rattle.operations.specs.Operations.{doneWith}
 use Rattle.format_laws.specs.Formatted.{formatted, levels, withoutPlaces, spellings}
 use Rattle.format_laws.specs.Format.{textLimit, gives, refuses, formatting, formatAnswer, formatBuffer}
 
--- "Read again, the text gives the same tree, and saving it again gives the same bytes": x, which is the text of t, is a formula
-pub record ReadAgain (t : Tree) (x : List ℕ) : Type 0 where
+-- "Read again, the text gives the same tree, and saving it again gives the same bytes": x, made of the tree t of the text s, is a formula;
+-- "literals stay as typed", and so do the names of functions and counts
+pub record ReadAgain (s : List ℕ) (t : Tree) (x : List ℕ) : Type 0 where
   pub tree : Tree
   pub judged : judge x ≡ accepted tree
   pub same : withoutPlaces tree ≡ withoutPlaces t
+  pub spelled : spellings x tree ≡ spellings s t
   pub text : formatted x tree ≡ x
 
 pub record FormatTheorems : Type 0 where
   -- "Read again, the text gives the same tree, and saving it again gives the same bytes."
   pub again : (s : List ℕ) (t : Tree) → judge s ≡ accepted t → length (formatted s t) ≤ textLimit → levels (formatted s t) ≤ mostOpen
-      → ReadAgain t (formatted s t)
+      → ReadAgain s t (formatted s t)
   -- "8 exactly if it would pass eight levels": the levels are all that refuses the text
   pub eight : (s : List ℕ) (t : Tree) → judge s ≡ accepted t → length (formatted s t) ≤ textLimit → mostOpen < levels (formatted s t)
       → (p : ℕ) × (judge (formatted s t) ≡ refused 8 p)

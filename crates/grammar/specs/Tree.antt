@@ -18,7 +18,7 @@ use Rattle.totals.specs.declared.MatchOp.{MatchOp}
 use Rattle.totals.specs.Totals.{totalKind, matchKind, goodCount}
 
 -- logic d: `&&` for d false, `||` for d true, the truth of the left side that decides; tick and since: TICKms() and SINCE (paper 02, Ask 13);
--- total and matching: a total over a run of cells (Ask 2), the place of the count, the first cell, and the count as it is typed
+-- total and matching: a total over a run of cells (Ask 2), the place of the count, the first cell, and the count's value, good or not
 pub data Tree : Type 0 where
   literal : ℕ → Value → Tree
   cell : Bank → ℕ → Tree
