@@ -34,6 +34,11 @@ static void check(void) {
     formula_check(code, sizeof code, count, &report);
 }
 
+/* Code of at most 128 instructions has small tables. */
+static void check_short(void) {
+    formula_check(code, sizeof code, count < 129 ? count : 128, &report);
+}
+
 static void run(void) {
     formula_run(code, sizeof code, count, memory, sizeof memory, target, target_len, index_code, 0, 0, tick, &report);
 }
@@ -127,6 +132,7 @@ struct measured {
 static struct measured measured[] = {
     {"formula_compile", compile, 0, ""},
     {"formula_check", check, 0, ""},
+    {"formula_check, short", check_short, 0, ""},
     {"formula_run", run, 0, ""},
     {"formula_compile_and_run", compile_and_run, 0, ""},
     {"formula_compile_target", compile_target, 0, ""},
@@ -170,17 +176,21 @@ static void measure(const char *name, const char *target_text, const char *expr_
 
 /* Texts that nest as deep as may be, in every way that a reader may call itself, and one bracket too many. */
 static void measure_nested(void) {
-    static const char *const units[] = {"(", "D[", "MAX(1,", "IF(1,1,", "-~!(", "1||1&&1|1^1&1==1<1<<1+1*1**IF(1,1,"};
+#define GROUPS "1||1&&1|1^1&1==1<1<<1+1*1**"
+    static const struct {
+        const char *before, *behind;
+    } units[] = {{"(", ")"},       {"D[", "]"},     {"MAX(1,", ")"},           {"IF(1,1,", ")"},
+                 {"IF(1,", ",1)"}, {"-~!(", ")"}, {GROUPS "IF(1,1,", ")"}, {GROUPS "IF(1,", ",1)"}};
     static char text[FORMULA_TEXT_BYTES + 1];
     for (size_t u = 0; u < sizeof units / sizeof units[0]; u++) {
         for (int deep = 8; deep <= 9; deep++) {
             text[0] = '\0';
             for (int i = 0; i < deep; i++) {
-                strcat(text, units[u]);
+                strcat(text, units[u].before);
             }
             strcat(text, "1");
             for (int i = 0; i < deep; i++) {
-                strcat(text, strchr(units[u], '[') != NULL ? "]" : ")");
+                strcat(text, units[u].behind);
             }
             measure(deep == 8 ? "eight brackets" : "nine brackets", "D0", text);
         }

@@ -106,7 +106,7 @@ struct formula_report {
     uint32_t place;   /* answers 4 to 9: the byte of the expression that it is about; else 0 */
     uint32_t kind;    /* one of enum formula_kind: the value's. 0 on a refusal or fault, and for compiling and checking */
     uint32_t bits;    /* the value's 32-bit pattern, before the store; 0 where kind is 0 for want of a value */
-    uint32_t count;   /* compiling: instructions written; running: instructions begun and cells visited, the index's included; else 0 */
+    uint32_t count;   /* compiling: instructions written; formatting: bytes written; running: instructions begun and cells visited, the index's included; else 0 */
     uint32_t bank;    /* one of enum formula_bank, and the element of it: the cell that was stored to, or that */
     uint32_t element; /* formula_compile_target found; 0 and 0 otherwise */
 };
@@ -115,6 +115,13 @@ struct formula_report {
  * nothing else ever. Answers: 0, 3 to 10. */
 void formula_compile(const uint8_t *expr, uint64_t expr_len, uint8_t *code, uint64_t code_len,
                      struct formula_report *report);
+
+/* Writes an expression out as it is saved: with parentheses where operators are mixed, without those that are not needed for that, and with one space on
+ * either side of a binary operator and behind a comma. On answer 0 the first count bytes of the buffer are the text, at most FORMULA_TEXT_BYTES, and
+ * nothing else is ever written. Read again it is the same formula, and written out again the same bytes. The buffer must have FORMULA_TEXT_BYTES. After the
+ * expression's own refusals come, with place 0, 10 for a smaller buffer, 3 for a text that would be longer, 8 for one that would nest deeper.
+ * Answers: 0, 3 to 10. */
+void formula_format(const uint8_t *expr, uint64_t expr_len, uint8_t *out, uint64_t out_len, struct formula_report *report);
 
 /* Compiles the index of a target such as "D[V1 + 2]" (its bytes, no final zero): at most FORMULA_TEXT_BYTES, a bank letter but X,
  * an expression in brackets, spaces inside the brackets only. On answer 0 the report has the bank, and count is the number of

@@ -171,6 +171,11 @@ async function testCard(row, cells, tick) {
     const [code, index] = [await text("card-code"), await text("card-index")];
     same(`listing of card ${number}`, code + (index === "" ? "" : `index=${target[0]}\n${index}`), listed);
   }
+  if (formulas.format) {
+    const saved = new Uint8Array(library.TEXT_BYTES);
+    const { count } = formulas.format(expr, saved);
+    same(`card ${number} with parentheses`, (await text("card-formatted")).endsWith(`: ${Buffer.from(saved.subarray(0, count))}`), true);
+  }
   same(`nothing is stored before`, await text("card-stored"), "");
   await browser.run("document.getElementById('store').click()");
   const replied = lines(native("formula", input).out);

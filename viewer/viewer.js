@@ -259,7 +259,7 @@ function formatted(expr) {
   if (!formulas.format) return "";
   const text = new Uint8Array(TEXT_BYTES);
   const { answer, count } = formulas.format(expr, text);
-  return answer === 0 ? `Saved it would read: ${shown(text.subarray(0, count))}` : `It cannot be saved with parentheses: ${refusal(answer)}`;
+  return answer === 0 ? `Saved with parentheses: ${shown(text.subarray(0, count))}` : `It cannot be saved with parentheses: ${refusal(answer)}`;
 }
 
 function openCard(row) {

@@ -1,5 +1,5 @@
 -- What an answer means, in a few words: one table for every program, for C and for the page. docs/ANSWERS.md has the answers at length.
-use mathlib.Core.List.{List, [], _∷_, _++_}
+use mathlib.Core.List.{List, _++_}
 use Prim.Native.Nat.{ℕ}
 use Rattle.words.specs.Ascii.{ascii}
 use Rattle.text_tables.specs.Tables.{rowAt}

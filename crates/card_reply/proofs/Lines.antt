@@ -1,11 +1,9 @@
 -- The lines of a reply, put one behind the other. Assumes nothing.
-use mathlib.Core.Path.{_≡_, refl, sym, ap, _∙_}
-use mathlib.Core.Bool.{cond}
+use mathlib.Core.Path.{_≡_, refl, sym, _∙_}
 use mathlib.Core.List.{List, [], _∷_, _++_, append-nil, append-assoc}
-use Prim.Native.Nat.{ℕ, _+_, _-_, _≤_, _<_}
+use Prim.Native.Nat.{ℕ, _+_, _-_, _<_}
 use native.Mathlib.Nat.{add-zero}
 use native.Mathlib.Omega.{arith}
-use lib.Dec.{eqb}
 use lib.ListN.{length, take, drop, getD, length-drop, drop-of-length-le}
 use lib.Seq.{take-all}
 use borrow.Author.Tests.{eq-eqb, ne-eqb}
@@ -13,7 +11,6 @@ use Rattle.words.specs.Ascii.{ascii}
 use Rattle.lines.specs.Printing.{decimalText}
 use Rattle.answer_words.specs.Words.{wordsOf}
 use Rattle.lines.specs.private.Steps.{Puts}
-use Rattle.lines.proofs.Stores.{as-text}
 use Rattle.card_laws.specs.Cards.{cardKey}
 use Rattle.card_file.specs.Spans.{lineNumber}
 use Rattle.card_reply.specs.Reply.{resultLines, cardText, refusedLines, replyText}

@@ -1,14 +1,13 @@
 -- The lines of a listing, put one behind the other, and what the check says of the code. Assumes nothing.
 use mathlib.Core.Path.{_≡_, refl, sym, ap, _∙_}
-use mathlib.Core.Bool.{Bool, true, false, cond, false≢true}
-use mathlib.Core.List.{List, [], _∷_, _++_, append-nil, append-assoc}
+use mathlib.Core.Bool.{true, false, false≢true}
+use mathlib.Core.List.{List, [], _++_, append-nil, append-assoc}
 use Prim.Native.Nat.{ℕ, zero, suc, _+_, _-_, _*_, _≤_, _<_}
 use native.Mathlib.Nat.{add-zero, zero-add}
 use native.Mathlib.Numerals.{add-one}
 use native.Mathlib.Omega.{arith}
-use lib.Dec.{ltb}
 use lib.ListN.{length}
-use lib.Seq.{sets, length-sets}
+use lib.Seq.{length-sets}
 use borrow.Author.Tests.{lt-ltb, le-ltb}
 use Rattle.words.specs.Ascii.{ascii}
 use Rattle.memory.specs.declared.Bank.{Bank}
@@ -25,13 +24,12 @@ use Rattle.verifier.specs.declared.Verdict.{Verdict}
 use Rattle.verifier.specs.declared.Verdict.the-variants.{Accepted, Refused}
 use Rattle.verifier.specs.Typing.{wellFormed}
 use Rattle.verifier.specs.Accepts.{instrAt, Accepts, CorrectVerdict}
-use Rattle.verifier.specs.Verdicts.{verdict}
 use Rattle.verifier.proofs.Verdicts.{verdict-laws}
 use Rattle.lines.specs.Printing.{decimalText, cellName}
 use Rattle.lines.specs.private.Steps.{Puts}
 use Rattle.lines.proofs.Stores.{then, as-text}
 use Rattle.text_tables.specs.Tables.{rowAt}
-use Rattle.code_listing.specs.Listing.{rangeText, instrText, lineText, linesFrom, listingRoom, Listed, verdictListed, listed}
+use Rattle.code_listing.specs.Listing.{rangeText, instrText, lineText, linesFrom, listingRoom, verdictListed, listed}
 use Rattle.code_listing.specs.private.Parts.{letterOf, cellOf, rangeOf, KnownCode}
 use Rattle.code_listing.proofs.Texts.{letter-row}
 

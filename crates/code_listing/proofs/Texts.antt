@@ -1,12 +1,11 @@
 -- What is put by the class of an instruction that is known is the instruction's text. Assumes nothing.
 use mathlib.Core.Path.{_≡_, refl, sym, ap, _∙_}
 use mathlib.Core.Bool.{Bool, true, false, not, cond}
-use mathlib.Core.List.{List, [], _∷_, _++_, append-nil}
-use Prim.Native.Nat.{ℕ, suc, _+_, _^_, _≤_, _<_}
-use native.Mathlib.Nat.{add-zero}
+use mathlib.Core.List.{List, [], _∷_, _++_}
+use Prim.Native.Nat.{ℕ, _+_, _^_, _≤_, _<_}
 use native.Mathlib.Omega.{arith}
 use lib.Dec.{T, eqb, ltb}
-use lib.ListN.{length, getD}
+use lib.ListN.{getD}
 use lib.Ieee.{Float, nan, inf, fin, binary32, isNan, ofBits, toBits}
 use lib.Ieee.Bits.{toBits-ofBits}
 use borrow.Author.Tests.{ltb-true}
@@ -16,7 +15,7 @@ use Rattle.operators.specs.declared.UnaryOp.the-variants.{Neg}
 use Rattle.operators.specs.declared.BinaryOp.the-variants.{Arith}
 use Rattle.operators.specs.declared.tables.UnaryOf.the-variants as UnaryOf
 use Rattle.operators.specs.declared.tables.BinaryOf.the-variants as BinaryOf
-use Rattle.operators.specs.Tables.{unaryOps, binaryOps, unaryOf, binaryOf, unaryNumber, binaryNumber}
+use Rattle.operators.specs.Tables.{unaryOps, binaryOps, unaryOf, binaryOf}
 use Rattle.words.specs.Ascii.{ascii}
 use Rattle.memory.specs.declared.Bank.{Bank}
 use Rattle.memory.specs.declared.Bank.the-variants.{X, C, «V», N, D, R}
@@ -29,12 +28,12 @@ use Rattle.totals.specs.declared.MatchOp.the-variants as MatchOp
 use Rattle.totals.specs.declared.tables.TotalOf.the-variants as TotalOf
 use Rattle.totals.specs.declared.tables.MatchOf.the-variants as MatchOf
 use Rattle.totals.specs.Totals.{goodRange}
-use Rattle.totals.specs.Numbers.{totalOps, matchOps, totalOf, matchOf, totalNumber, matchNumber}
+use Rattle.totals.specs.Numbers.{totalOps, matchOps, totalOf, matchOf}
 use Rattle.code.specs.declared.Instr.{Instr}
 use Rattle.code.specs.declared.Instr.the-variants.{Load, LoadIndexed, Unary, Binary, Tick, Since, Total, Match, Unknown}
 use Rattle.code.specs.declared.Class.{Class}
 use Rattle.code.specs.declared.Class.the-variants as Class
-use Rattle.code.specs.Instructions.{finiteOnly, pushReal, loadElement, loadIndexed, rangeBank, rangeFirst, rangeCount, overRange, ranging, opcodeOf, wordOf, instructionOf}
+use Rattle.code.specs.Instructions.{finiteOnly, pushReal, loadElement, loadIndexed, rangeBank, rangeFirst, rangeCount, overRange, opcodeOf, wordOf, instructionOf}
 use Rattle.code.specs.private.Classes.{classOf, ofBank, ofUnary, ofBinary, ofTotal, ofMatch, numberOf, instrIn}
 use Rattle.code.proofs.Page.{number-class}
 use Rattle.lines.specs.Printing.{cellText, letterByte}
@@ -58,9 +57,6 @@ letter-row R = refl
 
 -- ---- by class, of a number k and a word v
 module _ (p : ℕ) where
-  Shows : List ℕ → Instr → Type 0
-  Shows s i = Known i → s ≡ instrText p i
-
   when : (t : Bool) (i : Instr) {s : List ℕ} → s ≡ instrText p i → Known (cond t i Unknown) → s ≡ instrText p (cond t i Unknown)
   when true i e h = e
   when false i e h = absurd (h refl)

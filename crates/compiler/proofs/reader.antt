@@ -5,6 +5,7 @@ mod Meaning
 mod Steps
 mod Signing
 mod Climbing
+mod Sides
 mod Ranging
 mod Calls
 mod Whole

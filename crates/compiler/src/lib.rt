@@ -65,20 +65,36 @@ pub fn judge(text: &[u8]) -> Coded
     judge_in(text, 0, true)
 }
 
-// The answer alone: nothing is written behind a draft's end, so that of a judgement has no room.
+// The answer alone: nothing is written behind a draft's end, so that of a judgement has no room. Each size of tables has a function of
+// its own, so that they share the stack, here and below.
+fn judge_short(text: &[u8], opened: u8, reals: bool) -> Coded
+    requires { ⌜ Sized (now text) × (length (now text) < 64) ⌝ }
+    ensures { λ r. ⌜ r ≡ codedAnswer (judgeIn reals opened (now (text .entry))) ⌝ }
+{
+    let mut draft = [0u64; 0];
+    let mut table = [0u64; 64];
+    read(text, opened, &mut table, &mut draft, reals)
+}
+
+fn judge_long(text: &[u8], opened: u8, reals: bool) -> Coded
+    requires { ⌜ Sized (now text) ⌝ }
+    ensures { λ r. ⌜ r ≡ codedAnswer (judgeIn reals opened (now (text .entry))) ⌝ }
+{
+    let mut draft = [0u64; 0];
+    let mut table = [0u64; 1025];
+    read(text, opened, &mut table, &mut draft, reals)
+}
+
 pub fn judge_in(text: &[u8], opened: u8, reals: bool) -> Coded
     ensures { λ r. ⌜ r ≡ codedAnswer (judgeIn reals opened (now (text .entry))) ⌝ }
 {
     if !is_sized(text) {
         return Coded::Refused(3, 0);
     }
-    let mut draft = [0u64; 0];
     if text.len() < 64 {
-        let mut table = [0u64; 64];
-        return read(text, opened, &mut table, &mut draft, reals);
+        return judge_short(text, opened, reals);
     }
-    let mut table = [0u64; 1025];
-    read(text, opened, &mut table, &mut draft, reals)
+    judge_long(text, opened, reals)
 }
 
 // The code of a formula, from a draft with room for two instructions a byte.
@@ -105,6 +121,37 @@ fn compile_with(
     }
 }
 
+// Most formulas are short: small arrays are quicker to clear.
+fn compile_short(text: &[u8], opened: u8, code: &mut [u8], reals: bool) -> Coded
+    requires { ⌜ Sized (now text) × (length (now text) < 64) × (16384 ≤ length (now code)) ⌝ }
+    ensures { λ r. ⌜ r ≡ codedAnswer (judgeIn reals opened (now (text .entry))) ⌝ }
+    ensures { λ r. ⌜ now (code .exit) ≡ codedBytes (now (code .entry)) (judgeIn reals opened (now (text .entry))) ⌝ }
+{
+    let mut table = [0u64; 64];
+    let mut draft = [0u64; 128];
+    compile_with(text, opened, &mut table, &mut draft, code, reals)
+}
+
+fn compile_middle(text: &[u8], opened: u8, code: &mut [u8], reals: bool) -> Coded
+    requires { ⌜ Sized (now text) × (length (now text) < 256) × (16384 ≤ length (now code)) ⌝ }
+    ensures { λ r. ⌜ r ≡ codedAnswer (judgeIn reals opened (now (text .entry))) ⌝ }
+    ensures { λ r. ⌜ now (code .exit) ≡ codedBytes (now (code .entry)) (judgeIn reals opened (now (text .entry))) ⌝ }
+{
+    let mut table = [0u64; 256];
+    let mut draft = [0u64; 512];
+    compile_with(text, opened, &mut table, &mut draft, code, reals)
+}
+
+fn compile_long(text: &[u8], opened: u8, code: &mut [u8], reals: bool) -> Coded
+    requires { ⌜ Sized (now text) × (16384 ≤ length (now code)) ⌝ }
+    ensures { λ r. ⌜ r ≡ codedAnswer (judgeIn reals opened (now (text .entry))) ⌝ }
+    ensures { λ r. ⌜ now (code .exit) ≡ codedBytes (now (code .entry)) (judgeIn reals opened (now (text .entry))) ⌝ }
+{
+    let mut table = [0u64; 1025];
+    let mut draft = [0u64; 2048];
+    compile_with(text, opened, &mut table, &mut draft, code, reals)
+}
+
 pub fn compile(text: &[u8], code: &mut [u8]) -> Coded
     ensures { λ r. ⌜ r ≡ codedAnswer (compiling (length (now (code .entry))) (now (text .entry))) ⌝ }
     ensures { λ r. ⌜ now (code .exit) ≡ codedBytes (now (code .entry)) (compiling (length (now (code .entry))) (now (text .entry))) ⌝ }
@@ -112,7 +159,6 @@ pub fn compile(text: &[u8], code: &mut [u8]) -> Coded
     compile_in(text, 0, code, true)
 }
 
-// Most formulas are short: small arrays are quicker to clear.
 pub fn compile_in(text: &[u8], opened: u8, code: &mut [u8], reals: bool) -> Coded
     ensures { λ r. ⌜ r ≡ codedAnswer (compilingIn reals opened (length (now (code .entry))) (now (text .entry))) ⌝ }
     ensures { λ r. ⌜ now (code .exit) ≡ codedBytes (now (code .entry)) (compilingIn reals opened (length (now (code .entry))) (now (text .entry))) ⌝ }
@@ -124,16 +170,10 @@ pub fn compile_in(text: &[u8], opened: u8, code: &mut [u8], reals: bool) -> Code
         return Coded::Refused(3, 0);
     }
     if text.len() < 64 {
-        let mut table = [0u64; 64];
-        let mut draft = [0u64; 128];
-        return compile_with(text, opened, &mut table, &mut draft, code, reals);
+        return compile_short(text, opened, code, reals);
     }
     if text.len() < 256 {
-        let mut table = [0u64; 256];
-        let mut draft = [0u64; 512];
-        return compile_with(text, opened, &mut table, &mut draft, code, reals);
+        return compile_middle(text, opened, code, reals);
     }
-    let mut table = [0u64; 1025];
-    let mut draft = [0u64; 2048];
-    compile_with(text, opened, &mut table, &mut draft, code, reals)
+    compile_long(text, opened, code, reals)
 }

@@ -4,7 +4,7 @@
 ghost use mathlib.Core.Path.{_≡_};
 ghost use mathlib.Core.Bool.{true};
 ghost use mathlib.Core.List.{List};
-ghost use Prim.Native.Nat.{ℕ, _+_, _-_, _<_};
+ghost use Prim.Native.Nat.{ℕ, _+_, _-_, _<_, _≤_};
 ghost use lib.ListN.{length};
 ghost use Rattle.tokens.specs.Words.{functionAt};
 ghost use Rattle.token_table.specs.private.Table.{wordOperand, wordPlace, listed};
@@ -14,7 +14,7 @@ ghost use Rattle.grammar.specs.Symbols.{loosest, closeParen};
 ghost use Rattle.grammar.specs.Parse.{ok, expect, mostOpen, enter, expression, operand, bracket, parseFrom};
 ghost use Rattle.text.specs.Judge.{judgeParse};
 ghost use Rattle.draft.specs.private.Results.{isDone, readNext, readEnd, readOf};
-ghost use Rattle.draft.specs.private.Words.{Signs};
+ghost use Rattle.draft.specs.private.Words.{Signs, isAlone};
 ghost use Rattle.draft.specs.private.Draft.{Unaries};
 ghost use Rattle.compiler.specs.private.Reading.{Fits, ReaderAgrees, primaryOf, thenSymbol, callOf, Arguing, Branches, Judged};
 use crate::Coded;
@@ -60,7 +60,16 @@ fn clock(table: &[u64], draft: &mut [u64], at: usize, pc: usize) -> u64
     results::bad(at)
 }
 
-// expression: operand { infix expression of a tighter group }
+// A number or a cell that is the whole right side of an operator of the group g: what `expression` reads there, whatever the room.
+fn alone(table: &[u64], draft: &mut [u64], at: usize, pc: usize, g: u8) -> u64
+    requires { ⌜ Fits (now table) at pc × (isAlone (now table) at g ≡ true) × (1 ≤ g) ⌝ }
+    ensures { λ r. ⌜ ((room : ℕ) → ReaderAgrees (λ f ts. expression f room (g - 1) ts) 3 (now (table .entry)) at pc (now (draft .entry)) (now (draft .exit)) (readOf r)) ⌝ }
+    ensures { λ r. ⌜ isDone (readOf r) ≡ true ⌝ }
+{
+    draft::leaf(draft, token_table::word_at(table, at), at, pc)
+}
+
+// expression: operand { infix expression of a tighter group }. Most right sides are a number or a cell alone: they need no further call.
 fn expression(table: &[u64], draft: &mut [u64], at: usize, pc: usize, room: u8, level: u8) -> u64
     requires { ⌜ Fits (now table) at pc ⌝ }
     ensures { λ r. ⌜ ReaderAgrees (λ f ts. expression f room level ts) 3 (now (table .entry)) at pc (now (draft .entry)) (now (draft .exit)) (readOf r) ⌝ }
@@ -80,11 +89,16 @@ fn expression(table: &[u64], draft: &mut [u64], at: usize, pc: usize, room: u8, 
             return left;
         }
         let place = results::end_of(left) + draft::reserve(token_table::operand_of(w));
-        let right = expression(table, draft, j + 1, place, room, g - 1);
-        if !results::is_done(right) {
-            return right;
+        if ahead::is_alone(table, j + 1, g) {
+            let right = alone(table, draft, j + 1, place, g);
+            left = draft::joined(draft, w, left, right);
+        } else {
+            let right = expression(table, draft, j + 1, place, room, g - 1);
+            if !results::is_done(right) {
+                return right;
+            }
+            left = draft::joined(draft, w, left, right);
         }
-        left = draft::joined(draft, w, left, right);
     }
 }
 

@@ -4,7 +4,7 @@ ghost use Prim.Native.Nat.{_≤_, _<_};
 ghost use lib.ListN.{length};
 ghost use Rattle.operators.specs.Kinds.{numberKind};
 ghost use Rattle.token_table.specs.private.Table.{wordClass, wordOperand, wordAt};
-ghost use Rattle.draft.specs.private.Words.{isLeaf, leafKind, leafOpcode, isMark, prefixNumber, groupIn, placeAt, Signs};
+ghost use Rattle.draft.specs.private.Words.{isLeaf, leafKind, leafOpcode, isMark, prefixNumber, groupIn, isAlone, placeAt, Signs};
 use memory::numbers;
 use operators::kinds;
 use operators::tables;
@@ -95,6 +95,19 @@ pub fn group_in(w: u64) -> u8
     } else {
         0
     }
+}
+
+// Whether a number or a cell at a position is the whole right side of an operator of the group g: no operator of a tighter group comes
+// behind it.
+pub fn is_alone(table: &[u64], at: usize, g: u8) -> bool
+    requires { ⌜ at < 65536 ⌝ }
+    ensures { λ r. ⌜ r ≡ isAlone (now (table .entry)) at g ⌝ }
+{
+    if !is_leaf(token_table::word_at(table, at)) {
+        return false;
+    }
+    let behind = group_in(token_table::word_at(table, at + 1));
+    if behind == 0 { true } else { g <= behind }
 }
 
 // The place of a token, or the text's size behind the last.

@@ -4,6 +4,7 @@ ghost use mathlib.Core.Path.{_≡_};
 ghost use Prim.Native.Nat.{_%_, _^_};
 ghost use lib.Ieee.{binary32, rem};
 ghost use lib.ListN.{length};
+ghost use Rattle.format_laws.specs.Format.{formatAnswer, formatBuffer};
 ghost use Rattle.compiler.specs.Compile.{compiling, codedBytes};
 ghost use Rattle.operations.specs.Operations.{compileAnswer, checkAnswer, compileTargetAnswer, compileTargetCode, runAnswer, runMemory};
 ghost use Rattle.operations.specs.Operations.{kindWord, bitsOf, evaluateAnswer, givenValue, givenAnswer, givenMemory};
@@ -71,6 +72,15 @@ pub extern "C" fn formula_compile(expr: &[u8], code: &mut [u8], report: &mut [u3
     ensures { λ _. ⌜ now (code .exit) ≡ codedBytes (now (code .entry)) (compiling (length (now (code .entry))) (now (expr .entry))) ⌝ }
 {
     let answer = operations::compile(expr, code);
+    fill_report(answer, report);
+}
+
+#[no_mangle]
+pub extern "C" fn formula_format(expr: &[u8], out: &mut [u8], report: &mut [u32; 7])
+    ensures { λ _. ⌜ now (report .exit) ≡ reportWords (formatAnswer (now (expr .entry)) (now (out .entry))) ⌝ }
+    ensures { λ _. ⌜ now (out .exit) ≡ formatBuffer (now (expr .entry)) (now (out .entry)) ⌝ }
+{
+    let answer = formatter::format(expr, out);
     fill_report(answer, report);
 }
 

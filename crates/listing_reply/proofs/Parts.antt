@@ -1,15 +1,13 @@
 -- The parts of a reply, put one behind the other. Assumes nothing.
 use mathlib.Core.Path.{_≡_, refl, sym, ap, _∙_}
-use mathlib.Core.Bool.{cond}
 use mathlib.Core.List.{List, [], _∷_, _++_, append-assoc}
-use Prim.Native.Nat.{ℕ, zero, suc, _+_, _≤_}
+use Prim.Native.Nat.{ℕ, zero, _+_, _≤_}
 use native.Mathlib.Nat.{add-zero}
 use native.Mathlib.Omega.{arith}
-use lib.Dec.{eqb}
-use lib.ListN.{length, take, length-replicate}
-use lib.Seq.{sets, sets-eq, take-append-seam, length-sets, length-take-le}
+use lib.ListN.{length, take}
+use lib.Seq.{sets, sets-eq, take-append-seam, length-sets}
 use borrow.Author.Tests.{eq-eqb, ne-eqb}
-use Rattle.words.specs.Ascii.{ascii, byte}
+use Rattle.words.specs.Ascii.{ascii}
 use Rattle.memory.specs.declared.Bank.{Bank}
 use Rattle.memory.specs.declared.Bank.the-variants.{X, C, «V», N, D, R}
 use Rattle.memory.specs.Numbers.{bankNumber}

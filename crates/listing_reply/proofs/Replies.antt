@@ -1,10 +1,8 @@
 -- What is put is what the two answers come to, in compile-and-run's order.
 use mathlib.Core.Path.{_≡_, refl, sym, ap, _∙_}
-use mathlib.Core.Bool.{Bool, cond}
 use mathlib.Core.List.{List, [], _∷_, _++_}
 use Prim.Native.Nat.{ℕ, _≤_, _<_}
 use native.Mathlib.Omega.{arith}
-use lib.Dec.{eqb}
 use lib.IntN.{pos}
 use lib.ListN.{length, length-replicate}
 use borrow.Author.Tests.{eq-eqb, ne-eqb, le-ltb}
@@ -18,7 +16,6 @@ use Rattle.grammar.specs.Tree.{Tree, treeKind}
 use Rattle.text.specs.Judge.{Judgement, accepted, refused, judgeFrom, judge}
 use Rattle.text.specs.Targets.{Target, toCell, toIndexed, noTarget, targetOf, indexText}
 use Rattle.code.specs.declared.Instr.{Instr}
-use Rattle.code.specs.Instructions.{instructions}
 use Rattle.verifier.specs.declared.Verdict.{Verdict}
 use Rattle.verifier.specs.declared.Verdict.the-variants.{Accepted}
 use Rattle.verifier.specs.Verdicts.{verdict}

@@ -1,13 +1,10 @@
 -- How the code comes to a row: line by line, and then the bytes up to the line's end. Assumes nothing.
 use mathlib.Core.Path.{_≡_, refl, sym, ap, _∙_}
-use mathlib.Core.List.{List, [], _∷_}
+use mathlib.Core.List.{List, []}
 use Prim.Native.Nat.{ℕ, zero, suc, _+_, _-_, _≤_, _<_}
 use native.Mathlib.Omega.{arith}
 use lib.ListN.{length, take, drop, length-drop, drop-of-length-le}
 use lib.Seq.{sets, take-all, take-take, drop-drop, length-take-le}
-use Rattle.tokens.specs.Bytes.{runLen}
-use Rattle.lines.specs.Lines.{except}
-use Rattle.lines.specs.private.Steps.{Puts}
 use Rattle.text_tables.specs.Tables.{lineLength, rowAt}
 use Rattle.text_tables.proofs.Fits.{sets-front}
 

@@ -12,7 +12,7 @@ use lib.Pow.{pow-mono}
 use borrow.Author.Tests.{eqb-true, eqb-false}
 use Rattle.verifier.specs.declared.packing.Held.{Held}
 use Rattle.verifier.specs.Typing.{Shape}
-use Rattle.verifier.specs.private.Shapes.{numberKind, kindNumber, bitKinds, word, kindsOf, Canonical, SameKinds, Pushed, Popped}
+use Rattle.verifier.specs.private.Shapes.{numberKind, kindNumber, bitKinds, word, kindsOf, Canonical, Pushed, Popped}
 use Rattle.verifier.specs.private.Pass.{Agrees}
 
 -- two words halved still fit
@@ -59,16 +59,6 @@ module _ {w r : Held} (some : 0 < w .height) (p : Popped w r) where
 
   pub kinds-popped : kindsOf w ≡ numberKind (word w % 2) ∷ kindsOf r
   kinds-popped = rw (p .bits) (ap (λ h. bitKinds h (word w)) above)
-
--- the bits of both are the same bits
-pub popped-same : {w v r : Held} → Popped w v → SameKinds v r → Popped w r
-popped-same p s = record { height = s .height ∙ p .height; bits = s .bits ∙ p .bits }
-
-pub same-kinds : {w r : Held} → SameKinds w r → kindsOf r ≡ kindsOf w
-same-kinds s = rw (s .height, s .bits)
-
-pub neat-same : {w r : Held} → SameKinds w r → Canonical w → Canonical r
-neat-same s k = record { low = rw (s .height) (k .low); few = rw (s .height, s .bits) (k .few) }
 
 -- ---- comparing
 

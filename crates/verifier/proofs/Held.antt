@@ -43,8 +43,8 @@ use Rattle.verifier.specs.private.Shapes.{
   kindsOf,
   none,
   Canonical,
+  HoldsLast,
   ArrayHolds,
-  SameKinds,
   Pushed,
   Popped,
   Replaced,
@@ -53,7 +53,7 @@ use Rattle.verifier.specs.private.Shapes.{
   stops,
   goes,
 }
-use Rattle.verifier.proofs.Bits.{bits-length, neat-pushed, kinds-pushed, neat-popped, kinds-popped, same-kinds, neat-same}
+use Rattle.verifier.proofs.Bits.{bits-length, neat-pushed, kinds-pushed, neat-popped, kinds-popped}
 
 -- ---- numbers as kinds
 
@@ -66,11 +66,11 @@ real-number {n} e = rw (ne-eqb n 0 e)
 -- ---- the kinds kept
 
 pub keeps-none : {a : List ℕ} → length a ≡ 128 → ArrayHolds a none
-keeps-none e = record { whole = e; canonical = record { low = omega arith; few = omega arith }; ready = omega arith; is = λ i l m. absurd (omega arith) }
+keeps-none e = record { whole = e; canonical = record { low = omega arith; few = omega arith }; is = λ i m l. absurd (omega arith) }
 
 -- without the last
 abbrev halved : Held → Held
-halved w = record { height = w .height - 1; low = word w / 2; high = 0; floor = w .floor }
+halved w = record { height = w .height - 1; low = word w / 2; high = 0 }
 
 halves : (w : Held) → Popped w (halved w)
 halves w = record { height = refl; bits = zero-add (word w / 2) }
@@ -79,21 +79,21 @@ halves w = record { height = refl; bits = zero-add (word w / 2) }
 top : (w : Held) → 0 < w .height → kindsOf w ≡ numberKind (word w % 2) ∷ below w
 top w l = let e : w .height ≡ suc (w .height - 1) = omega arith in ap (λ h. bitKinds h (word w)) e
 
-module _ {a : List ℕ} {w : Held} (k : ArrayHolds a w) where
-  -- one fewer, if the array has the kinds of the last two then
-  pub keeps-popped : {r : Held} → 0 < w .height → Popped w r → r .floor ≡ w .floor → r .floor ≤ r .height → ArrayHolds a r
-  keeps-popped {r} l p f q = record { whole = k .whole; canonical = neat-popped l p (k .canonical); ready = q; is = at }
-    where
-      at : (i : ℕ) → i < r .height → i + r .floor ≤ r .height + 1 → numberKind (getD a (r .height - suc i) 0) ≡ kindBelow (kindsOf r) i
-      at i g m =
-          let e : r .height - suc i ≡ w .height - suc (suc i) = omega (arith, p .height) in
-          ap (λ j. numberKind (getD a j 0)) e ∙ k .is (suc i) (omega (arith, p .height)) (omega (arith, p .height, f)) ∙ ap (λ s. kindBelow s (suc i)) (kinds-popped l p)
+-- one fewer
+pub keeps-popped : {a : List ℕ} {w r : Held} → ArrayHolds a w → 0 < w .height → Popped w r → HoldsLast 1 a r
+keeps-popped {a} {w} {r} k l p = record { whole = k .whole; canonical = neat-popped l p (k .canonical); is = at }
+  where
+    at : (i : ℕ) → i < 1 → i < r .height → numberKind (getD a (r .height - suc i) 0) ≡ kindBelow (kindsOf r) i
+    at i m g =
+        let e : r .height - suc i ≡ w .height - suc (suc i) = omega (arith, p .height) in
+        ap (λ j. numberKind (getD a j 0)) e ∙ k .is (suc i) (omega arith) (omega (arith, p .height)) ∙ ap (λ s. kindBelow s (suc i)) (kinds-popped l p)
 
+module _ {a : List ℕ} {w : Held} (k : ArrayHolds a w) where
   -- the last value's kind, and those below
   last : 0 < w .height → kindsOf w ≡ numberKind (getD a (w .height - 1) 0) ∷ below w
   last l =
       let e : kindsOf w ≡ numberKind (word w % 2) ∷ below w = top w l in
-      let t : numberKind (getD a (w .height - 1) 0) ≡ numberKind (word w % 2) = k .is 0 l (omega (arith, k .ready)) ∙ ap (λ s. kindBelow s 0) e in
+      let t : numberKind (getD a (w .height - 1) 0) ≡ numberKind (word w % 2) = k .is 0 (omega arith) l ∙ ap (λ s. kindBelow s 0) e in
       e ∙ ap (λ j. j ∷ below w) (sym t)
 
   -- and that of the one below it
@@ -101,7 +101,7 @@ module _ {a : List ℕ} {w : Held} (k : ArrayHolds a w) where
   next-last {v} l p =
       let e : kindsOf v ≡ numberKind (word v % 2) ∷ below v = top v (omega (arith, p .height)) in
       let d : kindsOf w ≡ numberKind (word w % 2) ∷ (numberKind (word v % 2) ∷ below v) = kinds-popped (omega arith) p ∙ ap (λ s. numberKind (word w % 2) ∷ s) e in
-      let t : numberKind (getD a (w .height - 2) 0) ≡ numberKind (word v % 2) = k .is 1 l (omega (arith, k .ready)) ∙ ap (λ s. kindBelow s 1) d in
+      let t : numberKind (getD a (w .height - 2) 0) ≡ numberKind (word v % 2) = k .is 1 (omega arith) l ∙ ap (λ s. kindBelow s 1) d in
       e ∙ ap (λ j. j ∷ below v) (sym t)
 
 -- ---- a push, and a value in the place of the last
@@ -111,18 +111,17 @@ module _ {a : List ℕ} {w : Held} {n : ℕ} (k : ArrayHolds a w) where
   keeps-pushed {r} b l p = record {
     whole = length-set a (w .height) n ∙ k .whole;
     canonical = neat-pushed b p (k .canonical) l;
-    ready = omega (arith, p .height, p .floor, k .ready);
     is = at;
   }
     where
-      at : (i : ℕ) → i < r .height → i + r .floor ≤ r .height + 1 → numberKind (getD (set a (w .height) n) (r .height - suc i) 0) ≡ kindBelow (kindsOf r) i
-      at zero g m =
+      at : (i : ℕ) → i < 2 → i < r .height → numberKind (getD (set a (w .height) n) (r .height - suc i) 0) ≡ kindBelow (kindsOf r) i
+      at zero m g =
           let e : r .height - 1 ≡ w .height = omega (arith, p .height) in
           ap (λ j. numberKind (getD (set a (w .height) n) j 0)) e ∙ ap (λ x. numberKind x) (getD-set-same a (w .height) n 0 (omega (arith, k .whole))) ∙ sym (ap (λ s. kindBelow s 0) (kinds-pushed b p))
-      at (suc i) g m =
+      at (suc i) m g =
           let e : r .height - suc (suc i) ≡ w .height - suc i = omega (arith, p .height) in
           let o : w .height - suc i ≡ w .height → ⊥ = λ q. omega (arith, p .height) in
-          ap (λ j. numberKind (getD (set a (w .height) n) j 0)) e ∙ ap (λ x. numberKind x) (getD-set-other a (w .height) (w .height - suc i) n 0 o) ∙ k .is i (omega (arith, p .height)) (omega (arith, p .height, p .floor))
+          ap (λ j. numberKind (getD (set a (w .height) n) j 0)) e ∙ ap (λ x. numberKind x) (getD-set-other a (w .height) (w .height - suc i) n 0 o) ∙ k .is i (omega arith) (omega (arith, p .height))
           ∙ sym (ap (λ s. kindBelow s (suc i)) (kinds-pushed b p))
 
   -- the bits as after a pop and a push
@@ -132,7 +131,6 @@ module _ {a : List ℕ} {w : Held} {n : ℕ} (k : ArrayHolds a w) where
     record {
       whole = length-set a (w .height - 1) n ∙ k .whole;
       canonical = neat-pushed b u (neat-popped l q (k .canonical)) (omega (arith, k .canonical .low));
-      ready = omega (arith, p .height, p .floor, k .ready);
       is = at;
     },
   )
@@ -141,20 +139,20 @@ module _ {a : List ℕ} {w : Held} {n : ℕ} (k : ArrayHolds a w) where
       q = halves w
 
       u : Pushed n (halved w) r
-      u = record { height = omega (arith, p .height); bits = p .bits ∙ ap (λ x. n + 2 * x) (sym (q .bits)); floor = p .floor }
+      u = record { height = omega (arith, p .height); bits = p .bits ∙ ap (λ x. n + 2 * x) (sym (q .bits)) }
 
       now : kindsOf r ≡ numberKind n ∷ below w
       now = kinds-pushed b u ∙ ap (λ x. numberKind n ∷ bitKinds (w .height - 1) x) (q .bits)
 
-      at : (i : ℕ) → i < r .height → i + r .floor ≤ r .height + 1 → numberKind (getD (set a (w .height - 1) n) (r .height - suc i) 0) ≡ kindBelow (kindsOf r) i
-      at zero g m =
+      at : (i : ℕ) → i < 2 → i < r .height → numberKind (getD (set a (w .height - 1) n) (r .height - suc i) 0) ≡ kindBelow (kindsOf r) i
+      at zero m g =
           let e : r .height - 1 ≡ w .height - 1 = ap (λ h. h - 1) (p .height) in
           ap (λ j. numberKind (getD (set a (w .height - 1) n) j 0)) e ∙ ap (λ x. numberKind x) (getD-set-same a (w .height - 1) n 0 (omega (arith, k .whole, k .canonical .low))) ∙ sym (ap (λ s. kindBelow s 0) now)
-      at (suc i) g m =
+      at (suc i) m g =
           let e : r .height - suc (suc i) ≡ w .height - suc (suc i) = ap (λ h. h - suc (suc i)) (p .height) in
           let o : w .height - suc (suc i) ≡ w .height - 1 → ⊥ = λ d. omega (arith, p .height) in
           ap (λ j. numberKind (getD (set a (w .height - 1) n) j 0)) e ∙ ap (λ x. numberKind x) (getD-set-other a (w .height - 1) (w .height - suc (suc i)) n 0 o)
-          ∙ k .is (suc i) (omega (arith, p .height)) (omega (arith, p .height, p .floor)) ∙ ap (λ s. kindBelow s (suc i)) (top w l) ∙ sym (ap (λ s. kindBelow s (suc i)) now)
+          ∙ k .is (suc i) m (omega (arith, p .height)) ∙ ap (λ s. kindBelow s (suc i)) (top w l) ∙ sym (ap (λ s. kindBelow s (suc i)) now)
 
   pub pushes : {r : Held} → n < 2 → w .height < 128 → Pushed n w r → Leaves (set a (w .height) n) (record { reach = 2; held = r }) (pushNumber n (kindsOf w))
   pushes b l p = rw (lt-ltb n 2 b, bits-length (w .height) (word w), lt-ltb (w .height) 128 l, ← kinds-pushed b p) (goes refl (keeps-pushed b l p))
@@ -171,59 +169,40 @@ module _ {a : List ℕ} {w : Held} {n : ℕ} (k : ArrayHolds a w) where
   pub places : {r : Held} → n < 2 → 0 < w .height → Replaced n w r → Leaves (set a (w .height - 1) n) (record { reach = 2; held = r }) (leaving n (below w))
   places {r} b l p = let e = keeps-replaced b l p in rw (lt-ltb n 2 b, ← e .0) (goes refl (e .1))
 
--- ---- the last two brought from the bits
+-- ---- the last two brought from the bits, or the one below the last
 
-module _ (a : List ℕ) (w r : Held) (e : length a ≡ 128) (k : Canonical w) (s : SameKinds w r) (f : r .floor ≡ w .height) where
-  ready-same : r .floor ≤ r .height
-  ready-same = omega (arith, f, s .height)
+module _ (a : List ℕ) (w : Held) (e : length a ≡ 128) (k : Canonical w) where
+  pub refills-none : w .height ≡ 0 → ArrayHolds a w
+  refills-none z = record { whole = e; canonical = k; is = λ i m g. absurd (omega arith) }
 
-  pub refills-none : w .height ≡ 0 → ArrayHolds a r
-  refills-none z = record { whole = e; canonical = neat-same s k; ready = ready-same; is = λ i g m. absurd (omega (arith, s .height)) }
+  -- the last
+  pub refills-one : (x : ℕ) → x ≡ word w % 2 → 0 < w .height → HoldsLast 1 (set a (w .height - 1) x) w
+  refills-one x o l = record { whole = length-set a (w .height - 1) x ∙ e; canonical = k; is = at }
+    where
+      at : (i : ℕ) → i < 1 → i < w .height → numberKind (getD (set a (w .height - 1) x) (w .height - suc i) 0) ≡ kindBelow (kindsOf w) i
+      at zero m g = ap (λ y. numberKind y) (getD-set-same a (w .height - 1) x 0 (omega (arith, e, k .low)) ∙ o) ∙ sym (ap (λ t. kindBelow t 0) (top w l))
+      at (suc i) m g = absurd (omega arith)
 
-  module _ (x : ℕ) (o : x ≡ word w % 2) (l : 0 < w .height) where
-    abbrev pub a₁ : List ℕ
-    a₁ = set a (w .height - 1) x
+module _ {a : List ℕ} {w : Held} (k : HoldsLast 1 a w) where
+  pub uncovers-none : w .height < 2 → ArrayHolds a w
+  uncovers-none l = record { whole = k .whole; canonical = k .canonical; is = at }
+    where
+      at : (i : ℕ) → i < 2 → i < w .height → numberKind (getD a (w .height - suc i) 0) ≡ kindBelow (kindsOf w) i
+      at i m g = k .is i (omega arith) g
 
-    top-kind : kindBelow (kindsOf r) 0 ≡ numberKind x
-    top-kind = ap (λ t. kindBelow t 0) (same-kinds s ∙ top w l) ∙ ap (λ y. numberKind y) (sym o)
+  pub uncovers : (y : ℕ) → y ≡ word w / 2 % 2 → 1 < w .height → ArrayHolds (set a (w .height - 2) y) w
+  uncovers y d l = record { whole = length-set a (w .height - 2) y ∙ k .whole; canonical = k .canonical; is = at }
+    where
+      other : w .height - 1 ≡ w .height - 2 → ⊥
+      other q = omega arith
 
-    pub refills-one : w .height ≡ 1 → ArrayHolds a₁ r
-    refills-one z = record { whole = length-set a (w .height - 1) x ∙ e; canonical = neat-same s k; ready = ready-same; is = at }
-      where
-        at : (i : ℕ) → i < r .height → i + r .floor ≤ r .height + 1 → numberKind (getD a₁ (r .height - suc i) 0) ≡ kindBelow (kindsOf r) i
-        at zero g m =
-            ap (λ h. numberKind (getD a₁ (h - 1) 0)) (s .height) ∙ ap (λ y. numberKind y) (getD-set-same a (w .height - 1) x 0 (omega (arith, e))) ∙ sym top-kind
-        at (suc i) g m = absurd (omega (arith, s .height))
+      both : kindsOf w ≡ numberKind (word w % 2) ∷ (numberKind (word w / 2 % 2) ∷ bitKinds (w .height - 2) (word w / 2 / 2))
+      both = let h : w .height ≡ suc (suc (w .height - 2)) = omega arith in ap (λ h. bitKinds h (word w)) h
 
-    pub refills-two : {y : ℕ} → y ≡ word w / 2 % 2 → 1 < w .height → ArrayHolds (set a₁ (w .height - 2) y) r
-    refills-two {y} d g = record {
-      whole = length-set a₁ (w .height - 2) y ∙ length-set a (w .height - 1) x ∙ e;
-      canonical = neat-same s k;
-      ready = ready-same;
-      is = at;
-    }
-      where
-        a₂ : List ℕ
-        a₂ = set a₁ (w .height - 2) y
-
-        apart : w .height - 1 ≡ w .height - 2 → ⊥
-        apart q = omega arith
-
-        size : length a₁ ≡ 128
-        size = length-set a (w .height - 1) x ∙ e
-
-        low : w .height ≤ 128
-        low = k .low
-
-        both : kindsOf r ≡ numberKind (word w % 2) ∷ (numberKind (word w / 2 % 2) ∷ bitKinds (w .height - 2) (word w / 2 / 2))
-        both = let h : w .height ≡ suc (suc (w .height - 2)) = omega arith in same-kinds s ∙ ap (λ h. bitKinds h (word w)) h
-
-        at : (i : ℕ) → i < r .height → i + r .floor ≤ r .height + 1 → numberKind (getD a₂ (r .height - suc i) 0) ≡ kindBelow (kindsOf r) i
-        at zero q m =
-            ap (λ h. numberKind (getD a₂ (h - 1) 0)) (s .height) ∙ ap (λ y. numberKind y) (getD-set-other a₁ (w .height - 2) (w .height - 1) y 0 apart ∙ getD-set-same a (w .height - 1) x 0 (omega (arith, e, low))) ∙ sym top-kind
-        at (suc zero) q m =
-            ap (λ h. numberKind (getD a₂ (h - 2) 0)) (s .height) ∙ ap (λ y. numberKind y) (getD-set-same a₁ (w .height - 2) y 0 (omega (arith, size, low)) ∙ d) ∙ sym (ap (λ t. kindBelow t 1) both)
-        at (suc (suc i)) q m = absurd (omega (arith, s .height, f))
+      at : (i : ℕ) → i < 2 → i < w .height → numberKind (getD (set a (w .height - 2) y) (w .height - suc i) 0) ≡ kindBelow (kindsOf w) i
+      at zero m g = ap (λ x. numberKind x) (getD-set-other a (w .height - 2) (w .height - 1) y 0 other) ∙ k .is 0 (omega arith) g
+      at (suc zero) m g = ap (λ x. numberKind x) (getD-set-same a (w .height - 2) y 0 (omega (arith, k .whole, k .canonical .low)) ∙ d) ∙ sym (ap (λ t. kindBelow t 1) both)
+      at (suc (suc i)) m g = absurd (omega arith)
 
 -- ---- one value is taken, or two
 

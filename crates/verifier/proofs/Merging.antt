@@ -4,15 +4,15 @@ use mathlib.Core.Path.{_≡_, refl, sym, ap, _∙_, subst}
 use mathlib.Core.Bool.{Bool, true, false, cond}
 use mathlib.Core.List.{List}
 use Prim.Native.Nat.{ℕ, zero, suc, _+_, _-_, _<_}
+use native.Mathlib.Numerals.{add-one}
 use native.Mathlib.Omega.{arith}
 use lib.ListN.{length, getD, set, length-set}
 use lib.Seq.{getD-set-same, getD-set-other}
 use Rattle.verifier.specs.declared.packing.Held.{Held}
 use Rattle.verifier.specs.Typing.{Shape}
-use Rattle.verifier.specs.private.Shapes.{State, rejected, unreached, holds, kindsOf, Canonical, SameKinds, stateEntry, heldAt, tableOf, Table}
+use Rattle.verifier.specs.private.Shapes.{State, rejected, unreached, holds, kindsOf, Canonical, stateEntry, heldAt, tableOf, Table}
 use Rattle.verifier.specs.private.Pass.{Agrees, Joins, alone, agrees, differs, Merges, adds, has, clashes}
 use Rattle.verifier.proofs.Moves.{compare}
-use Rattle.verifier.proofs.Bits.{same-kinds, neat-same}
 
 pub resized : {m n : ℕ} {tops lows highs : List ℕ} → m ≡ n → Table m tops lows highs → Table n tops lows highs
 resized {tops = tops} {lows} {highs} e = subst (λ m. Table m tops lows highs) e
@@ -36,14 +36,15 @@ module _ {m : ℕ} {tops lows highs : List ℕ} (table : Table m tops lows highs
   agrees-none s e = rw (empty e) alone
 
   module _ (h : Held) (inside : t < m) where
-    top : getD (set tops t (h .height + 1)) t 0 ≡ h .height + 1
-    top = getD-set-same tops t (h .height + 1) 0 (omega (arith, table .tops-size))
-
-    written : SameKinds h (heldAt (set tops t (h .height + 1)) (set lows t (h .low)) (set highs t (h .high)) t)
-    written = record {
-      height = omega (arith, top);
-      bits = rw (getD-set-same lows t (h .low) 0 (omega (arith, table .lows-size)), getD-set-same highs t (h .high) 0 (omega (arith, table .highs-size)));
-    }
+    written : heldAt (set tops t (h .height + 1)) (set lows t (h .low)) (set highs t (h .high)) t ≡ h
+    written =
+        let e : h .height + 1 - 1 ≡ h .height = omega arith in
+        rw (
+          getD-set-same tops t (h .height + 1) 0 (omega (arith, table .tops-size)),
+          getD-set-same lows t (h .low) 0 (omega (arith, table .lows-size)),
+          getD-set-same highs t (h .high) 0 (omega (arith, table .highs-size)),
+          e,
+        )
 
     beside : (q : ℕ) → (q ≡ t → ⊥) → heldAt (set tops t (h .height + 1)) (set lows t (h .low)) (set highs t (h .high)) q ≡ heldAt tops lows highs q
     beside q n = rw (getD-set-other tops t q (h .height + 1) 0 n, getD-set-other lows t q (h .low) 0 n, getD-set-other highs t q (h .high) 0 n)
@@ -53,13 +54,13 @@ module _ {m : ℕ} {tops lows highs : List ℕ} (table : Table m tops lows highs
       tops-size = length-set tops t (h .height + 1) ∙ table .tops-size;
       lows-size = length-set lows t (h .low) ∙ table .lows-size;
       highs-size = length-set highs t (h .high) ∙ table .highs-size;
-      canonical = λ q. compare q t (λ e. rw e (neat-same written k)) (λ n. rw (beside q n) (table .canonical q));
+      canonical = λ q. compare q t (λ e. rw (e, written) k) (λ n. rw (beside q n) (table .canonical q));
     }
 
     pub merge-adds : getD tops t 0 ≡ 0
         → Merges (kindsOf h) t (tableOf tops lows highs) true (tableOf (set tops t (h .height + 1)) (set lows t (h .low)) (set highs t (h .high)))
     merge-adds e = adds {after = tableOf (set tops t (h .height + 1)) (set lows t (h .low)) (set highs t (h .high))} (empty e)
-        (sym (entry-some (getD (set tops t (h .height + 1)) t 0) (heldAt (set tops t (h .height + 1)) (set lows t (h .low)) (set highs t (h .high)) t) (λ z. omega (arith, top))) ∙ ap holds (same-kinds written))
+        (rw (written, getD-set-same tops t (h .height + 1) 0 (omega (arith, table .tops-size)), add-one (h .height)))
         (λ q n. rw (beside q n, getD-set-other tops t q (h .height + 1) 0 n))
 
 -- jumps brought w to the place before, and h agrees with it or not

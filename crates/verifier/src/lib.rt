@@ -32,12 +32,10 @@ fn joined_at(place: usize, tops: &[u8], lows: &[u64], highs: &[u64]) -> Held
     requires { ⌜ Table (length (now tops)) (now tops) (now lows) (now highs) ⌝ }
     ensures { λ r. ⌜ Canonical r × (holds (kindsOf r) ≡ tableOf (now (tops .entry)) (now (lows .entry)) (now (highs .entry)) place) ⌝ }
 {
-    let height = (tops[place] - 1) as usize;
     Held {
-        height,
+        height: (tops[place] - 1) as usize,
         low: lows[place],
         high: highs[place],
-        floor: height,
     }
 }
 
@@ -126,7 +124,8 @@ fn fork(
     if !kinds::stays(w, n - next) {
         return Flow { reach: 0, held };
     }
-    let rest = packing::uncovered(kinds, packing::popped(held));
+    let rest = packing::popped(held);
+    packing::uncover(kinds, rest);
     let target = next + (code::word_of(w) as usize);
     if merge(rest, target, tops, lows, highs) {
         Flow {
@@ -222,7 +221,6 @@ fn checked(code: &[u8], n: usize, tops: &mut [u8], lows: &mut [u64], highs: &mut
         height: 0,
         low: 0,
         high: 0,
-        floor: 0,
     };
     let mut place: usize = 0;
     while place < n {
@@ -239,7 +237,8 @@ fn checked(code: &[u8], n: usize, tops: &mut [u8], lows: &mut [u64], highs: &mut
                 return Verdict::Refused;
             }
             let there = joined_at(place, tops, lows, highs);
-            held = packing::refilled(&mut kinds, there);
+            packing::refill(&mut kinds, there);
+            held = there;
             continue;
         }
         if !agrees(held, place, tops, lows, highs) {

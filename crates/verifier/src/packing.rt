@@ -1,17 +1,15 @@
 // The kinds of the values held as bits, so that a jump compares and keeps them whole, however many they are.
 ghost use mathlib.Core.Path.{_≡_};
-ghost use Prim.Native.Nat.{_/_, _%_, _^_, _<_, _≤_};
+ghost use Prim.Native.Nat.{_/_, _%_, _^_, _<_};
 ghost use lib.ListN.{length};
-ghost use Rattle.verifier.specs.private.Shapes.{kindsOf, word, Canonical, ArrayHolds, SameKinds, Pushed, Popped, Replaced};
+ghost use Rattle.verifier.specs.private.Shapes.{kindsOf, word, Canonical, HoldsLast, ArrayHolds, Pushed, Popped, Replaced};
 ghost use Rattle.verifier.specs.private.Pass.{Agrees};
 
-// How many, and a bit for each, the last pushed in the lowest: 1 for a real. The array has the kinds from two below the floor on: all
-// of them, until a place that only jumps reach has other values than the place before.
+// How many, and a bit for each, the last pushed in the lowest: 1 for a real.
 pub struct Held {
     pub height: usize,
     pub low: u64,
     pub high: u64,
-    pub floor: usize,
 }
 
 // One more kind, in the lowest bit.
@@ -25,14 +23,13 @@ pub fn pushed(w: Held, n: u8) -> Held
         height: w.height + 1,
         low: low % 9223372036854775808 * 2 + (n as u64),
         high: high * 2 + low / 9223372036854775808,
-        floor: w.floor,
     }
 }
 
 // Without the last, which is the lowest bit.
 pub fn popped(w: Held) -> Held
     requires { ⌜ 0 < w .height ⌝ }
-    ensures { λ r. ⌜ Popped w r × (r .floor ≡ w .floor) ⌝ }
+    ensures { λ r. ⌜ Popped w r ⌝ }
 {
     let low = w.low;
     let high = w.high;
@@ -40,7 +37,6 @@ pub fn popped(w: Held) -> Held
         height: w.height - 1,
         low: high % 2 * 9223372036854775808 + low / 2,
         high: high / 2,
-        floor: w.floor,
     }
 }
 
@@ -54,11 +50,9 @@ pub fn replaced(w: Held, n: u8) -> Held
         height: w.height,
         low: low / 2 * 2 + (n as u64),
         high: w.high,
-        floor: w.floor,
     }
 }
 
-// The same kinds, wherever the array has them.
 pub fn same(a: Held, b: Held) -> bool
     requires { ⌜ Canonical a × Canonical b ⌝ }
     ensures { λ r. ⌜ Agrees r (kindsOf a) (kindsOf b) ⌝ }
@@ -87,35 +81,29 @@ fn second(w: Held) -> u8
 }
 
 // The kinds of the last two come from the bits, whatever the array has: two numbers, however many are held.
-pub fn refilled(kinds: &mut [u8; 128], w: Held) -> Held
+pub fn refill(kinds: &mut [u8; 128], w: Held)
     requires { ⌜ (length (now kinds) ≡ 128) × Canonical w ⌝ }
-    ensures { λ r. ⌜ ArrayHolds (now (kinds .exit)) r × SameKinds w r ⌝ }
+    ensures { λ _. ⌜ ArrayHolds (now (kinds .exit)) w ⌝ }
 {
     let h = w.height;
-    let filled = Held {
-        height: h,
-        low: w.low,
-        high: w.high,
-        floor: h,
-    };
     if h == 0 {
-        return filled;
+        return;
     }
     kinds[h - 1] = lowest(w);
     if h == 1 {
-        return filled;
+        return;
     }
     kinds[h - 2] = second(w);
-    filled
 }
 
-// After a pop: where the array may lack what has come to light, it is refilled.
-pub fn uncovered(kinds: &mut [u8; 128], w: Held) -> Held
-    requires { ⌜ (length (now kinds) ≡ 128) × Canonical w × (w .floor ≤ w .height → ArrayHolds (now kinds) w) ⌝ }
-    ensures { λ r. ⌜ ArrayHolds (now (kinds .exit)) r × SameKinds w r ⌝ }
+// After a pop: what has come to light below the last.
+pub fn uncover(kinds: &mut [u8; 128], w: Held)
+    requires { ⌜ HoldsLast 1 (now kinds) w ⌝ }
+    ensures { λ _. ⌜ ArrayHolds (now (kinds .exit)) w ⌝ }
 {
-    if w.height < w.floor {
-        return refilled(kinds, w);
+    let h = w.height;
+    if h < 2 {
+        return;
     }
-    w
+    kinds[h - 2] = second(w);
 }

@@ -1,4 +1,6 @@
-// What an instruction makes of the kinds of the values held. An array has them, and so have the bits of `Held`.
+// What an instruction makes of the kinds of the values held. An array has them, and so have the bits of `Held`. The array's are right for
+// the last two values, which are all that an instruction takes: below them it may have those of values that other code held, where only
+// jumps reach a place.
 ghost use mathlib.Core.Path.{_≡_};
 ghost use Prim.Native.Nat.{_<_};
 ghost use Rattle.code.specs.declared.Class.the-variants.{Since, LoadIndexed, Unary, Binary, Match};
@@ -107,7 +109,8 @@ pub fn binary(kinds: &mut [u8; 128], held: Held, w: u64) -> Flow
     if NOT_TAKEN <= k {
         return Flow { reach: 0, held };
     }
-    let rest = packing::uncovered(kinds, packing::popped(held));
+    let rest = packing::popped(held);
+    packing::uncover(kinds, rest);
     replace(kinds, rest, k)
 }
 

@@ -3,8 +3,6 @@ use Rattle.code_listing.proofs.Lines.{short-is, accepted-known, good-is
 use Rattle.code_listing.specs.Listing.{Listed}
 use Rattle.code.specs.Instructions.{instructions}
 use mathlib.Core.Path.{ap, _∙_}
-use mathlib.Core.List.{List}
-use Prim.Native.Nat.{ℕ}
 use lib.ListN.{length}
 use lib.Seq.{sets}
 use native.Mathlib.Omega.{arith}
@@ -12,44 +10,32 @@ use native.Mathlib.Nat.{zero-add}
 use borrow.Author.Needs.{needs}
 use Rattle.code_listing.proofs.listing.Statement.{statement}
 use Rattle.code_listing.proofs.listing.Tie as tie
-use Rattle.code_listing.proofs.listing.Reads as reads
-use Rattle.code_listing.proofs.listing.Lts as lts
-use Rattle.code_listing.proofs.put_lines.Reads as put-lines-reads
-use Rattle.verifier.proofs.check.Reads as check-reads
 
--- src/lib.rt:197:9
 returns : tie.Need-returns
 returns c =
     let e = short-is (length (c .before .before .before .args .out .now)) (instructions (c .before .before .before .args .code .now) (c .before .before .before .args .n)) (c .if1 .taken) in
     ((ap (λ (x : Listed). x .answer) e, ap (λ (x : Listed). length (x .text)) e, omega arith), ap (λ (x : Listed). sets (c .before .before .before .args .out .now) 0 (x .text)) e)
 
--- src/lib.rt:199:11
 check-requires : tie.Need-check-requires
 check-requires c κs = search needs
 
--- src/lib.rt:202:31
 enum-told : tie.Need-enum-told
 enum-told c = search needs
 
--- src/lib.rt:202:21
 put-lines-requires : tie.Need-put-lines-requires
 put-lines-requires c κs = (accepted-known (c .before .before .before .check .ensures) _ (c .before .enum-told .given .1), c .before .before .before .before .if1 .left)
 
--- src/lib.rt:204:29
 enum-told-2 : tie.Need-enum-told-2
 enum-told-2 c = search needs
 
--- src/lib.rt:191:1
 same-length : tie.Need-same-length
 same-length c = search needs
 
--- src/lib.rt:191:1
 returns-2 : tie.Need-returns-2
 returns-2 c =
     let e = good-is (c .before .before .before .before .before .before .check .ensures) (length (c .before .before .before .before .before .before .before .before .before .before .args .out .now)) _ (c .before .before .before .before .before .before .before .if1 .left) (c .before .before .before .before .enum-told .given .1) in
     ((ap (λ (x : Listed). x .answer) e, c .before .before .put-lines .ensures .0 .end ∙ (zero-add _ ∙ ap (λ (x : Listed). length (x .text)) e), omega (arith, accepted-known (c .before .before .before .before .before .before .check .ensures) _ (c .before .before .before .before .enum-told .given .1) .1, c .before .before .put-lines .ensures .1, c .before .before .before .before .before .before .before .if1 .left)), c .before .before .put-lines .ensures .0 .bytes ∙ ap (λ (x : Listed). sets (c .before .before .before .before .before .before .before .before .before .before .args .out .now) 0 (x .text)) e)
 
--- src/lib.rt:191:1
 returns-3 : tie.Need-returns-3
 returns-3 c =
     let e = bad-is (c .before .before .check .ensures) (length (c .before .before .before .before .before .before .args .out .now)) (c .before .before .before .if1 .left) (c .enum-told2 .given .1) in

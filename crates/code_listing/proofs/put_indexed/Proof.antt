@@ -7,68 +7,47 @@ use Rattle.words.specs.Ascii.{ascii}
 use borrow.Author.Needs.{needs}
 use Rattle.code_listing.proofs.put_indexed.Statement.{statement}
 use Rattle.code_listing.proofs.put_indexed.Tie as tie
-use Rattle.code_listing.proofs.put_indexed.Reads as reads
-use Rattle.code_listing.proofs.put_indexed.Lts as lts
-use Rattle.code.proofs.number_of.Reads as number-of-reads
-use Rattle.lines.proofs.printing.put_all.Reads as put-all-reads
-use Rattle.memory.proofs.numbers.bank_number.Reads as bank-number-reads
-use Rattle.memory.proofs.numbers.bank_numbered.Reads as bank-numbered-reads
-use Rattle.text_tables.proofs.put_row.Reads as put-row-reads
 
--- src/lib.rt:101:43
 slice-aggregate-put-all : tie.Need-slice-aggregate-put-all
 slice-aggregate-put-all c = search needs
 
--- src/lib.rt:101:9
 put-all-requires : tie.Need-put-all-requires
 put-all-requires c κs = search needs
 
--- src/lib.rt:102:34
 number-of-requires : tie.Need-number-of-requires
 number-of-requires c κs = search needs
 
--- src/lib.rt:102:11
 bank-numbered-requires : tie.Need-bank-numbered-requires
 bank-numbered-requires c κs = search needs
 
--- src/lib.rt:103:20
 enum-known-bank : tie.Need-enum-known-bank
 enum-known-bank c = search needs
 
--- src/lib.rt:103:61
 slice-aggregate-put-row : tie.Need-slice-aggregate-put-row
 slice-aggregate-put-row c = search needs
 
--- src/lib.rt:103:69
 bank-number-requires : tie.Need-bank-number-requires
 bank-number-requires c κs = search needs
 
--- src/lib.rt:103:69
 cast-put-row : tie.Need-cast-put-row
 cast-put-row c = search needs
 
--- src/lib.rt:103:29
 put-row-requires : tie.Need-put-row-requires
 put-row-requires c κs = omega (arith, row-length 1 (c .bank-number .result) (ascii "X\nC\nV\nN\nD\nR") tt)
 
--- src/lib.rt:104:28
 enum-told : tie.Need-enum-told
 enum-told c = search needs
 
--- src/lib.rt:96:1
 same-length : tie.Need-same-length
 same-length c = search needs
 
--- src/lib.rt:96:1
 returns : tie.Need-returns
 returns c =
     (as-text (letter-known (c .before .before .before .before .before .before .before .before .before .before .before .before .before .before .before .before .before .args .w) (c .before .before .before .before .before .before .before .before .before .before .number-of .ensures) (c .before .before .before .before .before .before .before .before .before .bank-numbered .ensures) (c .before .before .before .before .before .before .before .bank .given .1) (c .before .before .before .bank-number .ensures)) (then (c .before .before .before .before .before .before .before .before .before .before .before .before .before .put-all .ensures) (c .before .before .put-row .ensures)), omega (arith, c .before .before .put-row .ensures .end, c .before .before .before .before .before .before .before .before .before .before .before .before .before .put-all .ensures .end, row-length 1 (c .before .before .before .bank-number .result) (ascii "X\nC\nV\nN\nD\nR") tt))
 
--- src/lib.rt:96:1
 same-length-2 : tie.Need-same-length-2
 same-length-2 c = search needs
 
--- src/lib.rt:96:1
 returns-2 : tie.Need-returns-2
 returns-2 c = (as-text (letter-none (c .before .before .before .before .before .before .before .before .before .before .args .w) (c .before .before .before .number-of .ensures) (c .before .before .bank-numbered .ensures) (c .enum-told .given .1)) (behind-none (c .before .before .before .before .before .before .put-all .ensures)), omega (arith, c .before .before .before .before .before .before .put-all .ensures .end))
 

@@ -4,28 +4,19 @@ use native.Mathlib.Omega.{arith}
 use borrow.Author.Needs.{needs}
 use Rattle.code_listing.proofs.put_integer.Statement.{statement}
 use Rattle.code_listing.proofs.put_integer.Tie as tie
-use Rattle.code_listing.proofs.put_integer.Reads as reads
-use Rattle.code_listing.proofs.put_integer.Lts as lts
-use Rattle.lines.proofs.printing.put_all.Reads as put-all-reads
-use Rattle.lines.proofs.printing.put_value.Reads as put-value-reads
 
--- src/lib.rt:60:43
 slice-aggregate-put-all : tie.Need-slice-aggregate-put-all
 slice-aggregate-put-all c = search needs
 
--- src/lib.rt:60:9
 put-all-requires : tie.Need-put-all-requires
 put-all-requires c κs = search needs
 
--- src/lib.rt:61:5
 put-value-requires : tie.Need-put-value-requires
 put-value-requires c κs = search needs
 
--- src/lib.rt:55:1
 same-length : tie.Need-same-length
 same-length c = search needs
 
--- src/lib.rt:55:1
 returns : tie.Need-returns
 returns c = (then (c .before .before .before .before .before .before .put-all .ensures) (c .before .before .put-value .ensures .0), omega (arith, c .before .before .put-value .ensures .1, c .before .before .before .before .before .before .put-all .ensures .end))
 

@@ -2,45 +2,35 @@
 use Rattle.lines.proofs.Stores.{then, as-text}
 use native.Mathlib.Omega.{arith}
 use Rattle.lines.proofs.printing.Widths.{at-most}
-use mathlib.Core.Path.{sym, ap, _∙_}
-use Prim.Native.Nat.{ℕ, suc, _+_}
-use mathlib.Core.List.{List, _++_}
+use mathlib.Core.Path.{ap, _∙_}
+use Prim.Native.Nat.{ℕ, _+_}
+use mathlib.Core.List.{_++_}
 use Rattle.lines.specs.Printing.{decimalText}
 use native.Mathlib.Nat.{add-comm}
 use native.Mathlib.Numerals.{add-one}
 use borrow.Author.Needs.{needs}
 use Rattle.code_listing.proofs.put_jump.Statement.{statement}
 use Rattle.code_listing.proofs.put_jump.Tie as tie
-use Rattle.code_listing.proofs.put_jump.Reads as reads
-use Rattle.code_listing.proofs.put_jump.Lts as lts
-use Rattle.lines.proofs.printing.put_all.Reads as put-all-reads
-use Rattle.lines.proofs.printing.put_decimal.Reads as put-decimal-reads
 
--- src/lib.rt:79:9
 put-all-requires : tie.Need-put-all-requires
 put-all-requires c κs = search needs
 
--- src/lib.rt:80:38
 add-put-decimal : tie.Need-add-put-decimal
 add-put-decimal c = search needs
 
--- src/lib.rt:80:38
 add-put-decimal-2 : tie.Need-add-put-decimal-2
 add-put-decimal-2 c = search needs
 
--- src/lib.rt:80:5
+returns : tie.Need-returns
+returns c =
+    (as-text (ap (λ (k : ℕ). c .before .before .before .before .before .before .before .before .before .before .args .name .now ++ decimalText (k + c .before .before .before .before .before .before .before .before .before .before .args .word)) (add-comm 1 (c .before .before .before .before .before .before .before .before .before .before .args .place) ∙ add-one (c .before .before .before .before .before .before .before .before .before .before .args .place))) (then (c .before .before .before .before .before .before .put-all .ensures) (c .before .before .put-decimal .ensures .0)), omega (arith, at-most 9 (1 + c .before .before .before .before .before .before .before .before .before .before .args .place + c .before .before .before .before .before .before .before .before .before .before .args .word) (omega (arith, c .before .before .before .before .before .before .before .before .before .before .pre .0 .1))))
+
 put-decimal-requires : tie.Need-put-decimal-requires
 put-decimal-requires c κs =
     omega (arith, at-most 9 (1 + c .before .before .before .before .before .before .before .args .place + c .before .before .before .before .before .before .before .args .word) (omega (arith, c .before .before .before .before .before .before .before .pre .0 .1)))
 
--- src/lib.rt:73:1
 same-length : tie.Need-same-length
 same-length c = search needs
-
--- src/lib.rt:73:1
-returns : tie.Need-returns
-returns c =
-    (as-text (ap (λ (k : ℕ). c .before .before .before .before .before .before .before .before .before .before .args .name .now ++ decimalText (k + c .before .before .before .before .before .before .before .before .before .before .args .word)) (add-comm 1 (c .before .before .before .before .before .before .before .before .before .before .args .place) ∙ add-one (c .before .before .before .before .before .before .before .before .before .before .args .place))) (then (c .before .before .before .before .before .before .put-all .ensures) (c .before .before .put-decimal .ensures .0)), omega (arith, at-most 9 (1 + c .before .before .before .before .before .before .before .before .before .before .args .place + c .before .before .before .before .before .before .before .before .before .before .args .word) (omega (arith, c .before .before .before .before .before .before .before .before .before .before .pre .0 .1))))
 
 pub put-jump-spec : {M : Type 1} → statement M
 put-jump-spec =

@@ -5,10 +5,6 @@ use Rattle.code_listing.proofs.Lines.{Putting, start, long, next, end, 
 use native.Mathlib.Omega.{arith}
 use Rattle.code_listing.proofs.put_lines.Statement.{statement}
 use Rattle.code_listing.proofs.put_lines.Tie as tie
-use Rattle.code_listing.proofs.put_lines.Reads as reads
-use Rattle.code_listing.proofs.put_lines.Lts as lts
-use Rattle.code.proofs.fetch.Reads as fetch-reads
-use Rattle.code_listing.proofs.put_line.Reads as put-line-reads
 
 abbrev Inv-loop : tie.InvT-loop
 Inv-loop out₀ code n at₀ place₀ out at place = Putting out₀ code n out at place
@@ -16,36 +12,28 @@ Inv-loop out₀ code n at₀ place₀ out at place = Putting out₀ code n out a
 abbrev μ-loop : tie.MeasureT-loop
 μ-loop out₀ code n at₀ place₀ out at place = n - place
 
--- src/lib.rt:183:5
 loop-holds : tie.Need-loop-holds Inv-loop μ-loop
 loop-holds c = start _ _ _
 
--- src/lib.rt:184:39
 fetch-requires : tie.Need-fetch-requires Inv-loop μ-loop
 fetch-requires c κs = search needs
 
--- src/lib.rt:184:9
 put-line-requires : tie.Need-put-line-requires Inv-loop μ-loop
 put-line-requires c κs =
     ((known-there (c .before .before .before .before .before .before .pre .0 .0) (c .before .before .loop-test .taken) (c .fetch .ensures), omega (arith, c .before .before .before .before .before .before .pre .0 .1)), omega (arith, c .before .before .before .loop .inv .short, long (c .before .before .before .loop .inv), c .before .before .before .before .before .before .pre .0 .1, c .before .before .before .before .before .before .pre .1))
 
--- src/lib.rt:185:9
 add-place : tie.Need-add-place Inv-loop μ-loop
 add-place c = search needs
 
--- src/lib.rt:183:5
 loop-less : tie.Need-loop-less Inv-loop μ-loop
 loop-less c = search needs
 
--- src/lib.rt:183:5
 loop-again : tie.Need-loop-again Inv-loop μ-loop
 loop-again c = next (c .before .before .before .before .before .before .loop .inv) (c .before .before .before .before .before .loop-test .taken) (c .before .before .before .fetch .ensures) (c .before .before .put-line .ensures .0) (c .before .before .put-line .ensures .1)
 
--- src/lib.rt:175:1
 same-length : tie.Need-same-length Inv-loop μ-loop
 same-length c = long (c .before .loop .inv)
 
--- src/lib.rt:175:1
 returns : tie.Need-returns Inv-loop μ-loop
 returns c = end (c .before .loop .inv) (c .loop-test .left)
 

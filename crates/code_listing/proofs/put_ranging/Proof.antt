@@ -5,38 +5,25 @@ use Rattle.code_listing.proofs.Lines.{ranging-is, row-same}
 use borrow.Author.Needs.{needs}
 use Rattle.code_listing.proofs.put_ranging.Statement.{statement}
 use Rattle.code_listing.proofs.put_ranging.Tie as tie
-use Rattle.code_listing.proofs.put_ranging.Reads as reads
-use Rattle.code_listing.proofs.put_ranging.Lts as lts
-use Rattle.code.proofs.number_of.Reads as number-of-reads
-use Rattle.code.proofs.word_of.Reads as word-of-reads
-use Rattle.code_listing.proofs.put_range.Reads as put-range-reads
-use Rattle.text_tables.proofs.put_row.Reads as put-row-reads
 
--- src/lib.rt:133:53
 number-of-requires : tie.Need-number-of-requires
 number-of-requires c κs = search needs
 
--- src/lib.rt:133:53
 cast-put-row : tie.Need-cast-put-row
 cast-put-row c = search needs
 
--- src/lib.rt:133:9
 put-row-requires : tie.Need-put-row-requires
 put-row-requires c κs = omega (arith, c .before .before .before .before .pre .0, row-same (c .before .before .before .before .args .table .now) (c .number-of .ensures))
 
--- src/lib.rt:134:26
 word-of-requires : tie.Need-word-of-requires
 word-of-requires c κs = search needs
 
--- src/lib.rt:134:5
 put-range-requires : tie.Need-put-range-requires
 put-range-requires c κs = omega (arith, c .before .before .before .before .before .before .before .before .before .pre .0, c .before .before .before .before .put-row .ensures .end, row-same (c .before .before .before .before .before .before .before .before .before .args .table .now) (c .before .before .before .before .before .number-of .ensures))
 
--- src/lib.rt:126:1
 same-length : tie.Need-same-length
 same-length c = search needs
 
--- src/lib.rt:126:1
 returns : tie.Need-returns
 returns c =
     (as-text (ranging-is (c .before .before .before .before .before .before .before .before .before .before .before .before .args .table .now) (c .before .before .before .before .before .before .before .before .before .before .before .before .args .w) (c .before .before .before .before .before .before .before .before .number-of .ensures) (c .before .before .before .word-of .ensures)) (then (c .before .before .before .before .before .before .before .put-row .ensures) (c .before .before .put-range .ensures .0)), omega (arith, c .before .before .before .before .before .before .before .before .before .before .before .before .pre .0, c .before .before .before .before .before .before .before .put-row .ensures .end, c .before .before .put-range .ensures .1, row-same (c .before .before .before .before .before .before .before .before .before .before .before .before .args .table .now) (c .before .before .before .before .before .before .before .before .number-of .ensures)))

@@ -1,7 +1,7 @@
 -- `compiler::judge_in` meets its contract.
 use native.Mathlib.Omega.{arith}
 use mathlib.Core.Path.{refl}
-use Rattle.compiler.proofs.Answers.{sized, not-sized, no-tokens}
+use Rattle.compiler.proofs.Answers.{sized, not-sized}
 use borrow.Author.Needs.{needs}
 use Rattle.compiler.proofs.judge_in.Statement.{statement}
 use Rattle.compiler.proofs.judge_in.Tie as tie
@@ -12,35 +12,17 @@ is-sized-requires c κs = search needs
 returns : tie.Need-returns
 returns c = let a = c .before .before .before .args in rw (not-sized (a .text .now) (c .before .is-sized .ensures) (c .if1 .taken) (a .reals) (a .opened)) refl
 
-slice-aggregate-read : tie.Need-slice-aggregate-read
-slice-aggregate-read c = search needs
-
-slice-aggregate-read-2 : tie.Need-slice-aggregate-read-2
-slice-aggregate-read-2 c = search needs
-
-read-requires : tie.Need-read-requires
-read-requires c κs =
-    let a = c .before .before .before .before .before .before .args in
-    let h = sized (a .text .now) (c .before .before .before .before .is-sized .ensures) (c .before .before .before .if1 .left) in
-    ((h, omega arith, omega arith), no-tokens 64)
+judge-short-requires : tie.Need-judge-short-requires
+judge-short-requires c κs = (sized (c .before .before .before .before .args .text .now) (c .before .before .is-sized .ensures) (c .before .if1 .left), omega arith)
 
 returns-2 : tie.Need-returns-2
-returns-2 c = c .before .before .read .ensures .answer
+returns-2 c = c .judge-short .ensures
 
-slice-aggregate-read-3 : tie.Need-slice-aggregate-read-3
-slice-aggregate-read-3 c = search needs
-
-slice-aggregate-read-4 : tie.Need-slice-aggregate-read-4
-slice-aggregate-read-4 c = search needs
-
-read-requires-2 : tie.Need-read-requires-2
-read-requires-2 c κs =
-    let a = c .before .before .before .before .before .before .args in
-    let h = sized (a .text .now) (c .before .before .before .before .is-sized .ensures) (c .before .before .before .if1 .left) in
-    ((h, omega arith, omega arith), no-tokens 1025)
+judge-long-requires : tie.Need-judge-long-requires
+judge-long-requires c κs = sized (c .before .before .before .before .args .text .now) (c .before .before .is-sized .ensures) (c .before .if1 .left)
 
 returns-3 : tie.Need-returns-3
-returns-3 c = c .before .before .read2 .ensures .answer
+returns-3 c = c .judge-long .ensures
 
 pub judge-in-spec : {M : Type 1} → statement M
 judge-in-spec =
@@ -48,11 +30,7 @@ judge-in-spec =
     (tie.spec
     is-sized-requires
     returns
-    slice-aggregate-read
-    slice-aggregate-read-2
-    read-requires
+    judge-short-requires
     returns-2
-    slice-aggregate-read-3
-    slice-aggregate-read-4
-    read-requires-2
+    judge-long-requires
     returns-3)

@@ -1,9 +1,9 @@
 -- For the contracts of private functions: what is asked of a token's word.
 use mathlib.Core.Path.{_≡_}
-use mathlib.Core.Bool.{Bool, false, cond}
+use mathlib.Core.Bool.{Bool, false, cond, _&&_, _||_}
 use mathlib.Core.List.{List}
 use Prim.Native.Nat.{ℕ, _+_, _*_, _%_, _≤_, _<_}
-use lib.Dec.{eqb, ltb}
+use lib.Dec.{eqb, leb, ltb}
 use lib.ListN.{length, getD}
 use Rattle.values.specs.declared.Kind.{Kind}
 use Rattle.values.specs.declared.Kind.the-variants.{Int, Real}
@@ -60,6 +60,10 @@ prefixNumber w = cond (isMark minus w) 0 (cond (isMark tilde w) 1 (cond (isMark 
 -- the group of a binary operator, or 0
 abbrev pub groupIn : ℕ → ℕ
 groupIn w = cond (eqb (wordClass w) 6) (groupNumber (wordOperand w)) 0
+
+-- a number or a cell stands at `at`, and no operator of a group below g behind it
+abbrev pub isAlone : List ℕ → ℕ → ℕ → Bool
+isAlone s at g = isLeaf (wordAt s at) && (eqb (groupIn (wordAt s (at + 1))) 0 || leb g (groupIn (wordAt s (at + 1))))
 
 -- the place of a token; the text's size behind the last
 abbrev pub placeAt : ℕ → ℕ → ℕ

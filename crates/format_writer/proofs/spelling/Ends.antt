@@ -129,7 +129,7 @@ numeral s at whole m r h w l k p e =
     omega (arith, a, b, t)
 
 -- ---- the scanner's answer
-judged-end : (p n : ℕ) (j : Scanned) {t : Token} {q e : ℕ} → lexeme p n j ≡ Found t q e → e ≡ p + n
+pub judged-end : (p n : ℕ) (j : Scanned) {t : Token} {q e : ℕ} → lexeme p n j ≡ Found t q e → e ≡ p + n
 judged-end p n (Good u) m = cc
 judged-end p n (Bad a) m = let z : _≡_ {A = ℕ} 0 1 = cc in absurd (omega arith)
 
@@ -144,17 +144,17 @@ known-symbol (Known.letter b) e = let z : _≡_ {A = ℕ} 0 1 = cc in absurd (om
 known-symbol (Known.name f) e = let z : _≡_ {A = ℕ} 0 1 = cc in absurd (omega arith)
 known-symbol {n = n} (Known.sign m h) e = let q : m ≡ n = cc in omega arith
 
-digit-lexeme : (c : ℕ) (cs : List ℕ) (p : ℕ) → isDigit c ≡ true → lexemeOf (c ∷ cs) p ≡ numeralLexeme (c ∷ cs) p
+pub digit-lexeme : (c : ℕ) (cs : List ℕ) (p : ℕ) → isDigit c ≡ true → lexemeOf (c ∷ cs) p ≡ numeralLexeme (c ∷ cs) p
 unfolding lexemeOf
 digit-lexeme c cs p d = choose (λ (x : Lexeme). x ≡ numeralLexeme (c ∷ cs) p) (isDigit c) _ _ (λ m. refl) (λ m. no (sym m ∙ d))
 
-letter-lexeme : (c : ℕ) (cs : List ℕ) (p : ℕ) → isDigit c ≡ false → isLetter c ≡ true → lexemeOf (c ∷ cs) p ≡ runLexeme isWord wordToken (c ∷ cs) p
+pub letter-lexeme : (c : ℕ) (cs : List ℕ) (p : ℕ) → isDigit c ≡ false → isLetter c ≡ true → lexemeOf (c ∷ cs) p ≡ runLexeme isWord wordToken (c ∷ cs) p
 unfolding lexemeOf
 letter-lexeme c cs p d l =
     let Is : Lexeme → Type 0 = λ x. x ≡ runLexeme isWord wordToken (c ∷ cs) p in
     choose Is (isDigit c) _ _ (λ m. no (sym d ∙ m)) (λ m. choose Is (isLetter c) _ _ (λ k. refl) (λ k. no (sym k ∙ l)))
 
-symbol-lexeme : (c : ℕ) (cs : List ℕ) (p : ℕ) → isDigit c ≡ false → isLetter c ≡ false → lexemeOf (c ∷ cs) p ≡ symbolLexeme p (longest (c ∷ cs))
+pub symbol-lexeme : (c : ℕ) (cs : List ℕ) (p : ℕ) → isDigit c ≡ false → isLetter c ≡ false → lexemeOf (c ∷ cs) p ≡ symbolLexeme p (longest (c ∷ cs))
 unfolding lexemeOf
 symbol-lexeme c cs p d l = rw (d, l)
 
@@ -165,13 +165,13 @@ module _ {s : List ℕ} {p n : ℕ} (h : StandsAt s p n) where
   pub inside : p < length s
   inside = omega (arith, lies .some, lies .inside)
 
-  abbrev front : List ℕ
+  abbrev pub front : List ℕ
   front = getD s p 0 ∷ drop (suc p) s
 
-  lexed : lexemeOf (getD s p 0 ∷ drop (suc p) s) p ≡ Found (h .token) p (h .end)
+  pub lexed : lexemeOf (getD s p 0 ∷ drop (suc p) s) p ≡ Found (h .token) p (h .end)
   lexed = rw (← drop-cons s p 0 inside) (ap (λ (i : ℕ). lexemeOf (drop i s) i) (lies .place) ∙ h .stands)
 
-  split : drop p s ≡ getD s p 0 ∷ drop (suc p) s
+  pub split : drop p s ≡ getD s p 0 ∷ drop (suc p) s
   split = drop-cons s p 0 inside
 
   pub numeral-ends : {r : ℕ} → isDigit (getD s p 0) ≡ true → r ≡ p + numeralLen (drop p s) → r ≡ h .end
@@ -180,7 +180,7 @@ module _ {s : List ℕ} {p n : ℕ} (h : StandsAt s p n) where
   pub word-ends : {r : ℕ} → isDigit (getD s p 0) ≡ false → isLetter (getD s p 0) ≡ true → r ≡ p + runLen isWord (drop p s) → r ≡ h .end
   word-ends d l e = e ∙ ap (λ (x : List ℕ). p + runLen isWord x) split ∙ sym (judged-end p (runLen isWord front) (wordToken (take (runLen isWord front) front)) (sym (letter-lexeme (getD s p 0) (drop (suc p) s) p d l) ∙ lexed))
 
-  symbol-found : isDigit (getD s p 0) ≡ false → isLetter (getD s p 0) ≡ false → (h .token ≡ Symbol (longest (getD s p 0 ∷ drop (suc p) s))) × (h .end ≡ p + length (symbolBytes (longest (getD s p 0 ∷ drop (suc p) s))))
+  pub symbol-found : isDigit (getD s p 0) ≡ false → isLetter (getD s p 0) ≡ false → (h .token ≡ Symbol (longest (getD s p 0 ∷ drop (suc p) s))) × (h .end ≡ p + length (symbolBytes (longest (getD s p 0 ∷ drop (suc p) s))))
   symbol-found d l = symbol-end p (longest front) (sym (symbol-lexeme (getD s p 0) (drop (suc p) s) p d l) ∙ lexed)
 
   pub symbol-is : isDigit (getD s p 0) ≡ false → isLetter (getD s p 0) ≡ false → (h .token ≡ Symbol n) × (h .end ≡ p + length (symbolBytes n))

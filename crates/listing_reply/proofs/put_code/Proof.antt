@@ -7,42 +7,29 @@ use native.Mathlib.Omega.{arith}
 use borrow.Author.Needs.{needs}
 use Rattle.listing_reply.proofs.put_code.Statement.{statement}
 use Rattle.listing_reply.proofs.put_code.Tie as tie
-use Rattle.listing_reply.proofs.put_code.Reads as reads
-use Rattle.listing_reply.proofs.put_code.Lts as lts
-use Rattle.code_listing.proofs.listing.Reads as listing-reads
-use Rattle.lines.proofs.printing.put_all.Reads as put-all-reads
-use Rattle.listing_reply.proofs.blank_listing.Reads as blank-listing-reads
 
--- src/lib.rt:42:20
 blank-listing-requires : tie.Need-blank-listing-requires
 blank-listing-requires c κs = search needs
 
--- src/lib.rt:43:49
 slice-aggregate-listing : tie.Need-slice-aggregate-listing
 slice-aggregate-listing c = search needs
 
--- src/lib.rt:43:9
 listing-requires : tie.Need-listing-requires
 listing-requires c κs = search needs
 
--- src/lib.rt:45:32
 array-share-prefix-text : tie.Need-array-share-prefix-text
 array-share-prefix-text c = search needs
 
--- src/lib.rt:45:32
 slice-aggregate-put-all : tie.Need-slice-aggregate-put-all
 slice-aggregate-put-all c = sym (length-take-le (c .before .before .before .listing .result .length) (c .before .before .before .listing .last .1 .1 .0) (code-long (c .before .before .before .before .before .before .before .before .args .code .now) (c .before .before .before .before .before .before .before .before .args .n) (c .before .before .before .before .before .blank-listing .result) (c .before .before .before .listing .last .1 .1 .0) (c .before .before .before .before .before .blank-listing .ensures) (c .before .before .before .listing .ensures .0 .2) (c .before .before .before .listing .ensures .1)))
 
--- src/lib.rt:45:5
 put-all-requires : tie.Need-put-all-requires
 put-all-requires c κs =
     omega (arith, c .before .before .before .before .before .before .before .before .pre, c .before .before .before .before .before .blank-listing .ensures, c .before .before .before .listing .ensures .0 .2, length-take-le (c .before .before .before .listing .result .length) (c .before .before .before .listing .last .1 .1 .0) (code-long (c .before .before .before .before .before .before .before .before .args .code .now) (c .before .before .before .before .before .before .before .before .args .n) (c .before .before .before .before .before .blank-listing .result) (c .before .before .before .listing .last .1 .1 .0) (c .before .before .before .before .before .blank-listing .ensures) (c .before .before .before .listing .ensures .0 .2) (c .before .before .before .listing .ensures .1)))
 
--- src/lib.rt:37:1
 same-length : tie.Need-same-length
 same-length c = search needs
 
--- src/lib.rt:37:1
 returns : tie.Need-returns
 returns c =
     let n = length-take-le (c .before .before .before .before .before .before .listing .result .length) (c .before .before .before .before .before .before .listing .last .1 .1 .0) (code-long (c .before .before .before .before .before .before .before .before .before .before .before .args .code .now) (c .before .before .before .before .before .before .before .before .before .before .before .args .n) (c .before .before .before .before .before .before .before .before .blank-listing .result) (c .before .before .before .before .before .before .listing .last .1 .1 .0) (c .before .before .before .before .before .before .before .before .blank-listing .ensures) (c .before .before .before .before .before .before .listing .ensures .0 .2) (c .before .before .before .before .before .before .listing .ensures .1)) in

@@ -7,58 +7,40 @@ use native.Mathlib.Omega.{arith}
 use borrow.Author.Needs.{needs}
 use Rattle.listing_reply.proofs.put_index.Statement.{statement}
 use Rattle.listing_reply.proofs.put_index.Tie as tie
-use Rattle.listing_reply.proofs.put_index.Reads as reads
-use Rattle.listing_reply.proofs.put_index.Lts as lts
-use Rattle.lines.proofs.printing.put_all.Reads as put-all-reads
-use Rattle.listing_reply.proofs.put_code.Reads as put-code-reads
-use Rattle.memory.proofs.numbers.bank_number.Reads as bank-number-reads
-use Rattle.text_tables.proofs.put_row.Reads as put-row-reads
 
--- src/lib.rt:54:9
 returns : tie.Need-returns
 returns c = (as-text (no-index (c .before .before .before .args .index .now) (c .before .before .before .args .bank) (c .if1 .taken)) (none-put _ _), omega arith)
 
--- src/lib.rt:56:40
 slice-aggregate-put-all : tie.Need-slice-aggregate-put-all
 slice-aggregate-put-all c = search needs
 
--- src/lib.rt:56:9
 put-all-requires : tie.Need-put-all-requires
 put-all-requires c κs = search needs
 
--- src/lib.rt:57:42
 slice-aggregate-put-row : tie.Need-slice-aggregate-put-row
 slice-aggregate-put-row c = search needs
 
--- src/lib.rt:57:50
 bank-number-requires : tie.Need-bank-number-requires
 bank-number-requires c κs = search needs
 
--- src/lib.rt:57:50
 cast-put-row : tie.Need-cast-put-row
 cast-put-row c = search needs
 
--- src/lib.rt:57:9
 put-row-requires : tie.Need-put-row-requires
 put-row-requires c κs = omega (arith, c .before .before .before .before .before .put-all .ensures .end, row-length 1 (c .bank-number .result) (ascii "X\nC\nV\nN\nD\nR") tt)
 
--- src/lib.rt:58:39
 slice-aggregate-put-all-2 : tie.Need-slice-aggregate-put-all-2
 slice-aggregate-put-all-2 c = search needs
 
--- src/lib.rt:58:9
 put-all-requires-2 : tie.Need-put-all-requires-2
 put-all-requires-2 c κs = omega (arith, c .before .before .before .before .before .before .before .before .before .before .put-all .ensures .end, c .before .before .before .before .put-row .ensures .end, row-length 1 (c .before .before .before .before .before .bank-number .result) (ascii "X\nC\nV\nN\nD\nR") tt)
 
--- src/lib.rt:59:5
 put-code-requires : tie.Need-put-code-requires
 put-code-requires c κs = omega (arith, c .before .before .before .put-all2 .ensures .end, c .before .before .before .before .before .before .before .before .before .before .before .before .before .before .put-all .ensures .end, c .before .before .before .before .before .before .before .before .put-row .ensures .end, row-length 1 (c .before .before .before .before .before .before .before .before .before .bank-number .result) (ascii "X\nC\nV\nN\nD\nR") tt)
 
--- src/lib.rt:48:1
 same-length : tie.Need-same-length
 same-length c = search needs
 
--- src/lib.rt:48:1
 returns-2 : tie.Need-returns-2
 returns-2 c =
     (as-text (with-index (c .before .before .before .before .before .before .before .before .before .before .before .before .before .before .before .before .before .before .before .before .before .before .before .args .index .now) (c .before .before .before .before .before .before .before .before .before .before .before .before .before .before .before .before .before .before .before .before .before .before .before .args .bank) (c .before .before .before .before .before .before .before .before .before .before .before .before .before .before .before .before .before .before .before .before .if1 .left) (c .before .before .before .before .before .before .before .before .before .before .before .before .bank-number .ensures)) (then (then (then (c .before .before .before .before .before .before .before .before .before .before .before .before .before .before .before .before .before .put-all .ensures) (c .before .before .before .before .before .before .before .before .before .before .before .put-row .ensures)) (c .before .before .before .before .before .before .put-all2 .ensures)) (c .before .before .put-code .ensures .0)), omega (arith, c .before .before .put-code .ensures .1, c .before .before .before .before .before .before .put-all2 .ensures .end, c .before .before .before .before .before .before .before .before .before .before .before .before .before .before .before .before .before .put-all .ensures .end, c .before .before .before .before .before .before .before .before .before .before .before .put-row .ensures .end, row-length 1 (c .before .before .before .before .before .before .before .before .before .before .before .before .bank-number .result) (ascii "X\nC\nV\nN\nD\nR") tt))

@@ -6,86 +6,61 @@ use Rattle.lines.proofs.Stores.{as-text}
 use borrow.Author.Needs.{needs}
 use Rattle.listing_reply.proofs.reply.Statement.{statement}
 use Rattle.listing_reply.proofs.reply.Tie as tie
-use Rattle.listing_reply.proofs.reply.Reads as reads
-use Rattle.listing_reply.proofs.reply.Lts as lts
-use Rattle.listing_reply.proofs.put_refusal.Reads as put-refusal-reads
-use Rattle.listing_reply.proofs.reply_to_text.Reads as reply-to-text-reads
-use Rattle.operations.proofs.compile_target.Reads as compile-target-reads
-use Rattle.operations.proofs.reported.Reads as reported-reads
-use Rattle.program.proofs.stream.blank_code.Reads as blank-code-reads
 
--- src/lib.rt:97:21
 blank-code-requires : tie.Need-blank-code-requires
 blank-code-requires c κs = search needs
 
--- src/lib.rt:98:53
 slice-aggregate-compile-target : tie.Need-slice-aggregate-compile-target
 slice-aggregate-compile-target c = search needs
 
--- src/lib.rt:98:9
 compile-target-requires : tie.Need-compile-target-requires
 compile-target-requires c κs = search needs
 
--- src/lib.rt:100:25
 enum-known-answer : tie.Need-enum-known-answer
 enum-known-answer c = search needs
 
--- src/lib.rt:100:60
 slice-aggregate-reply-to-text : tie.Need-slice-aggregate-reply-to-text
 slice-aggregate-reply-to-text c = search needs
 
--- src/lib.rt:100:40
 reply-to-text-requires : tie.Need-reply-to-text-requires
 reply-to-text-requires c κs = search needs
 
--- src/lib.rt:101:44
 enum-told : tie.Need-enum-told
 enum-told c = search needs
 
--- src/lib.rt:101:49
 reported-requires : tie.Need-reported-requires
 reported-requires c κs = search needs
 
--- src/lib.rt:101:32
 put-refusal-requires : tie.Need-put-refusal-requires
 put-refusal-requires c κs = search needs
 
--- src/lib.rt:102:46
 enum-told-2 : tie.Need-enum-told-2
 enum-told-2 c = search needs
 
--- src/lib.rt:102:51
 reported-requires-2 : tie.Need-reported-requires-2
 reported-requires-2 c κs = search needs
 
--- src/lib.rt:102:34
 put-refusal-requires-2 : tie.Need-put-refusal-requires-2
 put-refusal-requires-2 c κs = search needs
 
--- src/lib.rt:92:1
 same-length : tie.Need-same-length
 same-length c = search needs
 
--- src/lib.rt:92:1
 returns : tie.Need-returns
 returns c =
     (as-text (target-done (c .before .before .before .before .before .before .before .before .before .before .before .before .before .before .before .args .target .now) (c .before .before .before .before .before .before .before .before .before .before .before .before .before .before .before .args .text .now) (c .before .before .before .before .before .before .before .before .before .before .before .blank-code .ensures .1) (c .before .before .before .before .before .before .before .before .before .compile-target .ensures .0) (c .before .before .before .before .before .before .answer .given .1) (c .before .before .before .before .before .before .before .before .before .compile-target .ensures .1)) (c .before .before .reply-to-text .ensures .0), c .before .before .reply-to-text .ensures .1)
 
--- src/lib.rt:92:1
 same-length-2 : tie.Need-same-length-2
 same-length-2 c = search needs
 
--- src/lib.rt:92:1
 returns-2 : tie.Need-returns-2
 returns-2 c =
     let same = target-not (c .before .before .before .before .before .before .before .before .before .before .before .before .before .before .args .target .now) (c .before .before .before .before .before .before .before .before .before .before .before .before .before .before .args .text .now) (c .before .before .before .before .before .before .before .before .before .before .blank-code .ensures .1) (c .before .before .before .before .before .before .before .before .compile-target .ensures .0) (fault-not (c .before .before .before .before .before .enum-told .given .1)) in
     (as-text (ap refusalText (c .before .before .before .reported .ensures) ∙ same) (c .before .before .put-refusal .ensures .0), c .before .before .put-refusal .ensures .1)
 
--- src/lib.rt:92:1
 same-length-3 : tie.Need-same-length-3
 same-length-3 c = search needs
 
--- src/lib.rt:92:1
 returns-3 : tie.Need-returns-3
 returns-3 c =
     let same = target-not (c .before .before .before .before .before .before .before .before .before .before .before .before .before .before .args .target .now) (c .before .before .before .before .before .before .before .before .before .before .before .before .before .before .args .text .now) (c .before .before .before .before .before .before .before .before .before .before .blank-code .ensures .1) (c .before .before .before .before .before .before .before .before .compile-target .ensures .0) (refused-not (c .before .before .before .before .before .enum-told2 .given .1)) in

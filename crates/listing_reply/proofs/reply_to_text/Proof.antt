@@ -7,91 +7,64 @@ use native.Mathlib.Omega.{arith}
 use borrow.Author.Needs.{needs}
 use Rattle.listing_reply.proofs.reply_to_text.Statement.{statement}
 use Rattle.listing_reply.proofs.reply_to_text.Tie as tie
-use Rattle.listing_reply.proofs.reply_to_text.Reads as reads
-use Rattle.listing_reply.proofs.reply_to_text.Lts as lts
-use Rattle.listing_reply.proofs.put_code.Reads as put-code-reads
-use Rattle.listing_reply.proofs.put_index.Reads as put-index-reads
-use Rattle.listing_reply.proofs.put_refusal.Reads as put-refusal-reads
-use Rattle.operations.proofs.compile.Reads as compile-reads
-use Rattle.operations.proofs.reported.Reads as reported-reads
-use Rattle.program.proofs.stream.blank_code.Reads as blank-code-reads
 
--- src/lib.rt:80:20
 blank-code-requires : tie.Need-blank-code-requires
 blank-code-requires c κs = search needs
 
--- src/lib.rt:81:44
 slice-aggregate-compile : tie.Need-slice-aggregate-compile
 slice-aggregate-compile c = search needs
 
--- src/lib.rt:81:9
 compile-requires : tie.Need-compile-requires
 compile-requires c κs = search needs
 
--- src/lib.rt:83:25
 enum-known-answer : tie.Need-enum-known-answer
 enum-known-answer c = search needs
 
--- src/lib.rt:84:39
 slice-aggregate-put-code : tie.Need-slice-aggregate-put-code
 slice-aggregate-put-code c = search needs
 
--- src/lib.rt:84:17
 put-code-requires : tie.Need-put-code-requires
 put-code-requires c κs = search needs
 
--- src/lib.rt:85:13
 put-index-requires : tie.Need-put-index-requires
 put-index-requires c κs = search needs
 
--- src/lib.rt:87:44
 enum-told : tie.Need-enum-told
 enum-told c = search needs
 
--- src/lib.rt:87:49
 reported-requires : tie.Need-reported-requires
 reported-requires c κs = search needs
 
--- src/lib.rt:87:32
 put-refusal-requires : tie.Need-put-refusal-requires
 put-refusal-requires c κs = search needs
 
--- src/lib.rt:88:46
 enum-told-2 : tie.Need-enum-told-2
 enum-told-2 c = search needs
 
--- src/lib.rt:88:51
 reported-requires-2 : tie.Need-reported-requires-2
 reported-requires-2 c κs = search needs
 
--- src/lib.rt:88:34
 put-refusal-requires-2 : tie.Need-put-refusal-requires-2
 put-refusal-requires-2 c κs = search needs
 
--- src/lib.rt:75:1
 same-length : tie.Need-same-length
 same-length c = search needs
 
--- src/lib.rt:75:1
 returns : tie.Need-returns
 returns c =
     (as-text (text-done (c .before .before .before .before .before .before .before .before .before .before .before .before .before .before .before .before .before .before .before .args .text .now) (c .before .before .before .before .before .before .before .before .before .before .before .before .before .before .before .before .before .before .before .args .index .now) (c .before .before .before .before .before .before .before .before .before .before .before .before .before .before .before .before .before .before .before .args .k) (c .before .before .before .before .before .before .before .before .before .before .before .before .before .before .before .before .before .before .before .args .bank) (c .before .before .before .before .before .before .before .before .before .before .before .before .before .before .before .blank-code .result) (c .before .before .before .before .before .before .before .before .before .before .before .before .before .before .before .blank-code .ensures .0) (c .before .before .before .before .before .before .before .before .before .before .before .before .before .compile .ensures .0) (c .before .before .before .before .before .before .before .before .before .before .answer .given .1) (c .before .before .before .before .before .before .before .before .before .before .before .before .before .compile .ensures .1)) (then (c .before .before .before .before .before .before .put-code .ensures .0) (c .before .before .put-index .ensures .0)), omega (arith, c .before .before .before .before .before .before .put-code .ensures .1, c .before .before .put-index .ensures .1))
 
--- src/lib.rt:75:1
 same-length-2 : tie.Need-same-length-2
 same-length-2 c = search needs
 
--- src/lib.rt:75:1
 returns-2 : tie.Need-returns-2
 returns-2 c =
     let same = text-not (c .before .before .before .before .before .before .before .before .before .before .before .before .before .before .args .text .now) (c .before .before .before .before .before .before .before .before .before .before .before .before .before .before .args .index .now) (c .before .before .before .before .before .before .before .before .before .before .before .before .before .before .args .k) (c .before .before .before .before .before .before .before .before .before .before .before .before .before .before .args .bank) (c .before .before .before .before .before .before .before .before .before .before .blank-code .result) (c .before .before .before .before .before .before .before .before .before .before .blank-code .ensures .0) (c .before .before .before .before .before .before .before .before .compile .ensures .0) (fault-not (c .before .before .before .before .before .enum-told .given .1)) in
     (as-text (ap refusalText (c .before .before .before .reported .ensures) ∙ same) (c .before .before .put-refusal .ensures .0), c .before .before .put-refusal .ensures .1)
 
--- src/lib.rt:75:1
 same-length-3 : tie.Need-same-length-3
 same-length-3 c = search needs
 
--- src/lib.rt:75:1
 returns-3 : tie.Need-returns-3
 returns-3 c =
     let same = text-not (c .before .before .before .before .before .before .before .before .before .before .before .before .before .before .args .text .now) (c .before .before .before .before .before .before .before .before .before .before .before .before .before .before .args .index .now) (c .before .before .before .before .before .before .before .before .before .before .before .before .before .before .args .k) (c .before .before .before .before .before .before .before .before .before .before .before .before .before .before .args .bank) (c .before .before .before .before .before .before .before .before .before .before .blank-code .result) (c .before .before .before .before .before .before .before .before .before .before .blank-code .ensures .0) (c .before .before .before .before .before .before .before .before .compile .ensures .0) (refused-not (c .before .before .before .before .before .enum-told2 .given .1)) in

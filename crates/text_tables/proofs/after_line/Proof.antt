@@ -4,39 +4,28 @@ use native.Mathlib.Omega.{arith}
 use borrow.Author.Needs.{needs}
 use Rattle.text_tables.proofs.after_line.Statement.{statement}
 use Rattle.text_tables.proofs.after_line.Tie as tie
-use Rattle.text_tables.proofs.after_line.Reads as reads
-use Rattle.text_tables.proofs.after_line.Lts as lts
-use Rattle.lines.proofs.until.Reads as until-reads
 
--- src/lib.rt:15:33
 sub-until : tie.Need-sub-until
 sub-until c = search needs
 
--- src/lib.rt:15:33
 part-until-start : tie.Need-part-until-start
 part-until-start c = search needs
 
--- src/lib.rt:15:33
 part-until-end : tie.Need-part-until-end
 part-until-end c = search needs
 
--- src/lib.rt:15:20
 until-requires : tie.Need-until-requires
 until-requires c κs = search needs
 
--- src/lib.rt:15:15
 add-end : tie.Need-add-end
 add-end c = search needs
 
--- src/lib.rt:16:28
 add-result : tie.Need-add-result
 add-result c = search needs
 
--- src/lib.rt:11:1
 returns : tie.Need-returns
 returns c = behind (c .before .before .before .before .args .table .now) (c .before .before .before .before .args .at) (c .before .until .result) (c .before .until .ensures .0) (c .if1 .taken)
 
--- src/lib.rt:11:1
 returns-2 : tie.Need-returns-2
 returns-2 c = at-end (c .before .before .before .before .args .table .now) (c .before .before .before .before .args .at) (c .before .until .result) (c .before .until .ensures .0) (c .before .before .before .before .pre) (omega (arith, c .before .until .ensures .1)) (c .if1 .left)
 

@@ -7,88 +7,64 @@ use native.Mathlib.Omega.{arith}
 use borrow.Author.Needs.{needs}
 use Rattle.text_tables.proofs.fit_row.Statement.{statement}
 use Rattle.text_tables.proofs.fit_row.Tie as tie
-use Rattle.text_tables.proofs.fit_row.Reads as reads
-use Rattle.text_tables.proofs.fit_row.Lts as lts
-use Rattle.lines.proofs.printing.put_all.Reads as put-all-reads
-use Rattle.lines.proofs.until.Reads as until-reads
-use Rattle.text_tables.proofs.row_start.Reads as row-start-reads
 
--- src/lib.rt:49:9
 row-start-requires : tie.Need-row-start-requires
 row-start-requires c κs = search needs
 
--- src/lib.rt:50:26
 sub-until : tie.Need-sub-until
 sub-until c = search needs
 
--- src/lib.rt:50:26
 part-until-start : tie.Need-part-until-start
 part-until-start c = search needs
 
--- src/lib.rt:50:26
 part-until-end : tie.Need-part-until-end
 part-until-end c = search needs
 
--- src/lib.rt:50:9
 until-requires : tie.Need-until-requires
 until-requires c κs = search needs
 
--- src/lib.rt:52:19
 add-end : tie.Need-add-end
 add-end c = search needs
 
--- src/lib.rt:53:35
 sub-put-all : tie.Need-sub-put-all
 sub-put-all c = search needs
 
--- src/lib.rt:53:35
 part-put-all-start : tie.Need-part-put-all-start
 part-put-all-start c = search needs
 
--- src/lib.rt:53:35
 part-put-all-end : tie.Need-part-put-all-end
 part-put-all-end c = search needs
 
--- src/lib.rt:53:9
 put-all-requires : tie.Need-put-all-requires
 put-all-requires c κs = search needs
 
--- src/lib.rt:54:9
 same-length : tie.Need-same-length
 same-length c = search needs
 
--- src/lib.rt:54:9
 returns : tie.Need-returns
 returns c = (
   row-long (c .before .before .before .before .before .before .before .before .before .before .before .args .table .now) (c .before .before .before .before .before .before .before .before .before .before .before .args .k) (c .before .before .before .before .before .before .before .before .row-start .result) (c .before .before .before .before .before .before .until .result) (c .before .before .before .before .before .before .until .ensures .0) (c .before .before .before .before .before .before .before .before .row-start .ensures .0) (c .before .before .before .before .before .before .before .before .row-start .ensures .1) (omega (arith, c .before .before .before .before .before .before .until .ensures .1)),
   c .before .before .put-all .ensures .bytes ∙ row-front (c .before .before .before .before .before .before .before .before .before .before .before .args .table .now) (c .before .before .before .before .before .before .before .before .before .before .before .args .k) (c .before .before .before .before .before .before .before .before .row-start .result) (c .before .before .before .before .before .before .until .result) (c .before .before .before .before .before .before .until .ensures .0) (c .before .before .before .before .before .before .before .before .row-start .ensures .0) (c .before .before .before .before .before .before .before .before .before .before .before .args .out .now) (omega (arith, c .before .before .before .before .before .if1 .taken)),
 )
 
--- src/lib.rt:56:15
 add-end-2 : tie.Need-add-end-2
 add-end-2 c = search needs
 
--- src/lib.rt:57:31
 sub-put-all-2 : tie.Need-sub-put-all-2
 sub-put-all-2 c = search needs
 
--- src/lib.rt:57:31
 part-put-all-start-2 : tie.Need-part-put-all-start-2
 part-put-all-start-2 c = search needs
 
--- src/lib.rt:57:31
 part-put-all-end-2 : tie.Need-part-put-all-end-2
 part-put-all-end-2 c = search needs
 
--- src/lib.rt:57:5
 put-all-requires-2 : tie.Need-put-all-requires-2
 put-all-requires-2 c κs = search needs
 
--- src/lib.rt:46:1
 same-length-2 : tie.Need-same-length-2
 same-length-2 c = search needs
 
--- src/lib.rt:46:1
 returns-2 : tie.Need-returns-2
 returns-2 c =
     let long = row-long (c .before .before .before .before .before .before .before .before .before .before .before .args .table .now) (c .before .before .before .before .before .before .before .before .before .before .before .args .k) (c .before .before .before .before .before .before .before .before .row-start .result) (c .before .before .before .before .before .before .until .result) (c .before .before .before .before .before .before .until .ensures .0) (c .before .before .before .before .before .before .before .before .row-start .ensures .0) (c .before .before .before .before .before .before .before .before .row-start .ensures .1) (omega (arith, c .before .before .before .before .before .before .until .ensures .1)) in

@@ -7,57 +7,40 @@ use native.Mathlib.Omega.{arith}
 use borrow.Author.Needs.{needs}
 use Rattle.text_tables.proofs.put_row.Statement.{statement}
 use Rattle.text_tables.proofs.put_row.Tie as tie
-use Rattle.text_tables.proofs.put_row.Reads as reads
-use Rattle.text_tables.proofs.put_row.Lts as lts
-use Rattle.lines.proofs.printing.put_all.Reads as put-all-reads
-use Rattle.lines.proofs.until.Reads as until-reads
-use Rattle.text_tables.proofs.row_start.Reads as row-start-reads
 
--- src/lib.rt:40:9
 row-start-requires : tie.Need-row-start-requires
 row-start-requires c κs = search needs
 
--- src/lib.rt:41:36
 sub-until : tie.Need-sub-until
 sub-until c = search needs
 
--- src/lib.rt:41:36
 part-until-start : tie.Need-part-until-start
 part-until-start c = search needs
 
--- src/lib.rt:41:36
 part-until-end : tie.Need-part-until-end
 part-until-end c = search needs
 
--- src/lib.rt:41:23
 until-requires : tie.Need-until-requires
 until-requires c κs = search needs
 
--- src/lib.rt:41:15
 add-end : tie.Need-add-end
 add-end c = search needs
 
--- src/lib.rt:42:32
 sub-put-all : tie.Need-sub-put-all
 sub-put-all c = search needs
 
--- src/lib.rt:42:32
 part-put-all-start : tie.Need-part-put-all-start
 part-put-all-start c = search needs
 
--- src/lib.rt:42:32
 part-put-all-end : tie.Need-part-put-all-end
 part-put-all-end c = search needs
 
--- src/lib.rt:42:5
 put-all-requires : tie.Need-put-all-requires
 put-all-requires c κs = omega (arith, c .before .before .before .before .before .before .before .pre, ap length (row-is (c .before .before .before .before .before .before .before .args .table .now) (c .before .before .before .before .before .before .before .args .k) (c .before .before .before .before .row-start .result) (c .before .before .until .result) (c .before .before .until .ensures .0) (c .before .before .before .before .row-start .ensures .0)))
 
--- src/lib.rt:36:1
 same-length : tie.Need-same-length
 same-length c = search needs
 
--- src/lib.rt:36:1
 returns : tie.Need-returns
 returns c = as-text (row-is (c .before .before .before .before .before .before .before .before .before .before .args .table .now) (c .before .before .before .before .before .before .before .before .before .before .args .k) (c .before .before .before .before .before .before .before .row-start .result) (c .before .before .before .before .before .until .result) (c .before .before .before .before .before .until .ensures .0) (c .before .before .before .before .before .before .before .row-start .ensures .0)) (c .before .before .put-all .ensures)
 

@@ -3,9 +3,6 @@ use Rattle.text_tables.proofs.Rows.{Toward, start, beyond, arrived, onw
 use borrow.Author.Needs.{needs}
 use Rattle.text_tables.proofs.row_start.Statement.{statement}
 use Rattle.text_tables.proofs.row_start.Tie as tie
-use Rattle.text_tables.proofs.row_start.Reads as reads
-use Rattle.text_tables.proofs.row_start.Lts as lts
-use Rattle.text_tables.proofs.after_line.Reads as after-line-reads
 
 abbrev Inv-loop : tie.InvT-loop
 Inv-loop table k at₀ left₀ at left = Toward table k at left
@@ -13,31 +10,24 @@ Inv-loop table k at₀ left₀ at left = Toward table k at left
 abbrev μ-loop : tie.MeasureT-loop
 μ-loop table k at₀ left₀ at left = left
 
--- src/lib.rt:25:5
 loop-holds : tie.Need-loop-holds Inv-loop μ-loop
 loop-holds c = start _ _
 
--- src/lib.rt:27:13
 returns : tie.Need-returns Inv-loop μ-loop
 returns c = beyond (c .before .before .loop .inv) (c .if1 .taken)
 
--- src/lib.rt:29:9
 after-line-requires : tie.Need-after-line-requires Inv-loop μ-loop
 after-line-requires c κs = c .before .before .loop .inv .within
 
--- src/lib.rt:30:9
 sub-left : tie.Need-sub-left Inv-loop μ-loop
 sub-left c = search needs
 
--- src/lib.rt:25:5
 loop-less : tie.Need-loop-less Inv-loop μ-loop
 loop-less c = search needs
 
--- src/lib.rt:25:5
 loop-again : tie.Need-loop-again Inv-loop μ-loop
 loop-again c = onward (c .before .before .before .loop .inv) (c .before .before .loop-test .taken) (c .after-line .ensures .0) (c .after-line .ensures .1)
 
--- src/lib.rt:20:1
 returns-2 : tie.Need-returns-2 Inv-loop μ-loop
 returns-2 c = arrived (c .before .loop .inv) (c .loop-test .left)
 

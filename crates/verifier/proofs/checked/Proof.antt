@@ -11,7 +11,6 @@ use Rattle.code.proofs.Parts.{decode-fetched}
 use Rattle.operators.proofs.Arms.{first as some}
 use Rattle.verifier.specs.private.Shapes.{State, unreached, holds, kindsOf, stateAt, stateOf, tableOf}
 use Rattle.verifier.proofs.Checking.{too-short, Passing, first, Came, turn, fails, agreed, disagreed, landed, lost, ends}
-use Rattle.verifier.proofs.Bits.{same-kinds}
 use Rattle.verifier.proofs.Merging.{sized, resized}
 use Rattle.verifier.proofs.Stepping.{state-holds}
 use Rattle.verifier.proofs.checked.Statement.{statement}
@@ -136,8 +135,8 @@ joined-at-requires c κs =
     let m = c .before .before .before .before .before .before .before .before .before .before .before .before .before .before .before .before .before .before in
     ((omega (arith, c .before .before .before .before .before .skipped .ensures .way .within, tops-after m, entry m .pre .1 .room), some (c .before .before .before .if4 .left)), sized (m .step .ensures .1 .0))
 
-refilled-requires : tie.Need-refilled-requires Inv-loop μ-loop
-refilled-requires c κs = (c .before .before .before .before .before .before .before .before .before .before .before .before .before .before .before .before .before .before .before .before .step .ensures .0 .whole, c .before .joined-at .ensures .0)
+refill-requires : tie.Need-refill-requires Inv-loop μ-loop
+refill-requires c κs = (c .before .before .before .before .before .before .before .before .before .before .before .before .before .before .before .before .before .before .before .before .step .ensures .0 .whole, c .before .joined-at .ensures .0)
 
 loop-less : tie.Need-loop-less Inv-loop μ-loop
 loop-less c = omega (arith, c .before .before .before .before .before .before .before .before .skipped .ensures .way .onward, c .before .before .before .before .before .before .before .before .skipped .ensures .way .within, c .before .before .before .before .before .before .before .before .before .before .before .before .before .before .before .before .before .before .before .before .before .before .before .before .before .before .before .loop-test .taken)
@@ -147,9 +146,9 @@ loop-again c =
     let m = c .before .before .before .before .before .before .before .before .before .before .before .before .before .before .before .before .before .before .before .before .before in
     record {
       within = c .before .before .before .before .before .before .before .before .skipped .ensures .way .within;
-      keeps = c .refilled .ensures .0;
+      keeps = c .refill .ensures;
       table = resized (tops-kept (at-loop m)) (m .step .ensures .1 .0);
-      knows = landed _ _ (came m) (came-not m (c .before .before .before .before .before .before .before .before .before .before .if3 .taken)) (λ q e. rw e) (c .before .before .before .before .before .before .before .before .skipped .ensures) (ap holds (same-kinds (c .refilled .ensures .1)) ∙ c .before .before .joined-at .ensures .1);
+      knows = landed _ _ (came m) (came-not m (c .before .before .before .before .before .before .before .before .before .before .if3 .taken)) (λ q e. rw e) (c .before .before .before .before .before .before .before .before .skipped .ensures) (c .before .before .joined-at .ensures .1);
     }
 
 agrees-requires : tie.Need-agrees-requires Inv-loop μ-loop
@@ -223,7 +222,7 @@ checked-spec =
     same-length-6
     returns-3
     joined-at-requires
-    refilled-requires
+    refill-requires
     loop-less
     loop-again
     agrees-requires

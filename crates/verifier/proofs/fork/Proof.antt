@@ -5,7 +5,6 @@ use native.Mathlib.Omega.{arith}
 use borrow.Author.Needs.{needs}
 use borrow.Author.Tests.{leb-true, not-true, not-false}
 use Rattle.code.specs.Instructions.{wordOf}
-use Rattle.verifier.proofs.Bits.{neat-popped, popped-same}
 use Rattle.verifier.proofs.Held.{keeps-popped}
 use Rattle.verifier.proofs.Stepping.{fork-short, fork-strays, fork-lands, fork-fails}
 use Rattle.verifier.proofs.fork.Statement.{statement}
@@ -30,11 +29,8 @@ returns-2 c =
 popped-requires : tie.Need-popped-requires
 popped-requires c κs = search needs
 
-uncovered-requires : tie.Need-uncovered-requires
-uncovered-requires c κs =
-    let start = c .before .before .before .before .before .before .before .before .before in
-    let p = c .popped .ensures in
-    (start .pre .0 .whole, neat-popped (omega arith) (p .0) (start .pre .0 .canonical), λ f. keeps-popped (start .pre .0) (omega arith) (p .0) (p .1) f)
+uncover-requires : tie.Need-uncover-requires
+uncover-requires c κs = keeps-popped (c .before .before .before .before .before .before .before .before .before .pre .0) (omega (arith, c .before .before .before .before .if1 .left)) (c .before .popped .ensures)
 
 word-of-requires : tie.Need-word-of-requires
 word-of-requires c κs = search needs
@@ -48,7 +44,7 @@ add-target c = search needs
 merge-requires : tie.Need-merge-requires
 merge-requires c κs =
     let start = c .before .before .before .before .before .before .before .before .before .before .before .before .before .before in (
-      c .before .before .before .before .uncovered .ensures .0 .canonical,
+      c .before .before .before .before .uncover .ensures .canonical,
       (
         omega (
           arith,
@@ -72,10 +68,10 @@ same-length-3 c = search needs
 returns-3 : tie.Need-returns-3
 returns-3 c =
     let start = c .before .before .before .before .before .before .before .before .before .before .before .before .before .before .before .before .before .before .before .before .before .before in (
-      c .before .before .before .before .before .before .before .before .before .before .before .before .uncovered .ensures .0,
+      c .before .before .before .before .before .before .before .before .before .before .before .before .uncover .ensures,
       (
         c .before .before .before .before .before .before .before .merge .ensures .0,
-        λ t. fork-lands _ _ t (start .args .held) (omega (arith, c .before .before .before .before .before .before .before .before .before .before .before .before .before .before .before .before .before .if1 .left)) (popped-same (c .before .before .before .before .before .before .before .before .before .before .before .before .before .popped .ensures .0) (c .before .before .before .before .before .before .before .before .before .before .before .before .uncovered .ensures .1)) (sym (c .before .before .before .before .before .before .before .before .before .before .before .before .before .before .before .before .stays .ensures) ∙ not-false _ (c .before .before .before .before .before .before .before .before .before .before .before .before .before .before .before .if2 .left)) (c .if3 .taken)
+        λ t. fork-lands _ _ t (start .args .held) (omega (arith, c .before .before .before .before .before .before .before .before .before .before .before .before .before .before .before .before .before .if1 .left)) (c .before .before .before .before .before .before .before .before .before .before .before .before .before .before .popped .ensures) (sym (c .before .before .before .before .before .before .before .before .before .before .before .before .before .before .before .before .stays .ensures) ∙ not-false _ (c .before .before .before .before .before .before .before .before .before .before .before .before .before .before .before .if2 .left)) (c .if3 .taken)
             (rw (c .before .before .before .before .before .before .before .before .before .before .before .word-of .ensures) at (c .before .before .before .before .before .before .before .merge .ensures .1)),
       ),
     )
@@ -92,10 +88,10 @@ same-length-6 c = search needs
 returns-4 : tie.Need-returns-4
 returns-4 c =
     let start = c .before .before .before .before .before .before .before .before .before .before .before .before .before .before .before .before .before .before .before .before .before .before in (
-      c .before .before .before .before .before .before .before .before .before .before .before .before .uncovered .ensures .0,
+      c .before .before .before .before .before .before .before .before .before .before .before .before .uncover .ensures,
       (
         c .before .before .before .before .before .before .before .merge .ensures .0,
-        λ t. fork-fails _ _ t (start .args .held) (omega (arith, c .before .before .before .before .before .before .before .before .before .before .before .before .before .before .before .before .before .if1 .left)) (popped-same (c .before .before .before .before .before .before .before .before .before .before .before .before .before .popped .ensures .0) (c .before .before .before .before .before .before .before .before .before .before .before .before .uncovered .ensures .1)) (c .if3 .left) (rw (c .before .before .before .before .before .before .before .before .before .before .before .word-of .ensures) at (c .before .before .before .before .before .before .before .merge .ensures .1)),
+        λ t. fork-fails _ _ t (start .args .held) (omega (arith, c .before .before .before .before .before .before .before .before .before .before .before .before .before .before .before .before .before .if1 .left)) (c .before .before .before .before .before .before .before .before .before .before .before .before .before .before .popped .ensures) (c .if3 .left) (rw (c .before .before .before .before .before .before .before .before .before .before .before .word-of .ensures) at (c .before .before .before .before .before .before .before .merge .ensures .1)),
       ),
     )
 
@@ -108,7 +104,7 @@ fork-spec =
     stays-requires
     returns-2
     popped-requires
-    uncovered-requires
+    uncover-requires
     word-of-requires
     cast-target
     add-target

@@ -5,14 +5,14 @@ use Rattle.verifier.proofs.Merging.{brought-some}
 use Rattle.verifier.proofs.joined_at.Statement.{statement}
 use Rattle.verifier.proofs.joined_at.Tie as tie
 
-shared-slice-read-height : tie.Need-shared-slice-read-height
-shared-slice-read-height c = search needs
+shared-slice-read-t6 : tie.Need-shared-slice-read-t6
+shared-slice-read-t6 c = search needs
 
-sub-height : tie.Need-sub-height
-sub-height c = search needs
+sub-t7 : tie.Need-sub-t7
+sub-t7 c = search needs
 
-cast-height : tie.Need-cast-height
-cast-height c = omega (arith, c .before .pre .1 .canonical (c .before .args .place) .low)
+cast-t8 : tie.Need-cast-t8
+cast-t8 c = omega (arith, c .before .pre .1 .canonical (c .before .args .place) .low)
 
 mul-t9 : tie.Need-mul-t9
 mul-t9 c = search needs
@@ -33,9 +33,9 @@ pub joined-at-spec : {M : Type 1} → statement M
 joined-at-spec =
     tie.close
     (tie.spec
-    shared-slice-read-height
-    sub-height
-    cast-height
+    shared-slice-read-t6
+    sub-t7
+    cast-t8
     mul-t9
     shared-slice-read-t11
     mul-t12

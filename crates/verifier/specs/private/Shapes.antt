@@ -1,5 +1,5 @@
--- How the code has what the definitions speak of: kinds in an array of 128 numbers, 0 for an integer, of which those from two below a floor on count, beside it all of
--- them as bits, and bits alone for a place that jumps go to. For the contracts of private functions, as Pass is; a reader believes Typing, Accepts, Stack and Safety.
+-- How the code has what the definitions speak of: kinds in an array of 128 numbers, 0 for an integer, of which the last two count, beside it all of them as bits, and
+-- bits alone for a place that jumps go to. For the contracts of private functions, as Pass is; a reader believes Typing, Accepts, Stack and Safety.
 use mathlib.Core.Path.{_≡_}
 use mathlib.Core.Bool.{Bool, cond}
 use mathlib.Core.List.{List, [], _∷_}
@@ -69,29 +69,26 @@ abbrev pub kindsOf : Held → Shape
 kindsOf w = bitKinds (w .height) (word w)
 
 abbrev pub none : Held
-none = record { height = 0; low = 0; high = 0; floor = 0 }
+none = record { height = 0; low = 0; high = 0 }
 
 -- no more than 128, and no other bit is set, so that equal kinds are equal words
 pub record Canonical (w : Held) : Type 0 where
   pub low : w .height ≤ 128
   pub few : word w < 2 ^ w .height
 
--- the array has its 128 numbers, and from two below the floor on they are the kinds of the bits: those of the last two at least
-pub record ArrayHolds (a : List ℕ) (w : Held) : Type 0 where
+-- the array has its 128 numbers, and the kinds of the last m values are those of the bits
+pub record HoldsLast (m : ℕ) (a : List ℕ) (w : Held) : Type 0 where
   pub whole : length a ≡ 128
   pub canonical : Canonical w
-  pub ready : w .floor ≤ w .height
-  pub is : (i : ℕ) → i < w .height → i + w .floor ≤ w .height + 1 → numberKind (getD a (w .height - suc i) 0) ≡ kindBelow (kindsOf w) i
+  pub is : (i : ℕ) → i < m → i < w .height → numberKind (getD a (w .height - suc i) 0) ≡ kindBelow (kindsOf w) i
 
--- however much of them the array has
-pub record SameKinds (w r : Held) : Type 0 where
-  pub height : r .height ≡ w .height
-  pub bits : word r ≡ word w
+-- of as many as an instruction takes
+abbrev pub ArrayHolds : List ℕ → Held → Type 0
+ArrayHolds = HoldsLast 2
 
 pub record Pushed (n : ℕ) (w r : Held) : Type 0 where
   pub height : r .height ≡ w .height + 1
   pub bits : word r ≡ n + 2 * word w
-  pub floor : r .floor ≡ w .floor
 
 pub record Popped (w r : Held) : Type 0 where
   pub height : r .height ≡ w .height - 1
@@ -100,7 +97,6 @@ pub record Popped (w r : Held) : Type 0 where
 pub record Replaced (n : ℕ) (w r : Held) : Type 0 where
   pub height : r .height ≡ w .height
   pub bits : word r ≡ n + 2 * (word w / 2)
-  pub floor : r .floor ≡ w .floor
 
 -- the kinds below the last
 abbrev pub below : Held → Shape
@@ -129,7 +125,7 @@ stateEntry zero w = unreached
 stateEntry (suc h) w = holds (kindsOf w)
 
 abbrev pub heldAt : List ℕ → List ℕ → List ℕ → ℕ → Held
-heldAt tops lows highs q = record { height = getD tops q 0 - 1; low = getD lows q 0; high = getD highs q 0; floor = getD tops q 0 - 1 }
+heldAt tops lows highs q = record { height = getD tops q 0 - 1; low = getD lows q 0; high = getD highs q 0 }
 
 abbrev pub tableOf : List ℕ → List ℕ → List ℕ → ℕ → State
 tableOf tops lows highs q = stateEntry (getD tops q 0) (heldAt tops lows highs q)

@@ -53,6 +53,8 @@ use Rattle.compiler.proofs.reader.primary.Kinds as primary-kinds
 use Rattle.compiler.proofs.reader.+arguments+bracket+branches+call+enclosed+expression+operand+pair+primary.Lts-primary as primary-lts
 use Rattle.draft.proofs.ahead.expected.Reads as expected-reads
 use Rattle.draft.proofs.ahead.group_in.Reads as group-in-reads
+use Rattle.draft.proofs.ahead.is_alone.Reads as is-alone-reads
+use Rattle.compiler.proofs.reader.alone.Reads as alone-reads
 use Rattle.draft.proofs.ahead.is_leaf.Reads as is-leaf-reads
 use Rattle.draft.proofs.ahead.signs_end.Reads as signs-end-reads
 use Rattle.draft.proofs.applied.Reads as applied-reads
@@ -187,7 +189,7 @@ abbrev enclosed-calls : ℕ → enclosed-lts.Claims
 enclosed-calls t = (expression-below t, expression.Post, is-done-reads.Asked, is-done-reads.Learnt, next-of-reads.Asked, next-of-reads.Learnt, expected-reads.Asked, expected-reads.Learnt, past-reads.Asked, past-reads.Learnt, bad-reads.Asked, bad-reads.Learnt)
 
 abbrev expression-calls : ℕ → expression-lts.Claims
-expression-calls t = (operand-below t, operand.Post, is-done-reads.Asked, is-done-reads.Learnt, next-of-reads.Asked, next-of-reads.Learnt, word-at-reads.Asked, word-at-reads.Learnt, group-in-reads.Asked, group-in-reads.Learnt, end-of-reads.Asked, end-of-reads.Learnt, operand-of-reads.Asked, operand-of-reads.Learnt, reserve-reads.Asked, reserve-reads.Learnt, expression-below t, expression.Post, joined-reads.Asked, joined-reads.Learnt)
+expression-calls t = (operand-below t, operand.Post, is-done-reads.Asked, is-done-reads.Learnt, next-of-reads.Asked, next-of-reads.Learnt, word-at-reads.Asked, word-at-reads.Learnt, group-in-reads.Asked, group-in-reads.Learnt, end-of-reads.Asked, end-of-reads.Learnt, operand-of-reads.Asked, operand-of-reads.Learnt, reserve-reads.Asked, reserve-reads.Learnt, is-alone-reads.Asked, is-alone-reads.Learnt, alone-reads.Asked, alone-reads.Learnt, joined-reads.Asked, joined-reads.Learnt, expression-below t, expression.Post)
 
 abbrev operand-calls : ℕ → operand-lts.Claims
 operand-calls t = (word-at-reads.Asked, word-at-reads.Learnt, is-leaf-reads.Asked, is-leaf-reads.Learnt, leaf-reads.Asked, leaf-reads.Learnt, signs-end-reads.Asked, signs-end-reads.Learnt, primary-below t, primary.Post, is-done-reads.Asked, is-done-reads.Learnt, signed-reads.Asked, signed-reads.Learnt)
@@ -624,41 +626,42 @@ expression-add-place t c =
     let n = c .before .before .before .before .before .before .before .next-of .ensures .0 in
     omega (arith, h .span .slack, h .span .within, s .pre .1 .room, c .before .before .end-of .ensures .0, reserved-few (c .before .operand-of .result), c .reserve .ensures)
 
-expression-add-expression : (t : ℕ) → expression-lts.Need-add-expression (expression-calls t) (expression-at t) expression.Post expression-Inv-loop expression-μ-loop
-expression-add-expression t c =
-    let s = c .before .before .before .before .before .before .before .before .before .before .before .before .before .before .before .before .before .before in
-    let l = c .before .before .before .before .before .before .before .before .before .loop in
-    let h = l .inv .2 _ (c .before .before .before .before .before .before .before .before .before .before .before .before .before .before .operand .ensures) in
-    let x = loop-operator (s .args .room) (s .args .level) (l .left) h (s .pre .1 .tokens) (c .before .before .before .before .before .before .before .before .next-of .ensures .0) (c .before .before .before .before .before .before .before .word-at .ensures) (c .before .before .before .before .before .before .group-in .ensures) (c .before .before .before .before .before .if2 .left) in
-    let n = c .before .before .before .before .before .before .before .before .next-of .ensures .0 in
+expression-add-is-alone : (t : ℕ) → expression-lts.Need-add-is-alone (expression-calls t) (expression-at t) expression.Post expression-Inv-loop expression-μ-loop
+expression-add-is-alone t c =
+    let s = c .before .before .before .before .before .before .before .before .before .before .before .before .before .before .before .before .before in
+    let l = c .before .before .before .before .before .before .before .before .loop in
+    let h = l .inv .2 _ (c .before .before .before .before .before .before .before .before .before .before .before .before .before .operand .ensures) in
+    let x = loop-operator (s .args .room) (s .args .level) (l .left) h (s .pre .1 .tokens) (c .before .before .before .before .before .before .before .next-of .ensures .0) (c .before .before .before .before .before .before .word-at .ensures) (c .before .before .before .before .before .group-in .ensures) (c .before .before .before .before .if2 .left) in
+    let n = c .before .before .before .before .before .before .before .next-of .ensures .0 in
     omega (arith, x .splits .within, s .pre .1 .small)
 
-expression-sub-expression : (t : ℕ) → expression-lts.Need-sub-expression (expression-calls t) (expression-at t) expression.Post expression-Inv-loop expression-μ-loop
-expression-sub-expression t c = omega (arith, c .before .before .before .before .before .if2 .left)
+expression-is-alone-requires : (t : ℕ) → expression-lts.Need-is-alone-requires (expression-calls t) (expression-at t) expression.Post expression-Inv-loop expression-μ-loop
+expression-is-alone-requires t c κs =
+    let s = c .before .before .before .before .before .before .before .before .before .before .before .before .before .before .before .before .before in
+    let l = c .before .before .before .before .before .before .before .before .loop in
+    let h = l .inv .2 _ (c .before .before .before .before .before .before .before .before .before .before .before .before .before .operand .ensures) in
+    let x = loop-operator (s .args .room) (s .args .level) (l .left) h (s .pre .1 .tokens) (c .before .before .before .before .before .before .before .next-of .ensures .0) (c .before .before .before .before .before .before .word-at .ensures) (c .before .before .before .before .before .group-in .ensures) (c .before .before .before .before .if2 .left) in
+    let n = c .before .before .before .before .before .before .before .next-of .ensures .0 in
+    omega (arith, x .splits .within, s .pre .1 .small)
 
-expression-expression-requires : (t : ℕ) → expression-lts.Need-expression-requires (expression-calls t) (expression-at t) expression.Post expression-Inv-loop expression-μ-loop
-expression-expression-requires t c κs =
-    let s = c .before .before .before .before .before .before .before .before .before .before .before .before .before .before .before .before .before .before in
-    let l = c .before .before .before .before .before .before .before .before .before .loop in
-    let h = l .inv .2 _ (c .before .before .before .before .before .before .before .before .before .before .before .before .before .before .operand .ensures) in
-    let x = loop-operator (s .args .room) (s .args .level) (l .left) h (s .pre .1 .tokens) (c .before .before .before .before .before .before .before .before .next-of .ensures .0) (c .before .before .before .before .before .before .before .word-at .ensures) (c .before .before .before .before .before .before .group-in .ensures) (c .before .before .before .before .before .if2 .left) in
-    let n = c .before .before .before .before .before .before .before .before .next-of .ensures .0 in
-    let q = reserved-few (c .before .before .operand-of .result) in
-    (omega (arith, s .pre .0, h .span .ahead, x .splits .within), record { tokens = s .pre .1 .tokens; small = s .pre .1 .small; within = omega (arith, x .splits .within); room = omega (arith, h .span .slack, s .pre .1 .room, c .before .before .before .end-of .ensures .0, c .before .reserve .ensures) })
+expression-add-alone : (t : ℕ) → expression-lts.Need-add-alone (expression-calls t) (expression-at t) expression.Post expression-Inv-loop expression-μ-loop
+expression-add-alone t c =
+    let s = c .before .before .before .before .before .before .before .before .before .before .before .before .before .before .before .before .before .before .before .before in
+    let l = c .before .before .before .before .before .before .before .before .before .before .before .loop in
+    let h = l .inv .2 _ (c .before .before .before .before .before .before .before .before .before .before .before .before .before .before .before .before .operand .ensures) in
+    let x = loop-operator (s .args .room) (s .args .level) (l .left) h (s .pre .1 .tokens) (c .before .before .before .before .before .before .before .before .before .before .next-of .ensures .0) (c .before .before .before .before .before .before .before .before .before .word-at .ensures) (c .before .before .before .before .before .before .before .before .group-in .ensures) (c .before .before .before .before .before .before .before .if2 .left) in
+    let n = c .before .before .before .before .before .before .before .before .before .before .next-of .ensures .0 in
+    omega (arith, x .splits .within, s .pre .1 .small)
 
-expression-is-done-requires-2 : (t : ℕ) → expression-lts.Need-is-done-requires-2 (expression-calls t) (expression-at t) expression.Post expression-Inv-loop expression-μ-loop
-expression-is-done-requires-2 t c κs = search needs
-
-expression-same-length-4 : (t : ℕ) → expression-lts.Need-same-length-4 (expression-calls t) (expression-at t) expression.Post expression-Inv-loop expression-μ-loop
-expression-same-length-4 t c = c .before .before .before .before .expression .kept .1 .0 ∙ c .before .before .before .before .before .before .before .before .before .before .before .before .before .before .loop .inv .0 ∙ c .before .before .before .before .before .before .before .before .before .before .before .before .before .before .before .before .before .before .before .operand .kept .1 .0
-
-expression-returns-4 : (t : ℕ) → expression-lts.Need-returns-4 (expression-calls t) (expression-at t) expression.Post expression-Inv-loop expression-μ-loop
-expression-returns-4 t c =
-    let s = c .before .before .before .before .before .before .before .before .before .before .before .before .before .before .before .before .before .before .before .before .before .before .before in
-    let l = c .before .before .before .before .before .before .before .before .before .before .before .before .before .before .loop in
-    let h = l .inv .2 _ (c .before .before .before .before .before .before .before .before .before .before .before .before .before .before .before .before .before .before .before .operand .ensures) in
-    let p = ap₂ _+_ (c .before .before .before .before .before .before .before .before .end-of .ensures .0) (c .before .before .before .before .before .before .reserve .ensures ∙ ap reserved (c .before .before .before .before .before .before .before .operand-of .ensures)) in
-    loop-stopped (s .args .room) (s .args .level) (l .left) h (s .pre .1 .tokens) (c .before .before .before .before .before .before .before .before .before .before .before .before .before .next-of .ensures .0) (c .before .before .before .before .before .before .before .before .before .before .before .before .word-at .ensures) (c .before .before .before .before .before .before .before .before .before .before .before .group-in .ensures) (c .before .before .before .before .before .before .before .before .before .before .if2 .left) (c .before .before .before .before .before .before .before .before .before .if3 .left) p (c .before .before .before .before .expression .ensures) (stopped _ (unmet (c .before .is-done2 .ensures) (c .if4 .taken)))
+expression-alone-requires : (t : ℕ) → expression-lts.Need-alone-requires (expression-calls t) (expression-at t) expression.Post expression-Inv-loop expression-μ-loop
+expression-alone-requires t c κs =
+    let s = c .before .before .before .before .before .before .before .before .before .before .before .before .before .before .before .before .before .before .before .before in
+    let l = c .before .before .before .before .before .before .before .before .before .before .before .loop in
+    let h = l .inv .2 _ (c .before .before .before .before .before .before .before .before .before .before .before .before .before .before .before .before .operand .ensures) in
+    let x = loop-operator (s .args .room) (s .args .level) (l .left) h (s .pre .1 .tokens) (c .before .before .before .before .before .before .before .before .before .before .next-of .ensures .0) (c .before .before .before .before .before .before .before .before .before .word-at .ensures) (c .before .before .before .before .before .before .before .before .group-in .ensures) (c .before .before .before .before .before .before .before .if2 .left) in
+    let n = c .before .before .before .before .before .before .before .before .before .before .next-of .ensures .0 in
+    let q = reserved-few (c .before .before .before .before .operand-of .result) in
+    (record { tokens = s .pre .1 .tokens; small = s .pre .1 .small; within = omega (arith, x .splits .within); room = omega (arith, h .span .slack, s .pre .1 .room, c .before .before .before .before .before .end-of .ensures .0, c .before .before .before .reserve .ensures) }, sym (c .before .before .is-alone .ensures) ∙ c .before .if4 .taken, omega (arith, c .before .before .before .before .before .before .before .if2 .left))
 
 expression-joined-requires : (t : ℕ) → expression-lts.Need-joined-requires (expression-calls t) (expression-at t) expression.Post expression-Inv-loop expression-μ-loop
 expression-joined-requires t c κs =
@@ -668,7 +671,7 @@ expression-joined-requires t c κs =
     let x = loop-operator (s .args .room) (s .args .level) (l .left) h (s .pre .1 .tokens) (c .before .before .before .before .before .before .before .before .before .before .before .before .before .before .next-of .ensures .0) (c .before .before .before .before .before .before .before .before .before .before .before .before .before .word-at .ensures) (c .before .before .before .before .before .before .before .before .before .before .before .before .group-in .ensures) (c .before .before .before .before .before .before .before .before .before .before .before .if2 .left) in
     let n = c .before .before .before .before .before .before .before .before .before .before .before .before .before .before .next-of .ensures .0 in
     let p = ap₂ _+_ (c .before .before .before .before .before .before .before .before .before .end-of .ensures .0) (c .before .before .before .before .before .before .before .reserve .ensures ∙ ap reserved (c .before .before .before .before .before .before .before .before .operand-of .ensures)) in
-    let b = reached (c .before .before .before .before .before .expression .result) (met (c .before .before .is-done2 .ensures) (c .before .if4 .left)) (c .before .before .before .before .before .expression .ensures .span) in
+    let b = reached (c .before .before .before .alone .result) ((c .before .before .before .alone .ensures .1)) (c .before .before .before .alone .ensures .0 (s .args .room) .span) in
     (x .few, omega (arith, b .rises), omega (arith, b .slack, b .within, h .span .slack, s .pre .1 .room, reserved-few (c .before .before .before .before .before .before .before .before .operand-of .result), c .before .before .before .before .before .before .before .before .before .end-of .ensures .0, c .before .before .before .before .before .before .before .reserve .ensures))
 
 expression-loop-less : (t : ℕ) → expression-lts.Need-loop-less (expression-calls t) (expression-at t) expression.Post expression-Inv-loop expression-μ-loop
@@ -678,7 +681,7 @@ expression-loop-less t c =
     let h = l .inv .2 _ (c .before .before .before .before .before .before .before .before .before .before .before .before .before .before .before .before .before .before .before .before .before .before .before .operand .ensures) in
     let x = loop-operator (s .args .room) (s .args .level) (l .left) h (s .pre .1 .tokens) (c .before .before .before .before .before .before .before .before .before .before .before .before .before .before .before .before .before .next-of .ensures .0) (c .before .before .before .before .before .before .before .before .before .before .before .before .before .before .before .before .word-at .ensures) (c .before .before .before .before .before .before .before .before .before .before .before .before .before .before .before .group-in .ensures) (c .before .before .before .before .before .before .before .before .before .before .before .before .before .before .if2 .left) in
     let n = c .before .before .before .before .before .before .before .before .before .before .before .before .before .before .before .before .before .next-of .ensures .0 in
-    let b = reached (c .before .before .before .before .before .before .before .before .expression .result) (met (c .before .before .before .before .before .is-done2 .ensures) (c .before .before .before .before .if4 .left)) (c .before .before .before .before .before .before .before .before .expression .ensures .span) in
+    let b = reached (c .before .before .before .before .before .before .alone .result) ((c .before .before .before .before .before .before .alone .ensures .1)) (c .before .before .before .before .before .before .alone .ensures .0 (s .args .room) .span) in
     let e = done-next (c .before .before .joined .result) (c .before .before .joined .ensures .0) .0 in
     omega (arith, b .ahead, b .within, x .splits .within)
 
@@ -687,10 +690,79 @@ expression-loop-again t c =
     let s = c .before .before .before .before .before .before .before .before .before .before .before .before .before .before .before .before .before .before .before .before .before .before .before .before .before .before .before in
     let l = c .before .before .before .before .before .before .before .before .before .before .before .before .before .before .before .before .before .before .loop in
     let p = ap₂ _+_ (c .before .before .before .before .before .before .before .before .before .before .before .before .end-of .ensures .0) (c .before .before .before .before .before .before .before .before .before .before .reserve .ensures ∙ ap reserved (c .before .before .before .before .before .before .before .before .before .before .before .operand-of .ensures)) in
-    let d = met (c .before .before .before .before .before .is-done2 .ensures) (c .before .before .before .before .if4 .left) in (
-      c .before .before .joined .kept .0 ∙ c .before .before .before .before .before .before .before .before .expression .kept .1 .0 ∙ l .inv .0,
+    let d = (c .before .before .before .before .before .before .alone .ensures .1) in (
+      c .before .before .joined .kept .0 ∙ c .before .before .before .before .before .before .alone .kept .1 .0 ∙ l .inv .0,
       ap isDone (c .before .before .joined .ensures .0),
-      λ o y. loop-joined (s .args .room) (s .args .level) (l .left) (l .inv .2 o y) (s .pre .1 .tokens) (c .before .before .before .before .before .before .before .before .before .before .before .before .before .before .before .before .before .next-of .ensures .0) (c .before .before .before .before .before .before .before .before .before .before .before .before .before .before .before .before .word-at .ensures) (c .before .before .before .before .before .before .before .before .before .before .before .before .before .before .before .group-in .ensures) (c .before .before .before .before .before .before .before .before .before .before .before .before .before .before .if2 .left) (c .before .before .before .before .before .before .before .before .before .before .before .before .before .if3 .left) p (c .before .before .before .before .before .before .before .before .expression .result) (c .before .before .joined .result) (c .before .before .before .before .before .before .before .before .expression .ensures) d (c .before .before .joined .ensures .0) (c .before .before .joined .ensures .1),
+      λ o y. loop-joined (s .args .room) (s .args .level) (l .left) (l .inv .2 o y) (s .pre .1 .tokens) (c .before .before .before .before .before .before .before .before .before .before .before .before .before .before .before .before .before .next-of .ensures .0) (c .before .before .before .before .before .before .before .before .before .before .before .before .before .before .before .before .word-at .ensures) (c .before .before .before .before .before .before .before .before .before .before .before .before .before .before .before .group-in .ensures) (c .before .before .before .before .before .before .before .before .before .before .before .before .before .before .if2 .left) (c .before .before .before .before .before .before .before .before .before .before .before .before .before .if3 .left) p (c .before .before .before .before .before .before .alone .result) (c .before .before .joined .result) (c .before .before .before .before .before .before .alone .ensures .0 (s .args .room)) d (c .before .before .joined .ensures .0) (c .before .before .joined .ensures .1),
+    )
+
+expression-add-expression : (t : ℕ) → expression-lts.Need-add-expression (expression-calls t) (expression-at t) expression.Post expression-Inv-loop expression-μ-loop
+expression-add-expression t c =
+    let s = c .before .before .before .before .before .before .before .before .before .before .before .before .before .before .before .before .before .before .before .before in
+    let l = c .before .before .before .before .before .before .before .before .before .before .before .loop in
+    let h = l .inv .2 _ (c .before .before .before .before .before .before .before .before .before .before .before .before .before .before .before .before .operand .ensures) in
+    let x = loop-operator (s .args .room) (s .args .level) (l .left) h (s .pre .1 .tokens) (c .before .before .before .before .before .before .before .before .before .before .next-of .ensures .0) (c .before .before .before .before .before .before .before .before .before .word-at .ensures) (c .before .before .before .before .before .before .before .before .group-in .ensures) (c .before .before .before .before .before .before .before .if2 .left) in
+    let n = c .before .before .before .before .before .before .before .before .before .before .next-of .ensures .0 in
+    omega (arith, x .splits .within, s .pre .1 .small)
+
+expression-sub-expression : (t : ℕ) → expression-lts.Need-sub-expression (expression-calls t) (expression-at t) expression.Post expression-Inv-loop expression-μ-loop
+expression-sub-expression t c = omega (arith, c .before .before .before .before .before .before .before .if2 .left)
+
+expression-expression-requires : (t : ℕ) → expression-lts.Need-expression-requires (expression-calls t) (expression-at t) expression.Post expression-Inv-loop expression-μ-loop
+expression-expression-requires t c κs =
+    let s = c .before .before .before .before .before .before .before .before .before .before .before .before .before .before .before .before .before .before .before .before in
+    let l = c .before .before .before .before .before .before .before .before .before .before .before .loop in
+    let h = l .inv .2 _ (c .before .before .before .before .before .before .before .before .before .before .before .before .before .before .before .before .operand .ensures) in
+    let x = loop-operator (s .args .room) (s .args .level) (l .left) h (s .pre .1 .tokens) (c .before .before .before .before .before .before .before .before .before .before .next-of .ensures .0) (c .before .before .before .before .before .before .before .before .before .word-at .ensures) (c .before .before .before .before .before .before .before .before .group-in .ensures) (c .before .before .before .before .before .before .before .if2 .left) in
+    let n = c .before .before .before .before .before .before .before .before .before .before .next-of .ensures .0 in
+    let q = reserved-few (c .before .before .before .before .operand-of .result) in
+    (omega (arith, s .pre .0, h .span .ahead, x .splits .within), record { tokens = s .pre .1 .tokens; small = s .pre .1 .small; within = omega (arith, x .splits .within); room = omega (arith, h .span .slack, s .pre .1 .room, c .before .before .before .before .before .end-of .ensures .0, c .before .before .before .reserve .ensures) })
+
+expression-is-done-requires-2 : (t : ℕ) → expression-lts.Need-is-done-requires-2 (expression-calls t) (expression-at t) expression.Post expression-Inv-loop expression-μ-loop
+expression-is-done-requires-2 t c κs = search needs
+
+expression-same-length-4 : (t : ℕ) → expression-lts.Need-same-length-4 (expression-calls t) (expression-at t) expression.Post expression-Inv-loop expression-μ-loop
+expression-same-length-4 t c = c .before .before .before .before .expression .kept .1 .0 ∙ c .before .before .before .before .before .before .before .before .before .before .before .before .before .before .before .before .loop .inv .0 ∙ c .before .before .before .before .before .before .before .before .before .before .before .before .before .before .before .before .before .before .before .before .before .operand .kept .1 .0
+
+expression-returns-4 : (t : ℕ) → expression-lts.Need-returns-4 (expression-calls t) (expression-at t) expression.Post expression-Inv-loop expression-μ-loop
+expression-returns-4 t c =
+    let s = c .before .before .before .before .before .before .before .before .before .before .before .before .before .before .before .before .before .before .before .before .before .before .before .before .before in
+    let l = c .before .before .before .before .before .before .before .before .before .before .before .before .before .before .before .before .loop in
+    let h = l .inv .2 _ (c .before .before .before .before .before .before .before .before .before .before .before .before .before .before .before .before .before .before .before .before .before .operand .ensures) in
+    let p = ap₂ _+_ (c .before .before .before .before .before .before .before .before .before .before .end-of .ensures .0) (c .before .before .before .before .before .before .before .before .reserve .ensures ∙ ap reserved (c .before .before .before .before .before .before .before .before .before .operand-of .ensures)) in
+    loop-stopped (s .args .room) (s .args .level) (l .left) h (s .pre .1 .tokens) (c .before .before .before .before .before .before .before .before .before .before .before .before .before .before .before .next-of .ensures .0) (c .before .before .before .before .before .before .before .before .before .before .before .before .before .before .word-at .ensures) (c .before .before .before .before .before .before .before .before .before .before .before .before .before .group-in .ensures) (c .before .before .before .before .before .before .before .before .before .before .before .before .if2 .left) (c .before .before .before .before .before .before .before .before .before .before .before .if3 .left) p (c .before .before .before .before .expression .ensures) (stopped _ (unmet (c .before .is-done2 .ensures) (c .if5 .taken)))
+
+expression-joined-requires-2 : (t : ℕ) → expression-lts.Need-joined-requires-2 (expression-calls t) (expression-at t) expression.Post expression-Inv-loop expression-μ-loop
+expression-joined-requires-2 t c κs =
+    let s = c .before .before .before .before .before .before .before .before .before .before .before .before .before .before .before .before .before .before .before .before .before .before .before .before .before .before in
+    let l = c .before .before .before .before .before .before .before .before .before .before .before .before .before .before .before .before .before .loop in
+    let h = l .inv .2 _ (c .before .before .before .before .before .before .before .before .before .before .before .before .before .before .before .before .before .before .before .before .before .before .operand .ensures) in
+    let x = loop-operator (s .args .room) (s .args .level) (l .left) h (s .pre .1 .tokens) (c .before .before .before .before .before .before .before .before .before .before .before .before .before .before .before .before .next-of .ensures .0) (c .before .before .before .before .before .before .before .before .before .before .before .before .before .before .before .word-at .ensures) (c .before .before .before .before .before .before .before .before .before .before .before .before .before .before .group-in .ensures) (c .before .before .before .before .before .before .before .before .before .before .before .before .before .if2 .left) in
+    let n = c .before .before .before .before .before .before .before .before .before .before .before .before .before .before .before .before .next-of .ensures .0 in
+    let p = ap₂ _+_ (c .before .before .before .before .before .before .before .before .before .before .before .end-of .ensures .0) (c .before .before .before .before .before .before .before .before .before .reserve .ensures ∙ ap reserved (c .before .before .before .before .before .before .before .before .before .before .operand-of .ensures)) in
+    let b = reached (c .before .before .before .before .before .expression .result) (met (c .before .before .is-done2 .ensures) (c .before .if5 .left)) (c .before .before .before .before .before .expression .ensures .span) in
+    (x .few, omega (arith, b .rises), omega (arith, b .slack, b .within, h .span .slack, s .pre .1 .room, reserved-few (c .before .before .before .before .before .before .before .before .before .before .operand-of .result), c .before .before .before .before .before .before .before .before .before .before .before .end-of .ensures .0, c .before .before .before .before .before .before .before .before .before .reserve .ensures))
+
+expression-loop-less-2 : (t : ℕ) → expression-lts.Need-loop-less-2 (expression-calls t) (expression-at t) expression.Post expression-Inv-loop expression-μ-loop
+expression-loop-less-2 t c =
+    let s = c .before .before .before .before .before .before .before .before .before .before .before .before .before .before .before .before .before .before .before .before .before .before .before .before .before .before .before .before .before in
+    let l = c .before .before .before .before .before .before .before .before .before .before .before .before .before .before .before .before .before .before .before .before .loop in
+    let h = l .inv .2 _ (c .before .before .before .before .before .before .before .before .before .before .before .before .before .before .before .before .before .before .before .before .before .before .before .before .before .operand .ensures) in
+    let x = loop-operator (s .args .room) (s .args .level) (l .left) h (s .pre .1 .tokens) (c .before .before .before .before .before .before .before .before .before .before .before .before .before .before .before .before .before .before .before .next-of .ensures .0) (c .before .before .before .before .before .before .before .before .before .before .before .before .before .before .before .before .before .before .word-at .ensures) (c .before .before .before .before .before .before .before .before .before .before .before .before .before .before .before .before .before .group-in .ensures) (c .before .before .before .before .before .before .before .before .before .before .before .before .before .before .before .before .if2 .left) in
+    let n = c .before .before .before .before .before .before .before .before .before .before .before .before .before .before .before .before .before .before .before .next-of .ensures .0 in
+    let b = reached (c .before .before .before .before .before .before .before .before .expression .result) (met (c .before .before .before .before .before .is-done2 .ensures) (c .before .before .before .before .if5 .left)) (c .before .before .before .before .before .before .before .before .expression .ensures .span) in
+    let e = done-next (c .before .before .joined2 .result) (c .before .before .joined2 .ensures .0) .0 in
+    omega (arith, b .ahead, b .within, x .splits .within)
+
+expression-loop-again-2 : (t : ℕ) → expression-lts.Need-loop-again-2 (expression-calls t) (expression-at t) expression.Post expression-Inv-loop expression-μ-loop
+expression-loop-again-2 t c =
+    let s = c .before .before .before .before .before .before .before .before .before .before .before .before .before .before .before .before .before .before .before .before .before .before .before .before .before .before .before .before .before in
+    let l = c .before .before .before .before .before .before .before .before .before .before .before .before .before .before .before .before .before .before .before .before .loop in
+    let p = ap₂ _+_ (c .before .before .before .before .before .before .before .before .before .before .before .before .before .before .end-of .ensures .0) (c .before .before .before .before .before .before .before .before .before .before .before .before .reserve .ensures ∙ ap reserved (c .before .before .before .before .before .before .before .before .before .before .before .before .before .operand-of .ensures)) in
+    let d = met (c .before .before .before .before .before .is-done2 .ensures) (c .before .before .before .before .if5 .left) in (
+      c .before .before .joined2 .kept .0 ∙ c .before .before .before .before .before .before .before .before .expression .kept .1 .0 ∙ l .inv .0,
+      ap isDone (c .before .before .joined2 .ensures .0),
+      λ o y. loop-joined (s .args .room) (s .args .level) (l .left) (l .inv .2 o y) (s .pre .1 .tokens) (c .before .before .before .before .before .before .before .before .before .before .before .before .before .before .before .before .before .before .before .next-of .ensures .0) (c .before .before .before .before .before .before .before .before .before .before .before .before .before .before .before .before .before .before .word-at .ensures) (c .before .before .before .before .before .before .before .before .before .before .before .before .before .before .before .before .before .group-in .ensures) (c .before .before .before .before .before .before .before .before .before .before .before .before .before .before .before .before .if2 .left) (c .before .before .before .before .before .before .before .before .before .before .before .before .before .before .before .if3 .left) p (c .before .before .before .before .before .before .before .before .expression .result) (c .before .before .joined2 .result) (c .before .before .before .before .before .before .before .before .expression .ensures) d (c .before .before .joined2 .ensures .0) (c .before .before .joined2 .ensures .1),
     )
 
 operand-word-at-requires : (t : ℕ) → operand-lts.Need-word-at-requires (operand-calls t) (operand-at t) operand.Post
@@ -1049,15 +1121,22 @@ pub +arguments+bracket+branches+call+enclosed+expression+operand+pair+primary-sp
     (expression-operand-of-requires t)
     (expression-reserve-requires t)
     (expression-add-place t)
+    (expression-add-is-alone t)
+    (expression-is-alone-requires t)
+    (expression-add-alone t)
+    (expression-alone-requires t)
+    (expression-joined-requires t)
+    (expression-loop-less t)
+    (expression-loop-again t)
     (expression-add-expression t)
     (expression-sub-expression t)
     (expression-expression-requires t)
     (expression-is-done-requires-2 t)
     (expression-same-length-4 t)
     (expression-returns-4 t)
-    (expression-joined-requires t)
-    (expression-loop-less t)
-    (expression-loop-again t))
+    (expression-joined-requires-2 t)
+    (expression-loop-less-2 t)
+    (expression-loop-again-2 t))
     (λ t. operand-lts.spec (operand-calls t)
     (operand-at t)
     operand.Post

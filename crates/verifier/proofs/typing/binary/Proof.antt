@@ -1,7 +1,6 @@
 -- `verifier::typing::binary` meets its contract: two values are replaced by one where their kinds are taken.
 use native.Mathlib.Omega.{arith}
 use borrow.Author.Needs.{needs}
-use Rattle.verifier.proofs.Bits.{popped-same, neat-popped}
 use Rattle.verifier.proofs.Held.{keeps-popped, short, taken-two, refused-two, binary-short}
 use Rattle.verifier.proofs.typing.binary.Statement.{statement}
 use Rattle.verifier.proofs.typing.binary.Tie as tie
@@ -27,14 +26,14 @@ returns-2 c = refused-two (c .before .before .before .before .before .pre) (omeg
 popped-requires : tie.Need-popped-requires
 popped-requires c κs = search needs
 
-uncovered-requires : tie.Need-uncovered-requires
-uncovered-requires c κs = (c .before .before .before .before .before .before .before .pre .whole, neat-popped (omega arith) (c .popped .ensures .0) (c .before .before .before .before .before .before .before .pre .canonical), λ f. keeps-popped (c .before .before .before .before .before .before .before .pre) (omega arith) (c .popped .ensures .0) (c .popped .ensures .1) f)
+uncover-requires : tie.Need-uncover-requires
+uncover-requires c κs = keeps-popped (c .before .before .before .before .before .before .before .pre) (omega arith) (c .before .popped .ensures)
 
 replace-requires : tie.Need-replace-requires
-replace-requires c κs = (c .before .uncovered .ensures .0, omega (arith, c .before .before .popped .ensures .0 .height, c .before .uncovered .ensures .1 .height))
+replace-requires c κs = (c .before .uncover .ensures, omega (arith, c .before .before .before .popped .ensures .height))
 
 returns-3 : tie.Need-returns-3
-returns-3 c = taken-two (c .before .before .before .before .before .before .before .before .before .before .pre) (omega arith) (popped-same (c .before .before .before .popped .ensures .0) (c .before .before .uncovered .ensures .1)) (c .before .before .before .before .before .before .binary-kind .ensures) (c .replace .ensures)
+returns-3 c = taken-two (c .before .before .before .before .before .before .before .before .before .before .pre) (omega arith) (c .before .before .before .before .popped .ensures) (c .before .before .before .before .before .before .binary-kind .ensures) (c .replace .ensures)
 
 pub binary-spec : {M : Type 1} → statement M
 binary-spec =
@@ -47,6 +46,6 @@ binary-spec =
     binary-kind-requires
     returns-2
     popped-requires
-    uncovered-requires
+    uncover-requires
     replace-requires
     returns-3)
