@@ -30,6 +30,11 @@ static void compile(void) {
     formula_compile(expr, expr_len, code, sizeof code, &report);
 }
 
+static void format(void) {
+    static uint8_t saved[FORMULA_TEXT_BYTES];
+    formula_format(expr, expr_len, saved, sizeof saved, &report);
+}
+
 static void check(void) {
     formula_check(code, sizeof code, count, &report);
 }
@@ -143,6 +148,7 @@ static struct measured measured[] = {
     {"formula_salvage", salvage, 0, ""},
     {"formula_replay", replay, 0, ""},
     {"formula_cells", cells, 0, ""},
+    {"formula_format", format, 0, ""},
 };
 
 #define OPERATIONS (sizeof measured / sizeof measured[0])

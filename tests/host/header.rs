@@ -52,6 +52,7 @@ pub struct ReplayState {
 #[link(name = "formula_c", kind = "static")]
 extern "C" {
     pub fn formula_compile(expr: *const u8, expr_len: usize, code: *mut u8, code_len: usize, report: *mut Report);
+    pub fn formula_format(expr: *const u8, expr_len: usize, out: *mut u8, out_len: usize, report: *mut Report);
     pub fn formula_check(code: *const u8, code_len: usize, instructions: usize, report: *mut Report);
     pub fn formula_run(
         code: *const u8, code_len: usize, instructions: usize, memory: *mut u8, memory_len: usize,

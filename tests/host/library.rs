@@ -53,6 +53,13 @@ pub fn compile(expr: &Lent, code: &mut Lent) -> Report {
     report
 }
 
+pub fn format(expr: &Lent, out: &mut Lent) -> Report {
+    let mut report = UNWRITTEN;
+    let (expr, (out, out_len)) = (expr.lend(), out.lend_to_write());
+    unsafe { formula_format(expr.0, expr.1, out, out_len, &mut report) };
+    report
+}
+
 pub fn check(code: &Lent, instructions: usize) -> Report {
     let mut report = UNWRITTEN;
     let code = code.lend();

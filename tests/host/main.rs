@@ -8,12 +8,14 @@
 //!   host images [NUMBER [SEED]]   conversions of images, and every bit
 //!   host lists [NUMBER [SEED]]    lists of formulas, and pairs of them in both orders
 //!   host replay [NUMBER [SEED]]   nights replayed in calls
+//!   host formats [NUMBER [SEED]]  formulas saved, read again and saved again
 //!   host examples DOCUMENT...     the examples of the documents
 
 mod cards;
 mod compare;
 mod conversions;
 mod examples;
+mod formats;
 mod header;
 mod library;
 mod lists;
@@ -57,6 +59,7 @@ fn main() {
         ["images", ref numbers @ ..] => random_images(numbers),
         ["lists", ref numbers @ ..] => random_lists(numbers),
         ["replay", ref numbers @ ..] => random_replay(numbers),
+        ["formats", ref numbers @ ..] => random_formats(numbers),
         _ => random_cases(&words),
     };
     if let Err(difference) = result {
@@ -102,6 +105,10 @@ fn random_lists(words: &[&str]) -> Result<(), String> {
 
 fn random_replay(words: &[&str]) -> Result<(), String> {
     replay::try_replay(argument(words, 0, DEFAULT_FILES)?, argument(words, 1, clock())?)
+}
+
+fn random_formats(words: &[&str]) -> Result<(), String> {
+    formats::try_formats(argument(words, 0, DEFAULT_FORMULAS)?, argument(words, 1, clock())?)
 }
 
 fn random_cases(words: &[&str]) -> Result<(), String> {

@@ -18,6 +18,7 @@ rustc --edition 2021 -O -L target/staticlib -o "$out/host" tests/host/main.rs
 "$out/host" images
 "$out/host" lists
 "$out/host" replay
+"$out/host" formats
 
 # $1: the program to write, $2: its file, the rest: what it is linked with
 build_c() {

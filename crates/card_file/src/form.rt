@@ -13,7 +13,8 @@ pub enum Field {
     Wrong,
 }
 
-// Whether the four lines stand at the front of a text, the card's number, where target, expression and check begin, and where the fourth line ends; of any other text all 0.
+// Whether the four lines stand at the front of a text, the card's number, where target, expression and check begin, and where the fourth line ends; of any
+// other text all 0.
 pub struct FourLines {
     pub good: bool,
     pub number: u32,

@@ -1,4 +1,5 @@
--- A byte that no space, numeral, word or symbol holds stands in no text that is all tokens: stated once over the byte, and used for `k` and the line end. Assumes nothing.
+-- A byte that no space, numeral, word or symbol holds stands in no text that is all tokens: stated once over the byte, and used for `k` and the line end.
+-- Assumes nothing.
 use mathlib.Core.Path.{_≡_, refl, sym, ap, subst, _∙_}
 use mathlib.Core.Bool.{Bool, true, false, _&&_, _||_, not, cond}
 use mathlib.Core.List.{List, [], _∷_, _++_}
@@ -23,7 +24,8 @@ use Rattle.tokens.specs.declared.Scanned.{Scanned}
 use Rattle.tokens.specs.declared.Scanned.the-variants.{Good, Bad}
 use Rattle.tokens.specs.Bytes.{isSpace, isHex, all}
 use Rattle.tokens.specs.Symbols.{equalBytes, symbols, symbolCount, symbolBytes}
-use Rattle.tokens.specs.Numerals.{nonEmpty, decimalDigits, hexOf, isHexRun, behindDigits, hasPart, behindPart, behindMantissa, isSign, withoutSign, isExponent, realOf, numeralOf, decimalOf}
+use Rattle.tokens.specs.Numerals.{nonEmpty, decimalDigits, hexOf, isHexRun, behindDigits, hasPart, behindPart, behindMantissa, isSign, withoutSign}
+use Rattle.tokens.specs.Numerals.{isExponent, realOf, numeralOf, decimalOf}
 use Rattle.tokens.specs.Words.{nameOf, functions, functionNamed, cellWord, letterWord, otherWord, wordToken}
 use Rattle.tokens.specs.Scan.{Tok, Scan, tokens, wrong, consToken, scan}
 use Rattle.tokens.specs.Theorems.{LongestLexeme, word, numeral, symbol, stray, Scans, end, token, stop}
@@ -136,7 +138,8 @@ module _ (b : ℕ) (u : Unused b) where
 
   -- ---- words
   pub letter-not : (c : ℕ) {k : Bank} → letterBank c ≡ L.Of k → c ≡ b → ⊥
-  letter-not c e q = let z : letterBank b ≡ L.Other = u .letter in let w : letterBank c ≡ letterBank b = ap letterBank q in let f : _≡_ {A = ℕ} 0 1 = cc in omega arith
+  letter-not c e q = let z : letterBank b ≡ L.Other = u .letter in let w : letterBank c ≡ letterBank b = ap letterBank q in let f : _≡_ {A = ℕ} 0 1 = cc in
+      omega arith
 
   cell-lacks : (c : ℕ) (cs : List ℕ) (l : Letter) → letterBank c ≡ l → {t : Token} → cellWord (cellAfterLetter cs l) ≡ Good t → Lacks b (c ∷ cs)
   cell-lacks c cs L.Other q e = bad-good e
@@ -144,7 +147,8 @@ module _ (b : ℕ) (u : Unused b) where
     where
       by : (x : Bool) → numberBelow (layoutOf k .elements) cs ≡ x → cellWord (cond x (Named.Cell k (decimalValue cs)) Named.Other) ≡ Good t → Lacks b (c ∷ cs)
       by true p w =
-          lacks-cons b c cs (letter-not c q) (digits-lack cs (both (noLeadingZero cs) (allDigits cs) (both (noLeadingZero cs && allDigits cs) (ltb (decimalValue cs) (layoutOf k .elements)) p .0) .1))
+          lacks-cons b c cs (letter-not c q) (digits-lack cs (both (noLeadingZero cs) (allDigits cs)
+          (both (noLeadingZero cs && allDigits cs) (ltb (decimalValue cs) (layoutOf k .elements)) p .0) .1))
       by false p w = bad-good w
 
   pub name-lacks : (s : List ℕ) {k : Bank} {i : ℕ} → namedRule s ≡ Named.Cell k i → Lacks b s
@@ -162,11 +166,13 @@ module _ (b : ℕ) (u : Unused b) where
       by L.Other q w = bad-good w
   other-lacks (c ∷ d ∷ s) e = cell-lacks c (d ∷ s) (letterBank c) refl e
 
-  named-lacks : (fs : List Function) → namesLack b fs ≡ true → (s : List ℕ) (o : Scanned) {t : Token} → (o ≡ Good t → Lacks b s) → functionNamed fs s o ≡ Good t → Lacks b s
+  named-lacks : (fs : List Function) → namesLack b fs ≡ true → (s : List ℕ) (o : Scanned) {t : Token} → (o ≡ Good t → Lacks b s)
+      → functionNamed fs s o ≡ Good t → Lacks b s
   named-lacks [] n s o h e = h e
   named-lacks (f ∷ fs) n s o {t} h e = by (equalBytes (nameOf f) s) refl e (λ w. named-lacks fs (both (lacks b (nameOf f)) (namesLack b fs) n .1) s o h w)
     where
-      by : (x : Bool) → equalBytes (nameOf f) s ≡ x → cond x (Good (Token.Name f)) (functionNamed fs s o) ≡ Good t → (functionNamed fs s o ≡ Good t → Lacks b s) → Lacks b s
+      by : (x : Bool) → equalBytes (nameOf f) s ≡ x → cond x (Good (Token.Name f)) (functionNamed fs s o) ≡ Good t
+          → (functionNamed fs s o ≡ Good t → Lacks b s) → Lacks b s
       by true q w ih = subst (Lacks b) (same-bytes (nameOf f) s q) (both (lacks b (nameOf f)) (namesLack b fs) n .0)
       by false q w ih = ih w
 

@@ -20,7 +20,9 @@ use Rattle.lines.specs.declared.forms.Form.the-variants as Natural
 use Rattle.lines.proofs.Laws.{form-laws}
 use Rattle.lines.proofs.printing.Digits.{length-digits}
 use Rattle.card_laws.specs.Lines.{ended, Lacks, Field, field, wrong, fieldOf}
-use Rattle.card_laws.specs.Cards.{Card, card, cardKey, targetKey, exprKey, checkKey, modulus, checkOf, checkedLines, checkText, cardLine, cardBefore, cardBytes, Form, formed, out, mostCards, cardNumber, isCheck, numbered, withCheck, withExpr, withTarget, withNumber, cardForm}
+use Rattle.card_laws.specs.Cards.{Card, card, cardKey, targetKey, exprKey, checkKey, modulus, checkOf, checkedLines, checkText, cardLine}
+use Rattle.card_laws.specs.Cards.{cardBefore, cardBytes, Form, formed, out, mostCards, cardNumber, isCheck, numbered, withCheck, withExpr}
+use Rattle.card_laws.specs.Cards.{withTarget, withNumber, cardForm}
 use Rattle.card_laws.specs.declared.Verdict.{Verdict}
 use Rattle.card_laws.specs.declared.Verdict.the-variants.{Fine, Refusal}
 use Rattle.card_laws.specs.Reading.{CardRead, taken, refused, unlessRefused, judged, readCard, GoodCard, good-card}
@@ -40,7 +42,13 @@ numeral-digit d h = rw (lt-ltb d 10 h, le-leb 48 (48 + d) (omega arith), le-leb 
 
 five-digits : (n : ℕ) → allDigits (lowDigits 10 5 n) ≡ true
 five-digits n =
-    rw (numeral-digit (n / 10 / 10 / 10 / 10 % 10) (omega arith), numeral-digit (n / 10 / 10 / 10 % 10) (omega arith), numeral-digit (n / 10 / 10 % 10) (omega arith), numeral-digit (n / 10 % 10) (omega arith), numeral-digit (n % 10) (omega arith))
+    rw (
+      numeral-digit (n / 10 / 10 / 10 / 10 % 10) (omega arith),
+      numeral-digit (n / 10 / 10 / 10 % 10) (omega arith),
+      numeral-digit (n / 10 / 10 % 10) (omega arith),
+      numeral-digit (n / 10 % 10) (omega arith),
+      numeral-digit (n % 10) (omega arith),
+    )
 
 pub check-is : (t e : List ℕ) → isCheck (checkText t e) ≡ true
 unfolding isCheck checkText
@@ -109,11 +117,13 @@ pub form-is : (s : List ℕ) (n : ℕ) (t e k r : List ℕ) → cardForm s ≡ f
 unfolding cardForm
 form-is s n t e k r h = first (fieldOf cardKey s) refl h
   where
-    fourth : (v t′ e′ r1 r2 r3 : List ℕ) → (s ≡ cardKey ++ ended v r1) × Lacks 10 v → (r1 ≡ targetKey ++ ended t′ r2) × Lacks 10 t′ → (r2 ≡ exprKey ++ ended e′ r3) × Lacks 10 e′
+    fourth : (v t′ e′ r1 r2 r3 : List ℕ) → (s ≡ cardKey ++ ended v r1) × Lacks 10 v → (r1 ≡ targetKey ++ ended t′ r2) × Lacks 10 t′
+        → (r2 ≡ exprKey ++ ended e′ r3) × Lacks 10 e′
         → (x : Field) → fieldOf checkKey r3 ≡ x → withCheck v t′ e′ x ≡ formed n t e k r → Formed s n t e k r
     fourth v t′ e′ r1 r2 r3 a b c wrong q w = let z : _≡_ {A = ℕ} 0 1 = cc in absurd (omega arith)
     fourth v t′ e′ r1 r2 r3 a b c (field k′ r4) q w =
-        let m : (0 < cardNumber v) × (isCheck k′ ≡ true) × (formed (cardNumber v) t′ e′ k′ r4 ≡ formed n t e k r) = numbered-is (cardNumber v) t′ e′ k′ r4 n t e k r w in
+        let m : (0 < cardNumber v) × (isCheck k′ ≡ true) × (formed (cardNumber v) t′ e′ k′ r4 ≡ formed n t e k r) =
+        numbered-is (cardNumber v) t′ e′ k′ r4 n t e k r w in
         let d : (r3 ≡ checkKey ++ ended k′ r4) × Lacks 10 k′ = field-is checkKey r3 k′ r4 q in
         let f : formed (cardNumber v) t′ e′ k′ r4 ≡ formed n t e k r = m .2 in
         let en : cardNumber v ≡ n = cc in
@@ -142,7 +152,8 @@ form-is s n t e k r h = first (fieldOf cardKey s) refl h
     third v t′ r1 r2 a b wrong q w = let z : _≡_ {A = ℕ} 0 1 = cc in absurd (omega arith)
     third v t′ r1 r2 a b (field e′ r3) q w = fourth v t′ e′ r1 r2 r3 a b (field-is exprKey r2 e′ r3 q) (fieldOf checkKey r3) refl w
 
-    second : (v r1 : List ℕ) → (s ≡ cardKey ++ ended v r1) × Lacks 10 v → (x : Field) → fieldOf targetKey r1 ≡ x → withTarget v x ≡ formed n t e k r → Formed s n t e k r
+    second : (v r1 : List ℕ) → (s ≡ cardKey ++ ended v r1) × Lacks 10 v → (x : Field) → fieldOf targetKey r1 ≡ x → withTarget v x ≡ formed n t e k r
+        → Formed s n t e k r
     second v r1 a wrong q w = let z : _≡_ {A = ℕ} 0 1 = cc in absurd (omega arith)
     second v r1 a (field t′ r2) q w = third v t′ r1 r2 a (field-is targetKey r1 t′ r2 q) (fieldOf exprKey r2) refl w
 
@@ -217,12 +228,14 @@ module _ (formula : List ℕ → List ℕ → Verdict) where
     pub bytes : s ≡ cardBytes c ++ r
     pub good : GoodCard formula last c
 
-  pub from-form : (last : ℕ) (s : List ℕ) (n : ℕ) (t e k r : List ℕ) (c : Card) (r′ : List ℕ) → Formed s n t e k r → Judged last n t e k r c r′ → Stands last s c r′
+  pub from-form : (last : ℕ) (s : List ℕ) (n : ℕ) (t e k r : List ℕ) (c : Card) (r′ : List ℕ) → Formed s n t e k r → Judged last n t e k r c r′
+      → Stands last s c r′
   from-form last s n t e k r c r′ i j =
       let ek : k ≡ checkText t e = j .check in
       let er : r ≡ r′ = j .rest in
       let whole : s ≡ cardBefore (card n t e) r′ =
-      i .bytes ∙ ap (λ (l : List ℕ). ended (cardLine n) (ended (targetKey ++ t) (ended (exprKey ++ e) (ended (checkKey ++ l) r)))) ek ∙ ap (cardBefore (card n t e)) er in
+      i .bytes ∙ ap (λ (l : List ℕ). ended (cardLine n) (ended (targetKey ++ t) (ended (exprKey ++ e) (ended (checkKey ++ l) r)))) ek
+      ∙ ap (cardBefore (card n t e)) er in
       subst (λ (c : Card). Stands last s c r′) (j .card-is)
       (record { bytes = whole ∙ sym (bytes-before (card n t e) r′); good = good-card (j .rises) (i .most) (j .accepted) })
 
@@ -234,6 +247,7 @@ module _ (formula : List ℕ → List ℕ → Verdict) where
       go out q w = let z : _≡_ {A = ℕ} 0 1 = cc in absurd (omega arith)
       go (formed n t e k r′) q w = from-form last s n t e k r′ c r (form-is s n t e k r′ q) (judged-is last n t e k r′ c r w)
 
-  pub card-there : (laws : JudgeLaws formula) {last : ℕ} {c : Card} (r : List ℕ) → GoodCard formula last c → readCard formula last (cardBytes c ++ r) ≡ taken c r
+  pub card-there : (laws : JudgeLaws formula) {last : ℕ} {c : Card} (r : List ℕ) → GoodCard formula last c
+      → readCard formula last (cardBytes c ++ r) ≡ taken c r
   card-there laws {last} r (good-card {n} {t} {e} h b a) =
       ap (judged formula last) (form-card n t e r (omega arith) b (laws .target-line t e a) (laws .expr-line t e a)) ∙ judged-there last n t e r h a

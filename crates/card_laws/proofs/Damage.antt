@@ -80,7 +80,8 @@ module _ (t e k r t′ e′ k′ r′ : List ℕ) (lt : Lacks 10 t) (le : Lacks 
     equal-lines l m new f g w =
         let h : Three l m c = three l m c r f g lk w in
         let same : k ≡ k′ = same-key checkKey k k′ (h .third) in
-        let lines : p ++ x ∷ q ≡ checkedLines t′ e′ = new ∙ ap (λ (z : List ℕ). ended z (ended m [])) (h .first) ∙ ap (λ (z : List ℕ). ended (targetKey ++ t′) (ended z [])) (h .second) in
+        let lines : p ++ x ∷ q ≡ checkedLines t′ e′ = new ∙ ap (λ (z : List ℕ). ended z (ended m [])) (h .first)
+        ∙ ap (λ (z : List ℕ). ended (targetKey ++ t′) (ended z [])) (h .second) in
         let sums : checkOf (checkedLines t′ e′) ≡ checkOf (checkedLines t e) = exact _ _ (omega arith) (omega arith) (sym right′ ∙ sym same ∙ right) in
         changed p q x y (omega (arith, short, ap length old, length-append p (y ∷ q))) n bx by (ap checkOf lines ∙ sums ∙ ap checkOf old)
 
@@ -96,7 +97,8 @@ module _ (t e k r t′ e′ k′ r′ : List ℕ) (lt : Lacks 10 t) (le : Lacks 
 
         go : Dec (x ≡ 10) → ⊥
         go (yes z) =
-            let w′ : Reads (ended p (ended q′ (ended b (ended c r)))) = sym (append-assoc p (10 ∷ q′) (10 ∷ ended b (ended c r))) ∙ subst (λ (i : ℕ). Reads (ended (p ++ i ∷ q′) (ended b (ended c r)))) z w in
+            let w′ : Reads (ended p (ended q′ (ended b (ended c r)))) = sym (append-assoc p (10 ∷ q′) (10 ∷ ended b (ended c r)))
+            ∙ subst (λ (i : ℕ). Reads (ended (p ++ i ∷ q′) (ended b (ended c r)))) z w in
             differ (λ i. omega arith) (three p q′ b (ended c r) (lacks-left 10 p (y ∷ q′) fa) fq le w′ .third)
         go (no z) =
             equal-lines (p ++ x ∷ q′) b (ap (λ (l : List ℕ). p ++ x ∷ l) v ∙ sym (append-assoc p (x ∷ q′) (10 ∷ ended b [])))
@@ -121,18 +123,21 @@ module _ (t e k r t′ e′ k′ r′ : List ℕ) (lt : Lacks 10 t) (le : Lacks 
         go : Dec (x ≡ 10) → ⊥
         go (yes z) =
             let w′ : Reads (ended a (ended p′ (ended q′ (ended c r)))) =
-            ap (λ (l : List ℕ). ended a l) (sym (append-assoc p′ (10 ∷ q′) (10 ∷ ended c r))) ∙ subst (λ (j : ℕ). Reads (ended a (ended (p′ ++ j ∷ q′) (ended c r)))) z w in
+            ap (λ (l : List ℕ). ended a l) (sym (append-assoc p′ (10 ∷ q′) (10 ∷ ended c r)))
+            ∙ subst (λ (j : ℕ). Reads (ended a (ended (p′ ++ j ∷ q′) (ended c r)))) z w in
             has-k k′ (subst (Lacks 107) (three a p′ q′ (ended c r) lt (lacks-left 10 p′ (y ∷ q′) fb) fq w′ .third) kq)
         go (no z) =
             let new : p ++ x ∷ q ≡ ended a (ended (p′ ++ x ∷ q′) []) =
-            ap (λ (l : List ℕ). l ++ x ∷ q) i ∙ ended-append a p′ (x ∷ q) ∙ ap (λ (l : List ℕ). ended a (p′ ++ x ∷ l)) v ∙ ap (ended a) (sym (append-assoc p′ (x ∷ q′) (10 ∷ []))) in
+            ap (λ (l : List ℕ). l ++ x ∷ q) i ∙ ended-append a p′ (x ∷ q) ∙ ap (λ (l : List ℕ). ended a (p′ ++ x ∷ l)) v
+            ∙ ap (ended a) (sym (append-assoc p′ (x ∷ q′) (10 ∷ []))) in
             equal-lines a (p′ ++ x ∷ q′) new lt (lacks-append 10 p′ (x ∷ q′) (lacks-left 10 p′ (y ∷ q′) fb) (lacks-cons 10 x q′ z fq)) w
 
     -- the first line's end
     first-end : y ≡ 10 → Reads (ended (a ++ x ∷ b) (ended c r)) → ⊥
     first-end z w =
         let m : x ≡ 10 → ⊥ = λ i. n (i ∙ sym z) in
-        let one = same-line (a ++ x ∷ b) (targetKey ++ t′) (ended c r) (ended (exprKey ++ e′) (ended (checkKey ++ k′) r′)) (lacks-append 10 a (x ∷ b) lt (lacks-cons 10 x b m le)) lt′ w in
+        let one = same-line (a ++ x ∷ b) (targetKey ++ t′) (ended c r) (ended (exprKey ++ e′) (ended (checkKey ++ k′) r′))
+        (lacks-append 10 a (x ∷ b) lt (lacks-cons 10 x b m le)) lt′ w in
         differ (λ i. omega arith) (same-line c (exprKey ++ e′) r (ended (checkKey ++ k′) r′) lk le′ (one .rest) .line)
 
     -- the second line's end
@@ -140,7 +145,8 @@ module _ (t e k r t′ e′ k′ r′ : List ℕ) (lt : Lacks 10 t) (le : Lacks 
     second-end z w =
         let m : x ≡ 10 → ⊥ = λ i. n (i ∙ sym z) in
         let one = same-line a (targetKey ++ t′) (ended (b ++ x ∷ c) r) (ended (exprKey ++ e′) (ended (checkKey ++ k′) r′)) lt lt′ w in
-        let two = same-line (b ++ x ∷ c) (exprKey ++ e′) r (ended (checkKey ++ k′) r′) (lacks-append 10 b (x ∷ c) le (lacks-cons 10 x c m lk)) le′ (one .rest) in
+        let two = same-line (b ++ x ∷ c) (exprKey ++ e′) r (ended (checkKey ++ k′) r′)
+        (lacks-append 10 b (x ∷ c) le (lacks-cons 10 x c m lk)) le′ (one .rest) in
         no-check-line k′ r′ follows (two .rest)
 
     never : (l : List ℕ) (d : ℕ) (s : List ℕ) → [] ≡ l ++ d ∷ s → ⊥
@@ -153,14 +159,18 @@ module _ (t e k r t′ e′ k′ r′ : List ℕ) (lt : Lacks 10 t) (le : Lacks 
         lower : (p′ : List ℕ) → p ≡ ended a p′ → Place b [] p′ q y → ⊥
         lower p′ i (inside q′ u v) =
             let s : (p ++ x ∷ q) ++ ended c r ≡ ended a (ended (p′ ++ x ∷ q′) (ended c r)) =
-            ap (λ (l : List ℕ). (l ++ x ∷ q) ++ ended c r) i ∙ ap (λ (l : List ℕ). l ++ ended c r) (ended-append a p′ (x ∷ q)) ∙ ended-append a (p′ ++ x ∷ q) (ended c r)
-            ∙ ap (ended a) (ap (λ (l : List ℕ). (p′ ++ x ∷ l) ++ ended c r) v ∙ append-assoc p′ (x ∷ ended q′ []) (ended c r) ∙ ap (λ (l : List ℕ). p′ ++ x ∷ l) (ended-append q′ [] (ended c r))
+            ap (λ (l : List ℕ). (l ++ x ∷ q) ++ ended c r) i ∙ ap (λ (l : List ℕ). l ++ ended c r) (ended-append a p′ (x ∷ q))
+            ∙ ended-append a (p′ ++ x ∷ q) (ended c r)
+            ∙ ap (ended a) (ap (λ (l : List ℕ). (p′ ++ x ∷ l) ++ ended c r) v ∙ append-assoc p′ (x ∷ ended q′ []) (ended c r)
+            ∙ ap (λ (l : List ℕ). p′ ++ x ∷ l) (ended-append q′ [] (ended c r))
             ∙ sym (append-assoc p′ (x ∷ q′) (10 ∷ ended c r))) in
             in-second p′ q′ i u v (sym s ∙ w)
         lower p′ i (at-end u v j) =
             let s : (p ++ x ∷ q) ++ ended c r ≡ ended a (ended (b ++ x ∷ c) r) =
-            ap (λ (l : List ℕ). (l ++ x ∷ q) ++ ended c r) i ∙ ap (λ (l : List ℕ). l ++ ended c r) (ended-append a p′ (x ∷ q)) ∙ ended-append a (p′ ++ x ∷ q) (ended c r)
-            ∙ ap (ended a) (ap (λ (l : List ℕ). (l ++ x ∷ q) ++ ended c r) u ∙ ap (λ (l : List ℕ). (b ++ x ∷ l) ++ ended c r) j ∙ append-assoc b (x ∷ []) (ended c r) ∙ sym (append-assoc b (x ∷ c) (10 ∷ r))) in
+            ap (λ (l : List ℕ). (l ++ x ∷ q) ++ ended c r) i ∙ ap (λ (l : List ℕ). l ++ ended c r) (ended-append a p′ (x ∷ q))
+            ∙ ended-append a (p′ ++ x ∷ q) (ended c r)
+            ∙ ap (ended a) (ap (λ (l : List ℕ). (l ++ x ∷ q) ++ ended c r) u ∙ ap (λ (l : List ℕ). (b ++ x ∷ l) ++ ended c r) j
+            ∙ append-assoc b (x ∷ []) (ended c r) ∙ sym (append-assoc b (x ∷ c) (10 ∷ r))) in
             second-end v (sym s ∙ w)
         lower p′ i (beyond p″ u v) = never p″ y q v
 
@@ -168,7 +178,8 @@ module _ (t e k r t′ e′ k′ r′ : List ℕ) (lt : Lacks 10 t) (le : Lacks 
         go (inside q′ u v) =
             let s : (p ++ x ∷ q) ++ ended c r ≡ ended (p ++ x ∷ q′) (ended b (ended c r)) =
             ap (λ (l : List ℕ). (p ++ x ∷ l) ++ ended c r) v ∙ append-assoc p (x ∷ ended q′ (ended b [])) (ended c r)
-            ∙ ap (λ (l : List ℕ). p ++ x ∷ l) (ended-append q′ (ended b []) (ended c r) ∙ ap (ended q′) (ended-append b [] (ended c r))) ∙ sym (append-assoc p (x ∷ q′) (10 ∷ ended b (ended c r))) in
+            ∙ ap (λ (l : List ℕ). p ++ x ∷ l) (ended-append q′ (ended b []) (ended c r) ∙ ap (ended q′) (ended-append b [] (ended c r)))
+            ∙ sym (append-assoc p (x ∷ q′) (10 ∷ ended b (ended c r))) in
             in-first q′ u v (sym s ∙ w)
         go (at-end u v j) =
             let s : (p ++ x ∷ q) ++ ended c r ≡ ended (a ++ x ∷ b) (ended c r) =

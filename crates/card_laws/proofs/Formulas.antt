@@ -60,14 +60,16 @@ enclosed (c ∷ d ∷ rest) {k} {t} l e j =
     let x : Text 10 (indexText (c ∷ d ∷ rest)) = text-of 10 1 no-line-end (omega arith) (indexText (c ∷ d ∷ rest)) t j in
     let n : ℕ = length rest - 1 in
     let long : 0 < length rest = positive rest (x .some) in
-    let whole : rest ≡ take n rest ++ getD rest n 0 ∷ [] = split-at rest n 0 (omega arith) ∙ ap (λ (l : List ℕ). take n rest ++ getD rest n 0 ∷ l) (drop-of-length-le rest {i = suc n} (omega arith)) in
+    let whole : rest ≡ take n rest ++ getD rest n 0 ∷ [] = split-at rest n 0 (omega arith)
+    ∙ ap (λ (l : List ℕ). take n rest ++ getD rest n 0 ∷ l) (drop-of-length-le rest {i = suc n} (omega arith)) in
     let i : length (c ∷ d ∷ rest) - 3 ≡ n = omega arith in
     let p : length (c ∷ d ∷ rest) - 1 ≡ suc (suc n) = omega arith in
     let inner : Lacks 10 (take n rest) = subst (λ (m : ℕ). Lacks 10 (take m rest)) i (x .lacking) in
     let last : eqb (getD rest n 0) 93 ≡ true = subst (λ (m : ℕ). eqb (getD (c ∷ d ∷ rest) m 0) 93 ≡ true) p (b .1) in
     lacks-cons 10 c (d ∷ rest) (letter-not 10 no-line-end c l)
     (lacks-cons 10 d rest (mark 91 d (b .0) (λ z. omega arith))
-    (subst (Lacks 10) (sym whole) (lacks-append 10 (take n rest) (getD rest n 0 ∷ []) inner (lacks-cons 10 (getD rest n 0) [] (mark 93 (getD rest n 0) last (λ z. omega arith)) refl))))
+    (subst (Lacks 10) (sym whole) (lacks-append 10 (take n rest) (getD rest n 0 ∷ []) inner
+    (lacks-cons 10 (getD rest n 0) [] (mark 93 (getD rest n 0) last (λ z. omega arith)) refl))))
   where
     mark : (m c : ℕ) → eqb c m ≡ true → (m ≡ 10 → ⊥) → c ≡ 10 → ⊥
     mark m c q n z = n (sym (eqb-true c m q) ∙ z)
@@ -100,7 +102,8 @@ indexed-text s n = go (leb (length s) 1024 && isEnclosed s) refl n
     go false q w = absurd (w refl)
     go true q w =
         let b = both (leb (length s) 1024) (isEnclosed s) q in
-        let i : Indexed (storedBank (letterBank (getD s 0 0))) (judgeFrom 1 (indexText s)) = indexed-of (storedBank (letterBank (getD s 0 0))) (judgeFrom 1 (indexText s)) w in
+        let i : Indexed (storedBank (letterBank (getD s 0 0))) (judgeFrom 1 (indexText s)) =
+        indexed-of (storedBank (letterBank (getD s 0 0))) (judgeFrom 1 (indexText s)) w in
         let l = stored-of (letterBank (getD s 0 0)) (i .letter) in
         record { short = leb-true (length s) 1024 (b .0); lacking = enclosed s (l .1) (b .1) (i .judgement) }
 

@@ -12,7 +12,8 @@ use Rattle.lines.proofs.printing.Widths.{at-most}
 use Rattle.card_laws.specs.Lines.{ended}
 use Rattle.card_laws.specs.Cards.{Card, card, numberOf, targetKey, exprKey, checkKey, checkedLines, checkText, cardLine, cardBytes, cardsBytes}
 use Rattle.card_laws.specs.declared.Verdict.{Verdict}
-use Rattle.card_laws.specs.Reading.{CardRead, taken, refused, readCard, CardsRead, good, bad, alsoCard, thenCards, lastOf, isEmpty, readFrom, readCards, GoodCard, good-card, Valid, none, next}
+use Rattle.card_laws.specs.Reading.{CardRead, taken, refused, readCard, CardsRead, good, bad, alsoCard, thenCards, lastOf, isEmpty, readFrom}
+use Rattle.card_laws.specs.Reading.{readCards, GoodCard, good-card, Valid, none, next}
 use Rattle.card_laws.specs.Theorems.{JudgeLaws}
 use Rattle.card_laws.proofs.Cards.{Stands, card-is, card-there, check-length, bytes-before}
 
@@ -133,12 +134,14 @@ module _ (formula : List ℕ → List ℕ → Verdict) where
         ap (λ (m : ℕ). readFrom formula m last at s) z ∙ ap (λ (n : ℕ). readFrom formula f last n s) (sym (add-zero at))
     through {last} f at s (next {c = k} {cs = ks} c v) =
         let g : ℕ = length ks + f in
-        let p : at + length (cardBytes k) + length (cardsBytes ks) ≡ at + length (cardBytes k ++ cardsBytes ks) = omega (arith, length-append (cardBytes k) (cardsBytes ks)) in
+        let p : at + length (cardBytes k) + length (cardsBytes ks) ≡ at + length (cardBytes k ++ cardsBytes ks) =
+        omega (arith, length-append (cardBytes k) (cardsBytes ks)) in
         let m : suc (length ks) + f ≡ suc g = omega arith in
         ap (λ (m : ℕ). readFrom formula m last at ((cardBytes k ++ cardsBytes ks) ++ s)) m
         ∙ ap (readFrom formula (suc g) last at) (append-assoc (cardBytes k) (cardsBytes ks) s)
         ∙ step g last at (cardBytes k ++ (cardsBytes ks ++ s)) (not-empty k (cardsBytes ks ++ s))
-        ∙ ap (λ (x : CardRead). thenCards at x (λ k r. readFrom formula g (numberOf k) (at + length (cardBytes k)) r)) (card-there formula laws (cardsBytes ks ++ s) c)
+        ∙ ap (λ (x : CardRead). thenCards at x (λ k r. readFrom formula g (numberOf k) (at + length (cardBytes k)) r))
+        (card-there formula laws (cardsBytes ks ++ s) c)
         ∙ ap (alsoCard k) (through f (at + length (cardBytes k)) s v ∙ ap (λ (n : ℕ). alsoCards ks (readFrom formula f (lastOf (numberOf k) ks) n s)) p)
 
     pub back : (cs : List Card) → Valid formula 0 cs → readCards formula (cardsBytes cs) ≡ good cs
@@ -162,7 +165,8 @@ module _ (formula : List ℕ → List ℕ → Verdict) where
         let z : g ≡ length (cardsBytes ks) = omega arith in
         ap (λ (k : ℕ). readFrom formula k 0 0 (cardsBytes ks ++ s)) m
         ∙ through (suc f) 0 s v
-        ∙ ap (alsoCards ks) (step f (lastOf 0 ks) g s (not-nothing s long) ∙ ap (λ (w : CardRead). thenCards g w (λ k r. readFrom formula f (numberOf k) (g + length (cardBytes k)) r)) r)
+        ∙ ap (alsoCards ks) (step f (lastOf 0 ks) g s (not-nothing s long)
+        ∙ ap (λ (w : CardRead). thenCards g w (λ k r. readFrom formula f (numberOf k) (g + length (cardBytes k)) r)) r)
         ∙ also-bad ks a g
         ∙ ap (bad a) z
 

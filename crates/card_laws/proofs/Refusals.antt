@@ -13,7 +13,8 @@ use Rattle.tokens.specs.Symbols.{equalBytes}
 use Rattle.card_laws.specs.Cards.{Card, card, numberOf, checkText, cardBytes, cardsBytes, Form, formed, out, cardForm}
 use Rattle.card_laws.specs.declared.Verdict.{Verdict}
 use Rattle.card_laws.specs.declared.Verdict.the-variants.{Fine, Refusal}
-use Rattle.card_laws.specs.Reading.{CardRead, taken, refused, unlessRefused, judged, readCard, CardsRead, good, bad, alsoCard, thenCards, lastOf, isEmpty, readFrom, readCards, Valid, none, next}
+use Rattle.card_laws.specs.Reading.{CardRead, taken, refused, unlessRefused, judged, readCard, CardsRead, good, bad, alsoCard, thenCards}
+use Rattle.card_laws.specs.Reading.{lastOf, isEmpty, readFrom, readCards, Valid, none, next}
 use Rattle.card_laws.specs.Writing.{CardsWritten, done, unwritten, writable, unlessHere, cardVerdict, writeFrom, writeCards}
 use Rattle.card_laws.specs.Refusals.{Refused, out-of-form, wrong-check, FirstRefused, Unfit, no-lines, FirstUnfit, NotWritten, no-room, card-refused}
 use Rattle.card_laws.specs.Refusals as Why
@@ -62,7 +63,8 @@ module _ (formula : List ℕ → List ℕ → Verdict) where
       above true q c w = accepted (formula t e) refl c (ltb-true last n q) w
       above false q c w = let z : 18 ≡ a = cc in subst Goal z (Why.not-above c (ltb-false last n q))
 
-      by : (x : Bool) → equalBytes k (checkText t e) ≡ x → cond x (cond (ltb last n) (unlessRefused (card n t e) r (formula t e)) (refused 18)) (refused 17) ≡ refused a → Goal a
+      by : (x : Bool) → equalBytes k (checkText t e) ≡ x → cond x (cond (ltb last n) (unlessRefused (card n t e) r (formula t e)) (refused 18)) (refused 17)
+          ≡ refused a → Goal a
       by true q w = above (ltb last n) refl (same-bytes k (checkText t e) q) w
       by false q w = let z : 17 ≡ a = cc in subst Goal z (wrong-check (differs k (checkText t e) q))
 
@@ -172,7 +174,8 @@ module _ (formula : List ℕ → List ℕ → Verdict) where
   up-to last at (c ∷ cs) s a p h = go (cardVerdict formula last c) refl h (λ w. up-to (numberOf c) (at + length (cardBytes c)) cs s a p w)
     where
       go : (v : Verdict) → cardVerdict formula last c ≡ v → unlessHere v at (writeFrom formula (numberOf c) (at + length (cardBytes c)) cs s) ≡ unwritten a p
-          → (writeFrom formula (numberOf c) (at + length (cardBytes c)) cs s ≡ unwritten a p → Up (numberOf c) (at + length (cardBytes c)) cs a p) → Up last at (c ∷ cs) a p
+          → (writeFrom formula (numberOf c) (at + length (cardBytes c)) cs s ≡ unwritten a p → Up (numberOf c) (at + length (cardBytes c)) cs a p)
+          → Up last at (c ∷ cs) a p
       go Fine q w ih =
           let i : Up (numberOf c) (at + length (cardBytes c)) cs a p = ih w in
           record {
@@ -192,7 +195,8 @@ module _ (formula : List ℕ → List ℕ → Verdict) where
   not-written : (room : ℕ) (cs : List Card) (a p : ℕ) → writeCards formula room cs ≡ unwritten a p → NotWritten formula room cs a p
   not-written room cs a p h = by (ltb room (length (cardsBytes cs))) refl h
     where
-      by : (x : Bool) → ltb room (length (cardsBytes cs)) ≡ x → cond x (unwritten 10 0) (writeFrom formula 0 0 cs (cardsBytes cs)) ≡ unwritten a p → NotWritten formula room cs a p
+      by : (x : Bool) → ltb room (length (cardsBytes cs)) ≡ x → cond x (unwritten 10 0) (writeFrom formula 0 0 cs (cardsBytes cs)) ≡ unwritten a p
+          → NotWritten formula room cs a p
       by true q w =
           let x : 10 ≡ a = cc in
           let y : 0 ≡ p = cc in
@@ -213,7 +217,8 @@ module _ (formula : List ℕ → List ℕ → Verdict) where
   module _ (laws : JudgeLaws formula) where
     refused-there : {s : List ℕ} {a p : ℕ} → FirstRefused formula s a p → readCards formula s ≡ bad a p
     refused-there {s} {a} {p} i =
-        ap (readCards formula) (i .bytes) ∙ refused-behind formula laws (i .before) (i .rest) a (i .good) (i .some) (refuses (lastOf 0 (i .before)) (i .why)) ∙ ap (bad a) (sym (i .place))
+        ap (readCards formula) (i .bytes) ∙ refused-behind formula laws (i .before) (i .rest) a (i .good) (i .some)
+        (refuses (lastOf 0 (i .before)) (i .why)) ∙ ap (bad a) (sym (i .place))
 
     pub first-refused : (s : List ℕ) (a p : ℕ) → readCards formula s ≡ bad a p ↔ FirstRefused formula s a p
     first-refused s a p = (first-of s a p, refused-there)
@@ -227,12 +232,14 @@ module _ (formula : List ℕ → List ℕ → Verdict) where
     pub answers : (s : List ℕ) (a p : ℕ) → readCards formula s ≡ bad a p → ((2 ≤ a) × (a ≤ 9)) ⊎ ((16 ≤ a) × (a ≤ 18))
     answers s a p h = let i : FirstRefused formula s a p = first-of s a p h in answer-of (lastOf 0 (i .before)) (i .why)
 
-    stops-at : {last : ℕ} {ks : List Card} (at : ℕ) → Valid formula last ks → (c : Card) (cs : List Card) (s : List ℕ) (a : ℕ) → cardVerdict formula (lastOf last ks) c ≡ Refusal a
+    stops-at : {last : ℕ} {ks : List Card} (at : ℕ) → Valid formula last ks → (c : Card) (cs : List Card) (s : List ℕ) (a : ℕ)
+        → cardVerdict formula (lastOf last ks) c ≡ Refusal a
         → writeFrom formula last at (ks ++ c ∷ cs) s ≡ unwritten a (at + length (cardsBytes ks))
     stops-at at none c cs s a h =
         ap (λ (x : Verdict). unlessHere x at (writeFrom formula (numberOf c) (at + length (cardBytes c)) cs s)) h ∙ ap (unwritten a) (sym (add-zero at))
     stops-at at (next {c = k} {cs = ks} g v) c cs s a h =
-        let p : at + length (cardBytes k) + length (cardsBytes ks) ≡ at + length (cardBytes k ++ cardsBytes ks) = omega (arith, length-append (cardBytes k) (cardsBytes ks)) in
+        let p : at + length (cardBytes k) + length (cardsBytes ks) ≡ at + length (cardBytes k ++ cardsBytes ks) =
+        omega (arith, length-append (cardBytes k) (cardsBytes ks)) in
         ap (λ (x : Verdict). unlessHere x at (writeFrom formula (numberOf k) (at + length (cardBytes k)) (ks ++ c ∷ cs) s)) (good-verdict formula laws g)
         ∙ stops-at (at + length (cardBytes k)) v c cs s a h
         ∙ ap (unwritten a) p

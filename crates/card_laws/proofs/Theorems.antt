@@ -13,10 +13,12 @@ use Rattle.memory.specs.Names.{decimalValue}
 use Rattle.tokens.specs.Symbols.{equalBytes}
 use Rattle.lines.specs.Printing.{lowDigits}
 use Rattle.card_laws.specs.Lines.{ended, Lacks}
-use Rattle.card_laws.specs.Cards.{Card, card, numberOf, targetKey, exprKey, checkKey, checkOf, checkedLines, checkText, cardLine, cardBytes, cardsBytes, Form, formed, out, cardForm}
+use Rattle.card_laws.specs.Cards.{Card, card, numberOf, targetKey, exprKey, checkKey, checkOf, checkedLines, checkText, cardLine, cardBytes}
+use Rattle.card_laws.specs.Cards.{cardsBytes, Form, formed, out, cardForm}
 use Rattle.card_laws.specs.declared.Verdict.{Verdict}
 use Rattle.card_laws.specs.declared.Verdict.the-variants.{Fine}
-use Rattle.card_laws.specs.Reading.{CardRead, taken, refused, unlessRefused, judged, readCard, CardsRead, good, bad, thenCards, lastOf, isEmpty, readFrom, readCards, GoodCard, good-card, Valid, none, next}
+use Rattle.card_laws.specs.Reading.{CardRead, taken, refused, unlessRefused, judged, readCard, CardsRead, good, bad, thenCards, lastOf, isEmpty}
+use Rattle.card_laws.specs.Reading.{readFrom, readCards, GoodCard, good-card, Valid, none, next}
 use Rattle.card_laws.specs.Writing.{writtenBytes}
 use Rattle.card_laws.specs.Theorems.{JudgeLaws, Spoilt, linesAt, CardTheorems}
 use Rattle.card_laws.proofs.Lines.{lacks-append, same-bytes, same-line}
@@ -27,9 +29,16 @@ use Rattle.card_laws.proofs.Refusals.{check-first, first-refused, answe
 use Rattle.card_laws.proofs.Damage.{Follows, nothing, another, refuted}
 
 -- ---- five digits are those of one number
-pub digit-bytes : (n : ℕ) → lowDigits 10 5 n ≡ (48 + n / 10 / 10 / 10 / 10 % 10) ∷ (48 + n / 10 / 10 / 10 % 10) ∷ (48 + n / 10 / 10 % 10) ∷ (48 + n / 10 % 10) ∷ (48 + n % 10) ∷ []
+pub digit-bytes : (n : ℕ) → lowDigits 10 5 n ≡ (48 + n / 10 / 10 / 10 / 10 % 10) ∷ (48 + n / 10 / 10 / 10 % 10) ∷ (48 + n / 10 / 10 % 10)
+    ∷ (48 + n / 10 % 10) ∷ (48 + n % 10) ∷ []
 digit-bytes n =
-    rw (lt-ltb (n / 10 / 10 / 10 / 10 % 10) 10 (omega arith), lt-ltb (n / 10 / 10 / 10 % 10) 10 (omega arith), lt-ltb (n / 10 / 10 % 10) 10 (omega arith), lt-ltb (n / 10 % 10) 10 (omega arith), lt-ltb (n % 10) 10 (omega arith))
+    rw (
+      lt-ltb (n / 10 / 10 / 10 / 10 % 10) 10 (omega arith),
+      lt-ltb (n / 10 / 10 / 10 % 10) 10 (omega arith),
+      lt-ltb (n / 10 / 10 % 10) 10 (omega arith),
+      lt-ltb (n / 10 % 10) 10 (omega arith),
+      lt-ltb (n % 10) 10 (omega arith),
+    )
 
 number-of : (n : ℕ) → n < 65521 → decimalValue (lowDigits 10 5 n) ≡ n
 number-of n h =
@@ -72,7 +81,8 @@ module _ (formula : List ℕ → List ℕ → Verdict) (laws : JudgeLaws formula
 
   parted : {last : ℕ} (ks : List Card) (c : Card) (bs : List Card) → Valid formula last (ks ++ c ∷ bs) → Parted last ks c bs
   parted [] c bs (next g v) = record { before = none; this = g; after = v }
-  parted (k ∷ ks) c bs (next g v) = let i : Parted (numberOf k) ks c bs = parted ks c bs v in record { before = next g (i .before); this = i .this; after = i .after }
+  parted (k ∷ ks) c bs (next g v) = let i : Parted (numberOf k) ks c bs = parted ks c bs v in
+      record { before = next g (i .before); this = i .this; after = i .after }
 
   record Refusal (r : CardRead) : Type 0 where
     answer : ℕ
@@ -83,14 +93,22 @@ module _ (formula : List ℕ → List ℕ → Verdict) (laws : JudgeLaws formula
   module _ (last n : ℕ) (t e bs p q : List ℕ) (x y : ℕ) (pn : 0 < n) (sn : n ≤ 64) (accepted : formula t e ≡ Fine) (fs : Follows bs)
       (at : checkedLines t e ≡ p ++ y ∷ q) (differs : x ≡ y → ⊥) (bx : x < 256) (by : y < 256) where
     short : length (checkedLines t e) ≤ 2062
-    short = omega (arith, laws .target-short t e accepted, laws .expr-short t e accepted, length-append t (10 ∷ ended (exprKey ++ e) []), length-append e (10 ∷ []))
+    short = omega (
+      arith,
+      laws .target-short t e accepted,
+      laws .expr-short t e accepted,
+      length-append t (10 ∷ ended (exprKey ++ e) []),
+      length-append e (10 ∷ []),
+    )
 
     wrong-check : (m : ℕ) (t′ e′ k′ r′ : List ℕ) → Formed (replaced n t e p q x bs) m t′ e′ k′ r′ → k′ ≡ checkText t′ e′ → ⊥
     unfolding checkText
     wrong-check m t′ e′ k′ r′ i c =
-        refuted t e (checkText t e) bs t′ e′ k′ r′ (laws .target-line t e accepted) (laws .expr-line t e accepted) (check-lacks t e) (i .target-lacks) (i .expr-lacks) (five k′ (i .digits) .1)
+        refuted t e (checkText t e) bs t′ e′ k′ r′ (laws .target-line t e accepted) (laws .expr-line t e accepted) (check-lacks t e) (i .target-lacks)
+        (i .expr-lacks) (five k′ (i .digits) .1)
         (laws .no-k t e accepted) fs short (lowDigits 10 5) one-number refl c p q x y differs bx by at
-        (same-line (cardLine n) (cardLine m) ((p ++ x ∷ q) ++ ended (checkKey ++ checkText t e) bs) (ended (targetKey ++ t′) (ended (exprKey ++ e′) (ended (checkKey ++ k′) r′)))
+        (same-line (cardLine n) (cardLine m) ((p ++ x ∷ q) ++ ended (checkKey ++ checkText t e) bs)
+        (ended (targetKey ++ t′) (ended (exprKey ++ e′) (ended (checkKey ++ k′) r′)))
         (number-there n pn sn .1) (i .number-lacks) (i .bytes) .rest)
 
     card-refused : Refusal (readCard formula last (replaced n t e p q x bs))
@@ -101,13 +119,15 @@ module _ (formula : List ℕ → List ℕ → Verdict) (laws : JudgeLaws formula
         go out h = record { answer = 16; is = refl; which = inl refl }
         go (formed m t′ e′ k′ r′) h = check (equalBytes k′ (checkText t′ e′)) refl
           where
-            check : (c : Bool) → equalBytes k′ (checkText t′ e′) ≡ c → Refusal (cond c (cond (ltb last m) (unlessRefused (card m t′ e′) r′ (formula t′ e′)) (refused 18)) (refused 17))
+            check : (c : Bool) → equalBytes k′ (checkText t′ e′) ≡ c → Refusal
+                (cond c (cond (ltb last m) (unlessRefused (card m t′ e′) r′ (formula t′ e′)) (refused 18)) (refused 17))
             check false c = record { answer = 17; is = refl; which = inr refl }
             check true c = absurd (wrong-check m t′ e′ k′ r′ (form-is (replaced n t e p q x bs) m t′ e′ k′ r′ h) (same-bytes k′ (checkText t′ e′) c))
 
   -- ---- in its file
   in-file : (ks : List Card) (n : ℕ) (t e : List ℕ) (bs : List Card) (p q : List ℕ) (x y : ℕ) → Parted 0 ks (card n t e) bs
-      → checkedLines t e ≡ p ++ y ∷ q → (x ≡ y → ⊥) → x < 256 → y < 256 → Spoilt (readCards formula (cardsBytes ks ++ replaced n t e p q x (cardsBytes bs))) (length (cardsBytes ks))
+      → checkedLines t e ≡ p ++ y ∷ q → (x ≡ y → ⊥) → x < 256 → y < 256
+      → Spoilt (readCards formula (cardsBytes ks ++ replaced n t e p q x (cardsBytes bs))) (length (cardsBytes ks))
   in-file ks n t e bs p q x y c at d bx by = go (c .this)
     where
       s : List ℕ
@@ -116,7 +136,8 @@ module _ (formula : List ℕ → List ℕ → Verdict) (laws : JudgeLaws formula
       l : ℕ
       l = lastOf 0 ks
 
-      go : GoodCard formula (lastOf 0 ks) (card n t e) → Spoilt (readCards formula (cardsBytes ks ++ replaced n t e p q x (cardsBytes bs))) (length (cardsBytes ks))
+      go : GoodCard formula (lastOf 0 ks) (card n t e) → Spoilt (readCards formula (cardsBytes ks ++ replaced n t e p q x (cardsBytes bs)))
+          (length (cardsBytes ks))
       go (good-card rises most a) =
           let r : Refusal (readCard formula l s) = card-refused l n t e (cardsBytes bs) p q x y (omega arith) most a (follows (c .after)) at d bx by in
           record { answer = r .answer; is = refused-behind formula laws ks s (r .answer) (c .before) (omega arith) (r .is); which = r .which }
@@ -125,7 +146,8 @@ module _ (formula : List ℕ → List ℕ → Verdict) (laws : JudgeLaws formula
   whole n t e r =
       let c : List ℕ = ended (checkKey ++ checkText t e) r in
       bytes-before (card n t e) r
-      ∙ ap (ended (cardLine n)) (sym (ended-append (targetKey ++ t) (ended (exprKey ++ e) []) c ∙ ap (ended (targetKey ++ t)) (ended-append (exprKey ++ e) [] c)))
+      ∙ ap (ended (cardLine n)) (sym (ended-append (targetKey ++ t) (ended (exprKey ++ e) []) c
+      ∙ ap (ended (targetKey ++ t)) (ended-append (exprKey ++ e) [] c)))
       ∙ sym (ended-append (cardLine n) [] (checkedLines t e ++ c))
 
   damaged : (s : List ℕ) (ks : List Card) (n : ℕ) (t e : List ℕ) (bs : List Card) → readCards formula s ≡ good (ks ++ card n t e ∷ bs)
@@ -138,7 +160,8 @@ module _ (formula : List ℕ → List ℕ → Verdict) (laws : JudgeLaws formula
       let front : List ℕ = cardsBytes ks ++ line in
       let tail : List ℕ = ended (checkKey ++ checkText t e) (cardsBytes bs) in
       let is : s ≡ front ++ (l ++ tail) =
-      k .0 ∙ cards-append ks (card n t e ∷ bs) ∙ ap (λ (m : List ℕ). cardsBytes ks ++ m) (whole n t e (cardsBytes bs)) ∙ sym (append-assoc (cardsBytes ks) line (l ++ tail)) in
+      k .0 ∙ cards-append ks (card n t e ∷ bs) ∙ ap (λ (m : List ℕ). cardsBytes ks ++ m) (whole n t e (cardsBytes bs))
+      ∙ sym (append-assoc (cardsBytes ks) line (l ++ tail)) in
       let i : ℕ = j - length front in
       let size : length front ≡ linesAt ks n = length-append (cardsBytes ks) line in
       let at : j ≡ length front + i = omega arith in
@@ -149,7 +172,8 @@ module _ (formula : List ℕ → List ℕ → Verdict) (laws : JudgeLaws formula
       ∙ append-assoc (cardsBytes ks) line ((take i l ++ x ∷ drop (suc i) l) ++ tail)
       ∙ ap (λ (m : List ℕ). cardsBytes ks ++ m) (ended-append (cardLine n) [] ((take i l ++ x ∷ drop (suc i) l) ++ tail)) in
       subst (λ (m : List ℕ). Spoilt (readCards formula m) (length (cardsBytes ks))) (sym new)
-      (in-file ks n t e bs (take i l) (drop (suc i) l) x y (parted ks (card n t e) bs (k .1)) (get-middle front l tail i (omega arith)) (λ (q : x ≡ y). d (q ∙ sym same)) bx (omega arith))
+      (in-file ks n t e bs (take i l) (drop (suc i) l) x y (parted ks (card n t e) bs (k .1)) (get-middle front l tail i (omega arith))
+      (λ (q : x ≡ y). d (q ∙ sym same)) bx (omega arith))
 
   pub card-theorems : CardTheorems formula
   card-theorems =

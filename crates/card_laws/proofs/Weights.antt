@@ -1,4 +1,5 @@
--- The check of two lists that differ in one byte differs, up to the position 2,062. No product of 1 to 255 and 1 to 2,062 is a multiple of the modulus: one computed test. Assumes nothing.
+-- The check of two lists that differ in one byte differs, up to the position 2,062. No product of 1 to 255 and 1 to 2,062 is a multiple of the modulus: one
+-- computed test. Assumes nothing.
 use mathlib.Core.Path.{_≡_, refl, sym, ap, subst, _∙_}
 use mathlib.Core.Bool.{Bool, true, false, _&&_, _||_, not}
 use mathlib.Core.List.{List, [], _∷_, _++_}

@@ -21,7 +21,8 @@ module _ (formula : List ℕ → List ℕ → Verdict) where
   pub verdict-good : (last : ℕ) (c : Card) → cardVerdict formula last c ≡ Fine → GoodCard formula last c
   verdict-good last (card n t e) h = go (writable (card n t e)) refl (ltb last n) refl h
     where
-      go : (x : Bool) → writable (card n t e) ≡ x → (y : Bool) → ltb last n ≡ y → cond x (cond y (formula t e) (Refusal 18)) (Refusal 16) ≡ Fine → GoodCard formula last (card n t e)
+      go : (x : Bool) → writable (card n t e) ≡ x → (y : Bool) → ltb last n ≡ y → cond x (cond y (formula t e) (Refusal 18)) (Refusal 16) ≡ Fine
+          → GoodCard formula last (card n t e)
       go false p y q w = let z : _≡_ {A = ℕ} 0 1 = cc in absurd (omega arith)
       go true p false q w = let z : _≡_ {A = ℕ} 0 1 = cc in absurd (omega arith)
       go true p true q w =
@@ -55,7 +56,8 @@ module _ (formula : List ℕ → List ℕ → Verdict) where
     pub written : (room : ℕ) (cs : List Card) (s : List ℕ) → writeCards formula room cs ≡ done s → Written formula room cs s
     written room cs s h = go (ltb room (length (cardsBytes cs))) refl h
       where
-        go : (x : Bool) → ltb room (length (cardsBytes cs)) ≡ x → cond x (unwritten 10 0) (writeFrom formula 0 0 cs (cardsBytes cs)) ≡ done s → Written formula room cs s
+        go : (x : Bool) → ltb room (length (cardsBytes cs)) ≡ x → cond x (unwritten 10 0) (writeFrom formula 0 0 cs (cardsBytes cs)) ≡ done s
+            → Written formula room cs s
         go true q w = let z : _≡_ {A = ℕ} 0 1 = cc in absurd (omega arith)
         go false q w =
             let i : Through 0 cs (cardsBytes cs) s = from-is 0 0 cs (cardsBytes cs) s w in
@@ -69,4 +71,5 @@ module _ (formula : List ℕ → List ℕ → Verdict) where
 
     pub writes : (room : ℕ) (cs : List Card) → Valid formula 0 cs → length (cardsBytes cs) ≤ room → writeCards formula room cs ≡ done (cardsBytes cs)
     writes room cs v h =
-        ap (λ (x : Bool). cond x (unwritten 10 0) (writeFrom formula 0 0 cs (cardsBytes cs))) (le-ltb room (length (cardsBytes cs)) h) ∙ from-there 0 (cardsBytes cs) v
+        ap (λ (x : Bool). cond x (unwritten 10 0) (writeFrom formula 0 0 cs (cardsBytes cs))) (le-ltb room (length (cardsBytes cs)) h)
+        ∙ from-there 0 (cardsBytes cs) v

@@ -1,5 +1,6 @@
--- Cards (paper 02, request 6): "Each card is four lines, each ended by one byte 10, in this order: `card=` 1 to 64 without leading zero, rising; `target=`; `expr=`; `check=` five decimal digits. The check is
--- the sum of position times byte over the whole target and expr lines with their line ends, positions from 1 through both, modulo 65521."
+-- Cards (paper 02, request 6): "Each card is four lines, each ended by one byte 10, in this order: `card=` 1 to 64 without leading zero, rising; `target=`;
+-- `expr=`; `check=` five decimal digits. The check is the sum of position times byte over the whole target and expr lines with their line ends, positions
+-- from 1 through both, modulo 65521."
 use mathlib.Core.Bool.{Bool, _&&_, cond}
 use mathlib.Core.List.{List, [], _∷_, _++_}
 use Prim.Native.Nat.{ℕ, suc, _+_, _*_, _%_}

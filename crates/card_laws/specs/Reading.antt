@@ -1,5 +1,6 @@
--- Reading a file of cards (paper 02, request 6): "refusals: 16 a line out of form or order .., 17 check differs, 18 a card number repeated or falling, in that order; then the formula's own number, target
--- included. .. The first refused card decides; its first byte is returned .. and no card is handed out." What is refused of a target and an expression is a parameter; Formulas has the real one.
+-- Reading a file of cards (paper 02, request 6): "refusals: 16 a line out of form or order .., 17 check differs, 18 a card number repeated or falling, in
+-- that order; then the formula's own number, target included. .. The first refused card decides; its first byte is returned .. and no card is handed out."
+-- What is refused of a target and an expression is a parameter; Formulas has the real one.
 use mathlib.Core.Path.{_≡_}
 use mathlib.Core.Bool.{Bool, true, false, cond}
 use mathlib.Core.List.{List, [], _∷_}

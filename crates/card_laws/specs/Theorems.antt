@@ -1,4 +1,5 @@
--- What is promised of reading and writing cards (paper 02, request 6): proofs/Theorems.antt proves this record for every judge that keeps the laws `JudgeLaws`, and for the real one.
+-- What is promised of reading and writing cards (paper 02, request 6): proofs/Theorems.antt proves this record for every judge that keeps the laws
+-- `JudgeLaws`, and for the real one.
 use mathlib.Core.Path.{_≡_}
 use mathlib.Core.Logic.{_⊎_, _↔_}
 use mathlib.Core.List.{List, [], _∷_, _++_}

@@ -1,5 +1,6 @@
--- Writing a file of cards (paper 02, request 6): "16 .. (in writing, also a byte 10 in a text)"; "In writing, 10 comes first if the book would not fit the lent buffer. The first refused card decides; its first
--- byte is returned (in writing, where it would stand)". A number outside 1 to 64 is out of form. 17 cannot arise.
+-- Writing a file of cards (paper 02, request 6): "16 .. (in writing, also a byte 10 in a text)"; "In writing, 10 comes first if the book would not fit the
+-- lent buffer. The first refused card decides; its first byte is returned (in writing, where it would stand)". A number outside 1 to 64 is out of form. 17
+-- cannot arise.
 use mathlib.Core.Bool.{Bool, _&&_, cond}
 use mathlib.Core.List.{List, [], _∷_}
 use Prim.Native.Nat.{ℕ, suc, _+_}

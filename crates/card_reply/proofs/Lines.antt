@@ -42,9 +42,16 @@ module _ (file : List ℕ) {ws ws′ : List ℕ} (e : ws ≡ ws′) where
   pub good-reply : getD ws 0 0 ≡ 0 → resultLines (getD ws 0 0) (getD ws 1 0) (getD ws 2 0) ≡ replyText file ws′
   good-reply z = rw (← e, eq-eqb (getD ws 0 0) 0 z) (sym (append-nil (resultLines (getD ws 0 0) (getD ws 1 0) (getD ws 2 0))))
 
-  pub far-reply : (getD ws 0 0 ≡ 0 → ⊥) → {p : ℕ} → p ≡ getD ws 1 0 → length file < p → resultLines (getD ws 0 0) (getD ws 1 0) (getD ws 2 0) ++ refusedLines [] (getD ws 0 0) ≡ replyText file ws′
+  pub far-reply : (getD ws 0 0 ≡ 0 → ⊥) → {p : ℕ} → p ≡ getD ws 1 0 → length file < p
+      → resultLines (getD ws 0 0) (getD ws 1 0) (getD ws 2 0) ++ refusedLines [] (getD ws 0 0) ≡ replyText file ws′
   far-reply z q h = rw (← e, ne-eqb (getD ws 0 0) 0 z, drop-of-length-le file {i = getD ws 1 0} (omega arith))
 
   pub bad-reply : (getD ws 0 0 ≡ 0 → ⊥) → {p : ℕ} → p ≡ getD ws 1 0
       → resultLines (getD ws 0 0) (getD ws 1 0) (getD ws 2 0) ++ refusedLines (take (length file - p) (drop p file)) (getD ws 0 0) ≡ replyText file ws′
-  bad-reply z q = rw (← e, q, ne-eqb (getD ws 0 0) 0 z, take-all (length file - getD ws 1 0) (drop (getD ws 1 0) file) (omega (arith, length-drop (getD ws 1 0) file)))
+  bad-reply z q = rw (
+    ← e,
+    q,
+    ne-eqb (getD ws 0 0) 0 z,
+    take-all (length file - getD ws 1 0) (drop (getD ws 1 0) file)
+        (omega (arith, length-drop (getD ws 1 0) file)),
+  )

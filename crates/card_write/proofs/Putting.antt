@@ -30,7 +30,8 @@ pub put-part : {l m : List ℕ} {at b : ℕ} {s : List ℕ} → Puts l at m b s 
 put-part {l} {m} {at} {b} {s} p h =
     let e : m ≡ take at l ++ (s ++ drop (at + length s) l) = p .bytes ∙ sets-eq s l at h ∙ append-assoc (take at l) s (drop (at + length s) l) in
     let n : b - at ≡ length s = omega (arith, p .end) in
-    ap (λ (x : List ℕ). take (b - at) (drop at x)) e ∙ ap (take (b - at)) (drop-at (take at l) (s ++ drop (at + length s) l) at (length-take-le at l (omega arith)))
+    ap (λ (x : List ℕ). take (b - at) (drop at x)) e ∙ ap (take (b - at))
+    (drop-at (take at l) (s ++ drop (at + length s) l) at (length-take-le at l (omega arith)))
     ∙ take-at s (drop (at + length s) l) (b - at) (sym n)
 
 -- ---- the lines of a card
@@ -45,7 +46,8 @@ card-of n t e ds q =
     ∙ append-assoc ((cardLine n ++ (10 ∷ [])) ++ checkedLines t e) checkKey (ds ++ 10 ∷ [])
     ∙ append-assoc (cardLine n ++ (10 ∷ [])) (checkedLines t e) (checkKey ++ (ds ++ 10 ∷ []))
     ∙ append-assoc (cardLine n) (10 ∷ []) (checkedLines t e ++ (checkKey ++ (ds ++ 10 ∷ [])))
-    ∙ ap (ended (cardLine n)) (ended-append (targetKey ++ t) (ended (exprKey ++ e) []) (ended (checkKey ++ ds) []) ∙ ap (ended (targetKey ++ t)) (ended-append (exprKey ++ e) [] (ended (checkKey ++ ds) [])))
+    ∙ ap (ended (cardLine n)) (ended-append (targetKey ++ t) (ended (exprKey ++ e) []) (ended (checkKey ++ ds) [])
+    ∙ ap (ended (targetKey ++ t)) (ended-append (exprKey ++ e) [] (ended (checkKey ++ ds) [])))
     ∙ ap (λ (k : List ℕ). ended (cardLine n) (ended (targetKey ++ t) (ended (exprKey ++ e) (ended (checkKey ++ k) [])))) q
 
 -- the digits of the lines that stand in the buffer
@@ -63,26 +65,32 @@ pub start : (texts ws : List ℕ) (n : ℕ) (old : List ℕ) → Putting texts w
 start texts ws n old = record { cards = []; put = record { bytes = refl; end = refl }; whole = first-left texts ws n }
 
 -- the next card has room
-pub room : {texts ws : List ℕ} {n : ℕ} {old now : List ℕ} {at k : ℕ} → (p : Putting texts ws n old now at k) → {g : Given} → Left texts ws n k g → length (cardsBytes (firstCards texts n ws)) ≤ length old
+pub room : {texts ws : List ℕ} {n : ℕ} {old now : List ℕ} {at k : ℕ} → (p : Putting texts ws n old now at k) → {g : Given} → Left texts ws n k g
+    → length (cardsBytes (firstCards texts n ws)) ≤ length old
     → at + length (cardBytes (CardAt texts g)) ≤ length old
 room {texts} {ws} {n} {old} {now} {at} {k} p {g} l h =
     let rest : List Card = from texts ws n (k + 1) in
     let e : length (cardsBytes (firstCards texts n ws)) ≡ length (cardsBytes (p .cards)) + (length (cardBytes (CardAt texts g)) + length (cardsBytes rest)) =
-    ap (λ (cs : List Card). length (cardsBytes cs)) (p .whole ∙ ap (λ (cs : List Card). p .cards ++ cs) (l .here)) ∙ ap length (cards-append (p .cards) (CardAt texts g ∷ rest))
-    ∙ length-append (cardsBytes (p .cards)) (cardBytes (CardAt texts g) ++ cardsBytes rest) ∙ ap (λ (n : ℕ). length (cardsBytes (p .cards)) + n) (length-append (cardBytes (CardAt texts g)) (cardsBytes rest)) in
+    ap (λ (cs : List Card). length (cardsBytes cs)) (p .whole ∙ ap (λ (cs : List Card). p .cards ++ cs) (l .here))
+    ∙ ap length (cards-append (p .cards) (CardAt texts g ∷ rest))
+    ∙ length-append (cardsBytes (p .cards)) (cardBytes (CardAt texts g) ++ cardsBytes rest)
+    ∙ ap (λ (n : ℕ). length (cardsBytes (p .cards)) + n) (length-append (cardBytes (CardAt texts g)) (cardsBytes rest)) in
     omega (arith, p .put .end)
 
-pub next : {texts ws : List ℕ} {n : ℕ} {old now new : List ℕ} {at at′ k : ℕ} → (p : Putting texts ws n old now at k) → {g : Given} → Left texts ws n k g → Puts now at new at′ (cardBytes (CardAt texts g))
+pub next : {texts ws : List ℕ} {n : ℕ} {old now new : List ℕ} {at at′ k : ℕ} → (p : Putting texts ws n old now at k) → {g : Given} → Left texts ws n k g
+    → Puts now at new at′ (cardBytes (CardAt texts g))
     → Putting texts ws n old new at′ (k + 1)
 next {texts} {ws} {n} {old} {now} {new} {at} {at′} {k} p {g} l q =
     let more : List Card = CardAt texts g ∷ [] in
     record {
       cards = p .cards ++ more;
-      put = as-text (ap (λ (s : List ℕ). cardsBytes (p .cards) ++ s) (sym (append-nil (cardBytes (CardAt texts g)))) ∙ sym (cards-append (p .cards) more)) (then (p .put) q);
+      put = as-text (ap (λ (s : List ℕ). cardsBytes (p .cards) ++ s) (sym (append-nil (cardBytes (CardAt texts g)))) ∙ sym (cards-append (p .cards) more))
+          (then (p .put) q);
       whole = p .whole ∙ ap (λ (cs : List Card). p .cards ++ cs) (l .here) ∙ sym (append-assoc (p .cards) more (from texts ws n (k + 1)));
     }
 
-pub end : {texts ws : List ℕ} {n : ℕ} {old now : List ℕ} {at k : ℕ} → (p : Putting texts ws n old now at k) → n ≤ k → now ≡ sets old 0 (cardsBytes (firstCards texts n ws))
+pub end : {texts ws : List ℕ} {n : ℕ} {old now : List ℕ} {at k : ℕ} → (p : Putting texts ws n old now at k) → n ≤ k
+    → now ≡ sets old 0 (cardsBytes (firstCards texts n ws))
 end {texts} {ws} {n} {old} {now} {at} {k} p h =
     let e : firstCards texts n ws ≡ p .cards = p .whole ∙ ap (λ (cs : List Card). p .cards ++ cs) (nothing-left texts ws n k h) ∙ append-nil (p .cards) in
     p .put .bytes ∙ ap (λ (cs : List Card). sets old 0 (cardsBytes cs)) (sym e)
@@ -110,7 +118,8 @@ module _ (out texts ws : List ℕ) where
     room-for = leb-true (length (cardsBytes (cardsIn texts ws))) (length out) (sym e)
 
     fits : Whole ≡ writeFrom formulaAnswer 0 0 (cardsIn texts ws) (cardsBytes (cardsIn texts ws))
-    fits = ap (λ (t : Bool). cond t (unwritten 10 0) (writeFrom formulaAnswer 0 0 (cardsIn texts ws) (cardsBytes (cardsIn texts ws)))) (le-ltb (length out) (length (cardsBytes (cardsIn texts ws))) room-for)
+    fits = ap (λ (t : Bool). cond t (unwritten 10 0) (writeFrom formulaAnswer 0 0 (cardsIn texts ws) (cardsBytes (cardsIn texts ws))))
+        (le-ltb (length out) (length (cardsBytes (cardsIn texts ws))) room-for)
 
     -- what is put are cards that were given, and fits
     pub few : 5 * j .cards ≤ length ws
@@ -131,17 +140,23 @@ module _ (out texts ws : List ℕ) where
         by (done s) i = omega (arith, size (ap (λ (x : Judged). x .cards) i), room-for)
         by (unwritten a p) i = omega (arith, size (ap (λ (x : Judged). x .cards) i))
 
-    pub judged-so : {new : List ℕ} → new ≡ sets out 0 (cardsBytes (firstCards texts (j .cards) ws)) → Result (record { answer = j .answer; place = j .place; length = j .length }) new
+    pub judged-so : {new : List ℕ} → new ≡ sets out 0 (cardsBytes (firstCards texts (j .cards) ws))
+        → Result (record { answer = j .answer; place = j .place; length = j .length }) new
     unfolding cardsIn
     judged-so {new} u = by (writeFrom formulaAnswer 0 0 (cardsIn texts ws) (cardsBytes (cardsIn texts ws))) refl q
       where
         put : {n : ℕ} → j .cards ≡ n → new ≡ sets out 0 (cardsBytes (firstCards texts n ws))
         put i = u ∙ ap (λ (n : ℕ). sets out 0 (cardsBytes (firstCards texts n ws))) i
 
-        words : {w : CardsWritten} → Whole ≡ w → j ≡ judgedIn (length ws / 5) w → _≡_ {A = Written} (record { answer = j .answer; place = j .place; length = j .length }) (writtenIn Whole)
+        words : {w : CardsWritten} → Whole ≡ w → j ≡ judgedIn (length ws / 5) w
+            → _≡_ {A = Written} (record { answer = j .answer; place = j .place; length = j .length }) (writtenIn Whole)
         words {w} f i = ap (λ (x : Judged). record { answer = x .answer; place = x .place; length = x .length }) i ∙ same w ∙ ap writtenIn (sym f)
           where
-            same : (w : CardsWritten) → _≡_ {A = Written} (record { answer = judgedIn (length ws / 5) w .answer; place = judgedIn (length ws / 5) w .place; length = judgedIn (length ws / 5) w .length }) (writtenIn w)
+            same : (w : CardsWritten) → _≡_ {A = Written} (record {
+              answer = judgedIn (length ws / 5) w .answer;
+              place = judgedIn (length ws / 5) w .place;
+              length = judgedIn (length ws / 5) w .length;
+            }) (writtenIn w)
             same (done s) = refl
             same (unwritten a p) = refl
 

@@ -81,12 +81,15 @@ left texts ws count k g h a =
     let d : drop 5 (drop (5 * k) ws) ≡ drop (5 * (k + 1)) ws = drop-drop 5 (5 * k) ws ∙ ap (λ (i : ℕ). drop i ws) five in
     let n : getD (drop (5 * k) ws) 0 0 ≡ g .number = getD-drop (5 * k) ws 0 0 ∙ ap (λ (i : ℕ). getD ws i 0) z ∙ sym (a .number) in
     let t : part texts (getD (drop (5 * k) ws) 1 0) (getD (drop (5 * k) ws) 2 0) ≡ take (g .t1 - g .t0) (drop (g .t0) texts) =
-    ap (λ (i : ℕ). part texts i (getD (drop (5 * k) ws) 2 0)) (getD-drop (5 * k) ws 1 0) ∙ ap (part texts (getD ws (5 * k + 1) 0)) (getD-drop (5 * k) ws 2 0) ∙ sym (a .target) in
+    ap (λ (i : ℕ). part texts i (getD (drop (5 * k) ws) 2 0)) (getD-drop (5 * k) ws 1 0)
+    ∙ ap (part texts (getD ws (5 * k + 1) 0)) (getD-drop (5 * k) ws 2 0) ∙ sym (a .target) in
     let e : part texts (getD (drop (5 * k) ws) 3 0) (getD (drop (5 * k) ws) 4 0) ≡ take (g .e1 - g .e0) (drop (g .e0) texts) =
-    ap (λ (i : ℕ). part texts i (getD (drop (5 * k) ws) 4 0)) (getD-drop (5 * k) ws 3 0) ∙ ap (part texts (getD ws (5 * k + 3) 0)) (getD-drop (5 * k) ws 4 0) ∙ sym (a .expr) in
+    ap (λ (i : ℕ). part texts i (getD (drop (5 * k) ws) 4 0)) (getD-drop (5 * k) ws 3 0)
+    ∙ ap (part texts (getD ws (5 * k + 3) 0)) (getD-drop (5 * k) ws 4 0) ∙ sym (a .expr) in
     let c : firstCard texts (drop (5 * k) ws) ≡ CardAt texts g = three n t e in
     record {
-      here = ap (λ (i : ℕ). firstCards texts i (drop (5 * k) ws)) m ∙ ap (λ (x : Card). x ∷ firstCards texts (count - (k + 1)) (drop 5 (drop (5 * k) ws))) c ∙ ap (λ (s : List ℕ). CardAt texts g ∷ firstCards texts (count - (k + 1)) s) d;
+      here = ap (λ (i : ℕ). firstCards texts i (drop (5 * k) ws)) m ∙ ap (λ (x : Card). x ∷ firstCards texts (count - (k + 1)) (drop 5 (drop (5 * k) ws))) c
+          ∙ ap (λ (s : List ℕ). CardAt texts g ∷ firstCards texts (count - (k + 1)) s) d;
       size =
           card-size (g .number) (take (g .t1 - g .t0) (drop (g .t0) texts)) (take (g .e1 - g .e0) (drop (g .e0) texts))
           ∙ omega (arith, within (g .t0) (g .t1) (a .target-order) (a .target-inside), within (g .e0) (g .e1) (a .expr-order) (a .expr-inside));
@@ -140,7 +143,11 @@ nothing-left texts ws n k h = let z : n - k ≡ 0 = omega arith in ap (λ (i : �
 
 pub room-end : {texts ws : List ℕ} {room rest k : ℕ} → Room texts ws room rest k → length ws / 5 ≤ k → true ≡ leb (length (cardsBytes (cardsIn texts ws))) room
 room-end {texts} {ws} {room} {rest} {k} r h =
-    sym (le-leb (length (cardsBytes (cardsIn texts ws))) room (omega (arith, r .total, ap (λ (cs : List Card). length (cardsBytes cs)) (nothing-left texts ws (length ws / 5) k h))))
+    sym (le-leb (length (cardsBytes (cardsIn texts ws))) room (omega (
+      arith,
+      r .total,
+      ap (λ (cs : List Card). length (cardsBytes cs)) (nothing-left texts ws (length ws / 5) k h),
+    )))
 
 -- ---- one card
 pub line-test : (s : List ℕ) {n : ℕ} → (n ≡ runLen (except 10) s) × (n ≤ length s) → eqb n (length s) ≡ lacks 10 s
@@ -190,14 +197,24 @@ pub record Judging (texts ws : List ℕ) (at last k : ℕ) : Type 0 where
 
 pub judging-start : (texts ws : List ℕ) → Judging texts ws 0 0 0
 judging-start texts ws =
-    record { cards = []; valid = none; before = refl; last-is = refl; whole = all-left texts ws; rest = λ s. ap (λ (cs : List Card). writeFrom formulaAnswer 0 0 cs s) (all-left texts ws) }
+    record {
+      cards = [];
+      valid = none;
+      before = refl;
+      last-is = refl;
+      whole = all-left texts ws;
+      rest =
+          λ s. ap (λ (cs : List Card). writeFrom formulaAnswer 0 0 cs s) (all-left texts ws);
+    }
 
 pub judging-low : {texts ws : List ℕ} {at last k : ℕ} → Judging texts ws at last k → at ≤ 133248
-judging-low g = let z : Sizes formulaAnswer judge-laws 0 (g .cards) = sizes formulaAnswer judge-laws (g .valid) in omega (arith, g .before, z .bytes, z .most (omega arith))
+judging-low g = let z : Sizes formulaAnswer judge-laws 0 (g .cards) = sizes formulaAnswer judge-laws (g .valid) in
+    omega (arith, g .before, z .bytes, z .most (omega arith))
 
 one-more : {texts ws : List ℕ} {at last k : ℕ} (j : Judging texts ws at last k) {g : Given} → Left texts ws (length ws / 5) k g → (s : List ℕ)
     → writeFrom formulaAnswer 0 0 (cardsIn texts ws) s
-    ≡ unlessHere (cardVerdict formulaAnswer last (CardAt texts g)) at (writeFrom formulaAnswer (g .number) (at + length (cardBytes (CardAt texts g))) (from texts ws (length ws / 5) (k + 1)) s)
+    ≡ unlessHere (cardVerdict formulaAnswer last (CardAt texts g)) at
+    (writeFrom formulaAnswer (g .number) (at + length (cardBytes (CardAt texts g))) (from texts ws (length ws / 5) (k + 1)) s)
 one-more {texts} {ws} {at} {last} {k} j l s = j .rest s ∙ ap (λ (cs : List Card). writeFrom formulaAnswer last at cs s) (l .here)
 
 pub refused-at : {texts ws : List ℕ} {at last k a put : ℕ} → put ≡ 0 → Judging texts ws at last k → {g : Given} → Left texts ws (length ws / 5) k g
@@ -206,16 +223,19 @@ pub refused-at : {texts ws : List ℕ} {at last k a put : ℕ} → put ≡ 0 →
 refused-at {texts} {ws} {at} {last} {k} {a} zero-put j {g} l v =
     rw zero-put
     (ap (judgedIn (length ws / 5)) (sym (one-more j l (cardsBytes (cardsIn texts ws))
-    ∙ ap (λ (x : Verdict). unlessHere x at (writeFrom formulaAnswer (g .number) (at + length (cardBytes (CardAt texts g))) (from texts ws (length ws / 5) (k + 1)) (cardsBytes (cardsIn texts ws)))) (sym v))))
+    ∙ ap (λ (x : Verdict). unlessHere x at (writeFrom formulaAnswer (g .number) (at + length (cardBytes (CardAt texts g)))
+    (from texts ws (length ws / 5) (k + 1)) (cardsBytes (cardsIn texts ws)))) (sym v))))
 
-pub judging-next : {texts ws : List ℕ} {at last k : ℕ} → (j : Judging texts ws at last k) → {g : Given} → (l : Left texts ws (length ws / 5) k g) → Fine ≡ cardVerdict formulaAnswer last (CardAt texts g) → {at′ : ℕ}
+pub judging-next : {texts ws : List ℕ} {at last k : ℕ} → (j : Judging texts ws at last k) → {g : Given} → (l : Left texts ws (length ws / 5) k g)
+    → Fine ≡ cardVerdict formulaAnswer last (CardAt texts g) → {at′ : ℕ}
     → at′ ≡ at + 32 + widthOf (g .number) + (g .t1 - g .t0) + (g .e1 - g .e0) → Judging texts ws at′ (g .number) (k + 1)
 judging-next {texts} {ws} {at} {last} {k} j {g} l v {at′} e =
     let c : Card = CardAt texts g in
     let more : List Card = c ∷ [] in
     let to : at′ ≡ at + length (cardBytes c) = omega (arith, l .size) in
     let size : length (cardsBytes more) ≡ length (cardBytes c) = ap length (append-nil (cardBytes c)) in
-    let good : GoodCard formulaAnswer (lastOf 0 (j .cards)) c = subst (λ (n : ℕ). GoodCard formulaAnswer n c) (j .last-is) (verdict-good formulaAnswer last c (sym v)) in
+    let good : GoodCard formulaAnswer (lastOf 0 (j .cards)) c = subst (λ (n : ℕ). GoodCard formulaAnswer n c) (j .last-is)
+    (verdict-good formulaAnswer last c (sym v)) in
     record {
       cards = j .cards ++ more;
       valid = valid-append formulaAnswer (j .valid) (next good none);
@@ -223,7 +243,8 @@ judging-next {texts} {ws} {at} {last} {k} j {g} l v {at′} e =
       last-is = sym (last-append 0 (j .cards) more);
       whole = j .whole ∙ ap (λ (cs : List Card). j .cards ++ cs) (l .here) ∙ sym (append-assoc (j .cards) more (from texts ws (length ws / 5) (k + 1)));
       rest = λ s. one-more j l s
-          ∙ ap (λ (x : Verdict). unlessHere x at (writeFrom formulaAnswer (g .number) (at + length (cardBytes c)) (from texts ws (length ws / 5) (k + 1)) s)) (sym v)
+          ∙ ap (λ (x : Verdict). unlessHere x at (writeFrom formulaAnswer (g .number) (at + length (cardBytes c))
+          (from texts ws (length ws / 5) (k + 1)) s)) (sym v)
           ∙ ap (λ (n : ℕ). writeFrom formulaAnswer (g .number) n (from texts ws (length ws / 5) (k + 1)) s) (sym to);
     }
 
@@ -233,7 +254,8 @@ judging-end {texts} {ws} {at} {last} {k} j h =
     let n : from texts ws (length ws / 5) k ≡ [] = nothing-left texts ws (length ws / 5) k h in
     let all-of : cardsIn texts ws ≡ j .cards = j .whole ∙ ap (λ (cs : List Card). j .cards ++ cs) n ∙ append-nil (j .cards) in
     let size : length (cardsBytes (cardsIn texts ws)) ≡ at = ap (λ (cs : List Card). length (cardsBytes cs)) all-of ∙ sym (j .before) in
-    sym (ap (judgedIn (length ws / 5)) (j .rest (cardsBytes (cardsIn texts ws)) ∙ ap (λ (cs : List Card). writeFrom formulaAnswer last at cs (cardsBytes (cardsIn texts ws))) n)
+    sym (ap (judgedIn (length ws / 5)) (j .rest (cardsBytes (cardsIn texts ws))
+    ∙ ap (λ (cs : List Card). writeFrom formulaAnswer last at cs (cardsBytes (cardsIn texts ws))) n)
     ∙ ap (λ (m : ℕ). record { answer = 0; place = 0; length = m; cards = length ws / 5 }) size)
 
 -- ---- a part as the code finds it
@@ -251,7 +273,17 @@ clip texts a n t m p q =
       inside = omega arith;
     }
 
-pub given : (texts ws : List ℕ) (k t0 m e0 l : ℕ) → Clip texts (getD ws (5 * k + 1) 0) (getD ws (5 * k + 2) 0) t0 m → Clip texts (getD ws (5 * k + 3) 0) (getD ws (5 * k + 4) 0) e0 l
+pub given : (texts ws : List ℕ) (k t0 m e0 l : ℕ) → Clip texts (getD ws (5 * k + 1) 0) (getD ws (5 * k + 2) 0) t0 m
+    → Clip texts (getD ws (5 * k + 3) 0) (getD ws (5 * k + 4) 0) e0 l
     → GivenAt texts ws k (record { number = getD ws (5 * k) 0; t0 = t0; t1 = t0 + m; e0 = e0; e1 = e0 + l })
 given texts ws k t0 m e0 l p q =
-    record { number = refl; target = p .bytes; expr = q .bytes; target-order = p .order; expr-order = q .order; target-inside = p .inside; expr-inside = q .inside }
+    record {
+      number = refl;
+      target = p .bytes;
+      expr = q .bytes;
+      target-order = p .order;
+      expr-order = q .order;
+      target-inside = p .inside;
+      expr-inside =
+          q .inside;
+    }

@@ -35,9 +35,11 @@ use Rattle.totals.specs.Numbers.{totalOps, matchOps, totalNumber, matchNumber}
 use Rattle.code.specs.declared.Instr.{Instr}
 use Rattle.code.specs.declared.Instr.the-variants.{Load, LoadIndexed, Unary, Binary, Tick, Since, Total, Match, Unknown}
 use Rattle.code.specs.Instructions.{PUSH-INT, PUSH-REAL, LOAD, LOAD-INDEXED, UNARY, BINARY, TOTAL, MATCH}
-use Rattle.code.specs.Instructions.{ifZero, finiteOnly, pushInt, pushReal, loadElement, loadIndexed, applyUnary, applyBinary, rangeBank, rangeFirst, rangeCount, overRange, ranging, applyTotal, applyMatch}
+use Rattle.code.specs.Instructions.{ifZero, finiteOnly, pushInt, pushReal, loadElement, loadIndexed, applyUnary, applyBinary, rangeBank}
+use Rattle.code.specs.Instructions.{rangeFirst, rangeCount, overRange, ranging, applyTotal, applyMatch}
 use Rattle.code.specs.Instructions.{Row, rows, page, lookup, instruction, opcodeOf, wordOf, instructionOf}
-use Rattle.code.specs.Encode.{joinWord, joinRange, codeWord, Encodable, push-int, push-real, load, load-indexed, unary, binary, jump, jump-if, push-tick, since, total, matching}
+use Rattle.code.specs.Encode.{joinWord, joinRange, codeWord, Encodable, push-int, push-real, load, load-indexed, unary, binary, jump, jump-if}
+use Rattle.code.specs.Encode.{push-tick, since, total, matching}
 use Rattle.code.proofs.Numbers.{bank-forth, unary-forth, binary-forth, total-forth, match-forth, bank-number}
 
 pub data Decodes (n : ℕ) : Instr → Type 0 where

@@ -36,11 +36,14 @@ use Rattle.totals.proofs.Laws.{total-laws}
 use Rattle.code.specs.declared.Instr.{Instr}
 use Rattle.code.specs.declared.Instr.the-variants.{PushInt, Total, Match, Unknown}
 use Rattle.code.specs.Instructions.{PUSH-INT, PUSH-REAL, JUMP, JUMP-IF-FALSE, JUMP-IF-TRUE, TICK, SINCE, LOAD, LOAD-INDEXED, UNARY, BINARY, TOTAL, MATCH}
-use Rattle.code.specs.Instructions.{finiteOnly, loadIndexed, rangeBank, rangeFirst, rangeCount, ranging, instruction, opcodeOf, wordOf, instructionOf, decodeAt}
+use Rattle.code.specs.Instructions.{finiteOnly, loadIndexed, rangeBank, rangeFirst, rangeCount, ranging, instruction, opcodeOf, wordOf}
+use Rattle.code.specs.Instructions.{instructionOf, decodeAt}
 use Rattle.code.specs.private.Classes.{ofBank, ofUnary, ofBinary, ofTotal, ofMatch}
-use Rattle.code.specs.Encode.{joinWord, joinRange, codeWord, encode, Encodable, push-int, push-real, load, load-indexed, unary, binary, jump, jump-if, push-tick, since, total, matching, EncodeLaws}
+use Rattle.code.specs.Encode.{joinWord, joinRange, codeWord, encode, Encodable, push-int, push-real, load, load-indexed, unary, binary, jump}
+use Rattle.code.specs.Encode.{jump-if, push-tick, since, total, matching, EncodeLaws}
 use Rattle.code.proofs.Finite.{finite-kept}
-use Rattle.code.proofs.Numbers.{bank-back, unary-back, binary-back, bank-below, unary-below, binary-below, total-back, match-back, total-below, match-below}
+use Rattle.code.proofs.Numbers.{bank-back, unary-back, binary-back, bank-below, unary-below, binary-below, total-back, match-back, total-below}
+use Rattle.code.proofs.Numbers.{match-below}
 use Rattle.code.proofs.Page.{load-class, indexed-class, unary-class, binary-class, total-class, match-class}
 use Rattle.code.proofs.Fetches.{eight-below}
 use Rattle.code.proofs.Parts.{decode-beyond, decode-within}

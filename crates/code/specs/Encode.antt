@@ -26,7 +26,8 @@ use Rattle.totals.specs.Totals.{goodRange}
 use Rattle.totals.specs.Numbers.{totalNumber, matchNumber}
 use Rattle.code.specs.declared.Instr.{Instr}
 use Rattle.code.specs.declared.Instr.the-variants.{PushInt, PushReal, Load, LoadIndexed, Unary, Binary, Jump, JumpIf, Tick, Since, Total, Match, Unknown}
-use Rattle.code.specs.Instructions.{PUSH-INT, PUSH-REAL, JUMP, JUMP-IF-FALSE, JUMP-IF-TRUE, TICK, SINCE, LOAD, LOAD-INDEXED, UNARY, BINARY, TOTAL, MATCH, decodeAt}
+use Rattle.code.specs.Instructions.{PUSH-INT, PUSH-REAL, JUMP, JUMP-IF-FALSE, JUMP-IF-TRUE, TICK, SINCE, LOAD, LOAD-INDEXED, UNARY, BINARY}
+use Rattle.code.specs.Instructions.{TOTAL, MATCH, decodeAt}
 
 -- the number of eight bytes, of an opcode and a word
 abbrev pub joinWord : ℕ → ℕ → ℕ

@@ -1,5 +1,5 @@
-// Checks and runs code. A line of the standard input has a name, how many instructions are meant, and the code's bytes in hexadecimal; printed are the name, what the check says (i, r or 15), how a run ends and the
-// instructions begun. tests/host/expected/codes.rs has what is expected.
+// Checks and runs code. A line of the standard input has a name, how many instructions are meant, and the code's bytes in hexadecimal; printed are the
+// name, what the check says (i, r or 15), how a run ends and the instructions begun. tests/host/expected/codes.rs has what is expected.
 ghost use Prim.Native.Nat.{_≤_};
 ghost use lib.ListN.{length};
 use libc::STDIN_FILENO;

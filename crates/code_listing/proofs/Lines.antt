@@ -105,11 +105,13 @@ module _ {old code : List ℕ} {n : ℕ} {now : List ℕ} {at place : ℕ} (p : 
   pub long : length now ≡ length old
   long = ap length (p .put .bytes) ∙ length-sets old 0 (p .text)
 
-  left-is : (m : ℕ) → linesFrom place (decodeFrom code place (suc m)) ≡ lineText place (decodeAt code place) ++ linesFrom (suc place) (decodeFrom code (suc place) m)
+  left-is : (m : ℕ) → linesFrom place (decodeFrom code place (suc m)) ≡ lineText place (decodeAt code place)
+      ++ linesFrom (suc place) (decodeFrom code (suc place) m)
   unfolding linesFrom decodeFrom
   left-is m = refl
 
-  more : (m : ℕ) → n - place ≡ suc m → (p .text ++ lineText place (decodeAt code place)) ++ linesFrom (suc place) (decodeFrom code (suc place) m) ≡ linesFrom 0 (decodeFrom code 0 n)
+  more : (m : ℕ) → n - place ≡ suc m → (p .text ++ lineText place (decodeAt code place)) ++ linesFrom (suc place) (decodeFrom code (suc place) m)
+      ≡ linesFrom 0 (decodeFrom code 0 n)
   more m e =
       append-assoc (p .text) (lineText place (decodeAt code place)) (linesFrom (suc place) (decodeFrom code (suc place) m))
       ∙ ap (λ (s : List ℕ). p .text ++ s) (sym (left-is m))
@@ -124,7 +126,8 @@ module _ {old code : List ℕ} {n : ℕ} {now : List ℕ} {at place : ℕ} (p : 
       record {
         text = p .text ++ lineText place (decodeAt code place);
         put = then (p .put) (as-text (ap (lineText place) instr) q);
-        whole = sym (ap (λ (k : ℕ). (p .text ++ lineText place (decodeAt code place)) ++ linesFrom k (decodeFrom code k (n - (place + 1)))) one) ∙ more (n - (place + 1)) m;
+        whole = sym (ap (λ (k : ℕ). (p .text ++ lineText place (decodeAt code place)) ++ linesFrom k (decodeFrom code k (n - (place + 1)))) one)
+            ∙ more (n - (place + 1)) m;
         short = omega (arith, p .short);
         inside = omega arith;
       }

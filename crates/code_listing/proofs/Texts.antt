@@ -33,7 +33,8 @@ use Rattle.code.specs.declared.Instr.{Instr}
 use Rattle.code.specs.declared.Instr.the-variants.{Load, LoadIndexed, Unary, Binary, Tick, Since, Total, Match, Unknown}
 use Rattle.code.specs.declared.Class.{Class}
 use Rattle.code.specs.declared.Class.the-variants as Class
-use Rattle.code.specs.Instructions.{finiteOnly, pushReal, loadElement, loadIndexed, rangeBank, rangeFirst, rangeCount, overRange, opcodeOf, wordOf, instructionOf}
+use Rattle.code.specs.Instructions.{finiteOnly, pushReal, loadElement, loadIndexed, rangeBank, rangeFirst, rangeCount, overRange, opcodeOf, wordOf}
+use Rattle.code.specs.Instructions.{instructionOf}
 use Rattle.code.specs.private.Classes.{classOf, ofBank, ofUnary, ofBinary, ofTotal, ofMatch, numberOf, instrIn}
 use Rattle.code.proofs.Page.{number-class}
 use Rattle.lines.specs.Printing.{cellText, letterByte}
@@ -194,11 +195,13 @@ module _ (p w : ℕ) {c : Class} (q : c ≡ classOf (opcodeOf w)) (known : Known
       text-in Class.Binary e (ap (λ (k : ℕ). rowAt k binaryNames) r ∙ binary-text p (numberOf w) (wordOf w) (known-in Class.Binary e))
 
   pub total-is : c ≡ Class.Total
-      → rowAt (numberOf w) totalNames ++ rangeOf (bankNumbered (rangeBank (wordOf w))) (rangeFirst (wordOf w)) (rangeCount (wordOf w)) ≡ instrText p (instructionOf w)
+      → rowAt (numberOf w) totalNames ++ rangeOf (bankNumbered (rangeBank (wordOf w))) (rangeFirst (wordOf w)) (rangeCount (wordOf w))
+      ≡ instrText p (instructionOf w)
   total-is e = text-in Class.Total e (total-text p (numberOf w) (wordOf w) (known-in Class.Total e))
 
   pub match-is : c ≡ Class.Match
-      → rowAt (numberOf w) matchNames ++ rangeOf (bankNumbered (rangeBank (wordOf w))) (rangeFirst (wordOf w)) (rangeCount (wordOf w)) ≡ instrText p (instructionOf w)
+      → rowAt (numberOf w) matchNames ++ rangeOf (bankNumbered (rangeBank (wordOf w))) (rangeFirst (wordOf w)) (rangeCount (wordOf w))
+      ≡ instrText p (instructionOf w)
   match-is e = text-in Class.Match e (match-text p (numberOf w) (wordOf w) (known-in Class.Match e))
 
   pub never : c ≡ Class.Unknown → ⊥

@@ -39,7 +39,8 @@ Told code j a code′ = (a ≡ codedAnswer j) × (code′ ≡ codedBytes code j)
 pub turned-down : {j : Judgement} {o o′ : List ℕ} {a p : ℕ} → j ≡ refused a p → Judged j o o′ (Refused a p)
 turned-down q = record { answer = rw q refl; code = λ t e. let z : _≡_ {A = ℕ} 0 1 = cc in absurd (omega arith) }
 
-pub taken-up : {j : Judgement} {o o′ : List ℕ} {n : ℕ} (t : Tree) → j ≡ accepted t → n ≡ length (codeOf t) → o′ ≡ putCode o 0 (codeOf t) → Judged j o o′ (Done n)
+pub taken-up : {j : Judgement} {o o′ : List ℕ} {n : ℕ} (t : Tree) → j ≡ accepted t → n ≡ length (codeOf t) → o′ ≡ putCode o 0 (codeOf t)
+    → Judged j o o′ (Done n)
 taken-up {o = o} t q l d = record { answer = rw q (ap Done l); code = λ u e. let one : t ≡ u = cc in d ∙ ap (λ (v : Tree). putCode o 0 (codeOf v)) one }
 
 -- ---- a word that was found, or 0
@@ -96,7 +97,8 @@ module _ (reals : Bool) (d : ℕ) {s o o′ : List ℕ} (h : Sized s) where
     held = go (judgeIn reals d s) refl
       where
         go : (j : Judgement) → judgeIn reals d s ≡ j → (n ≤ length o) × (n ≤ 2048)
-        go (accepted t) q = let l : Done n ≡ codedAnswer (accepted t) = x .answer ∙ ap codedAnswer q in let m : n ≡ length (codeOf t) = cc in (omega (arith, compiled d s t (accepted-full reals d s t q) .short), omega (arith, compiled d s t (accepted-full reals d s t q) .short, h .short))
+        go (accepted t) q = let l : Done n ≡ codedAnswer (accepted t) = x .answer ∙ ap codedAnswer q in let m : n ≡ length (codeOf t) = cc in
+            (omega (arith, compiled d s t (accepted-full reals d s t q) .short), omega (arith, compiled d s t (accepted-full reals d s t q) .short, h .short))
         go (refused a p) q = let l : Done n ≡ Refused a p = x .answer ∙ ap codedAnswer q in let z : _≡_ {A = ℕ} 0 1 = cc in absurd (omega arith)
 
     pub copied : (code : List ℕ) {code′ : List ℕ} → code′ ≡ sets code 0 (wordBytes (take n o′)) → Told code (judgeIn reals d s) (Done n) code′
@@ -108,7 +110,8 @@ module _ (reals : Bool) (d : ℕ) {s o o′ : List ℕ} (h : Sized s) where
             let m : n ≡ length (codeOf t) = cc in
             let fits : length (codeOf t) ≤ length o = omega (arith, held .0) in
             rw q
-            (e ∙ ap (λ (ws : List ℕ). sets code 0 (wordBytes ws)) (rw (m, x .code t q) (words-put o (codeOf t) fits)) ∙ ap (sets code 0) (words-encoded (codeOf t)))
+            (e ∙ ap (λ (ws : List ℕ). sets code 0 (wordBytes ws)) (rw (m, x .code t q) (words-put o (codeOf t) fits))
+            ∙ ap (sets code 0) (words-encoded (codeOf t)))
         go (refused a p) q = let l : Done n ≡ Refused a p = x .answer ∙ ap codedAnswer q in let z : _≡_ {A = ℕ} 0 1 = cc in absurd (omega arith)
 
   pub not-written : (code : List ℕ) {a p : ℕ} → Judged (judgeIn reals d s) o o′ (Refused a p) → Told code (judgeIn reals d s) (Refused a p) code

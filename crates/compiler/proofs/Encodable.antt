@@ -28,7 +28,8 @@ use Rattle.code.specs.Encode.{Encodable, push-int, push-real, load, load-indexe
 use Rattle.grammar.specs.Tree as Tree
 use Rattle.grammar.specs.Tree.{Tree, literal, cell, indexed, logic, choice, tick, treeKind}
 use Rattle.grammar.specs.Symbols.{Callee, of-one, of-two, of-choice, of-since, Arguments, argument, callTree}
-use Rattle.grammar.specs.Grammar.{Derives, number, name, index, parenthesis, call, Range, range, clocked, totalled, tested, prefixed, up, infixed, last, next, Formula}
+use Rattle.grammar.specs.Grammar.{Derives, number, name, index, parenthesis, call, Range, range, clocked, totalled, tested, prefixed, up, infixed}
+use Rattle.grammar.specs.Grammar.{last, next, Formula}
 use Rattle.tree_code.specs.Code.{pushBool, truthTail, branchTail, branchTailSkip, codeOf}
 use Rattle.compiler.proofs.Each.{Each, none, some, each-append, each-first, each-rest, each-front, each-back}
 use Rattle.compiler.proofs.Scanned.{AllKnown}
@@ -45,7 +46,8 @@ follows : (c d : List Instr) → Short c → Short d → Short (c ++ d)
 follows c d f g l = each-append (f (omega (arith, length-append c d))) (g (omega (arith, length-append c d)))
 
 -- a jump over the piece c, and n instructions more
-leap : (i : ℕ → Instr) → ((k : ℕ) → k < 2 ^ 32 → Encodable (i k)) → (n : ℕ) → n ≤ 3 → (c d : List Instr) → Short c → Short d → Short (i (length c + n) ∷ (c ++ d))
+leap : (i : ℕ → Instr) → ((k : ℕ) → k < 2 ^ 32 → Encodable (i k)) → (n : ℕ) → n ≤ 3 → (c d : List Instr) → Short c → Short d
+    → Short (i (length c + n) ∷ (c ++ d))
 leap i e n h c d f g l = some (e (length c + n) (omega (arith, length-append c d))) (follows c d f g (omega arith))
 
 bool : (b : Bool) → Encodable (pushBool b)
@@ -145,7 +147,8 @@ fits d = elim d as (λ l w t d. AllKnown w → Fits t) (λ m w ts a. AllKnown w 
   | call {c = c} {p} {ts = ts} q (a → g) ↦ λ e. on-call c p ts (g (each-rest (each-rest e)))
   | clocked r q ↦ λ e. on-tick
   | totalled {o = o} q x ↦ λ e. on-total o x (each-rest (each-rest e))
-  | tested {o = o} c {w = w} {t = t} q (d → f) x ↦ λ e. on-matching o t x (each-rest (each-back w _ (each-rest (each-rest e)))) (f (each-front w _ (each-rest (each-rest e))))
+  | tested {o = o} c {w = w} {t = t} q (d → f) x ↦ λ e. on-matching o t x (each-rest (each-back w _ (each-rest (each-rest e))))
+      (f (each-front w _ (each-rest (each-rest e))))
   | prefixed {p = p} {o = o} {t = t} q (d → f) ↦ λ e. on-unary p o t (f (each-rest e))
   | up (d → f) ↦ f
   | infixed n p {w} {t = t} {u = u} q (d → f) (d′ → g) ↦ λ e. on-infix (infix-node n p t u) (f (each-front w _ e)) (g (each-rest (each-back w _ e)))

@@ -32,7 +32,8 @@ lexemes s at (x ∷ w) q = by (lexemeAt s at) refl (λ e. lexemes s e w)
     ended : rest s at ≡ tokens [] → Lexemes s at (x ∷ w)
     ended r = let z : _≡_ {A = ℕ} 0 1 = cc in absurd (omega arith)
 
-    onward : (t : Token) (p e : ℕ) → lexemeAt s at ≡ Found t p e → (r : Scan) → rest s e ≡ r → rest s at ≡ consToken (tok t p) r → (rest s e ≡ tokens w → Lexemes s e w) → Lexemes s at (x ∷ w)
+    onward : (t : Token) (p e : ℕ) → lexemeAt s at ≡ Found t p e → (r : Scan) → rest s e ≡ r → rest s at ≡ consToken (tok t p) r
+        → (rest s e ≡ tokens w → Lexemes s e w) → Lexemes s at (x ∷ w)
     onward t p e m (tokens v) c d ih =
         let first : tok t p ≡ x = cc in
         let others : rest s e ≡ tokens w = cc in

@@ -1,5 +1,6 @@
--- What compiling does (paper 01): "compiling, with a code buffer under 16,384 bytes" is 10, before the text is looked at; "1 to 10 .. change nothing"; "Compile alone returns .. the number of instructions"; "code bytes past the last
--- instruction keep what they held". proofs/Theorems.antt proves `CompileTheorems`.
+-- What compiling does (paper 01): "compiling, with a code buffer under 16,384 bytes" is 10, before the text is looked at; "1 to 10 .. change nothing";
+-- "Compile alone returns .. the number of instructions"; "code bytes past the last instruction keep what they held". proofs/Theorems.antt proves
+-- `CompileTheorems`.
 use mathlib.Core.Path.{_≡_}
 use mathlib.Core.Bool.{Bool, cond}
 use mathlib.Core.List.{List, [], _∷_, _++_}
@@ -51,7 +52,8 @@ codedBytes code (refused a p) = code
 -- with d brackets open before the text
 pub record CompileTheoremsFrom (d : ℕ) : Type 0 where
   -- the instructions in the buffer, in the number returned, are the code of the formula's tree
-  pub there : (s code : List ℕ) (t : Tree) → judgeFrom d s ≡ accepted t → 16384 ≤ length code → instructions (codedBytes code (accepted t)) (length (codeOf t)) ≡ codeOf t
+  pub there : (s code : List ℕ) (t : Tree) → judgeFrom d s ≡ accepted t → 16384 ≤ length code
+      → instructions (codedBytes code (accepted t)) (length (codeOf t)) ≡ codeOf t
   -- demand 3 of an accepted text
   pub demand : (s : List ℕ) (t : Tree) → judgeFrom d s ≡ accepted t → Compiled t (length s)
 

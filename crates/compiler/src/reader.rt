@@ -1,6 +1,6 @@
-// One pass over a table of tokens: the grammar, the nesting, the kinds and the code. No tree is built. Recursion goes as deep as brackets nest, times the groups of operators; a chain of operators, unary
-// or binary, is a loop. The code goes into a draft, since a text may be refused at its last token. Each function takes the position in the table, `at`, and the place in the draft, `pc`, and `room`
-// for so many brackets more.
+// One pass over a table of tokens: the grammar, the nesting, the kinds and the code. No tree is built. Recursion goes as deep as brackets nest, times the
+// groups of operators; a chain of operators, unary or binary, is a loop. The code goes into a draft, since a text may be refused at its last token. Each
+// function takes the position in the table, `at`, and the place in the draft, `pc`, and `room` for so many brackets more.
 ghost use mathlib.Core.Path.{_≡_};
 ghost use mathlib.Core.Bool.{true};
 ghost use mathlib.Core.List.{List};
@@ -52,7 +52,8 @@ fn signed(table: &[u64], draft: &mut [u64], at: usize, first: usize, inner: u64)
 // The parenthesis behind no arguments: the tick.
 fn clock(table: &[u64], draft: &mut [u64], at: usize, pc: usize) -> u64
     requires { ⌜ Fits (now table) at pc ⌝ }
-    ensures { λ r. ⌜ ReaderAgrees (λ n ts. expect closeParen ts (λ q. ok tick q)) 4 (now (table .entry)) at pc (now (draft .entry)) (now (draft .exit)) (readOf r) ⌝ }
+    ensures { λ r. ⌜ ReaderAgrees (λ n ts. expect closeParen ts (λ q. ok tick q)) 4 (now (table .entry)) at pc (now (draft .entry)) (now (draft .exit))
+        (readOf r) ⌝ }
 {
     if ahead::expected(table, at, symbols::CLOSE) {
         return draft::ticked(draft, at + 1, pc);
@@ -63,7 +64,8 @@ fn clock(table: &[u64], draft: &mut [u64], at: usize, pc: usize) -> u64
 // A number or a cell that is the whole right side of an operator of the group g: what `expression` reads there, whatever the room.
 fn alone(table: &[u64], draft: &mut [u64], at: usize, pc: usize, g: u8) -> u64
     requires { ⌜ Fits (now table) at pc × (isAlone (now table) at g ≡ true) × (1 ≤ g) ⌝ }
-    ensures { λ r. ⌜ ((room : ℕ) → ReaderAgrees (λ f ts. expression f room (g - 1) ts) 3 (now (table .entry)) at pc (now (draft .entry)) (now (draft .exit)) (readOf r)) ⌝ }
+    ensures { λ r. ⌜ ((room : ℕ) → ReaderAgrees (λ f ts. expression f room (g - 1) ts) 3 (now (table .entry)) at pc (now (draft .entry)) (now (draft .exit))
+        (readOf r)) ⌝ }
     ensures { λ r. ⌜ isDone (readOf r) ≡ true ⌝ }
 {
     draft::leaf(draft, token_table::word_at(table, at), at, pc)
@@ -145,7 +147,8 @@ fn primary(table: &[u64], draft: &mut [u64], at: usize, pc: usize, room: u8) -> 
 // enclosed: expression closer. An argument, or what a bracket encloses, with the symbol behind it.
 fn enclosed(table: &[u64], draft: &mut [u64], at: usize, pc: usize, room: u8, closer: u8) -> u64
     requires { ⌜ Fits (now table) at pc ⌝ }
-    ensures { λ r. ⌜ ReaderAgrees (λ f ts. thenSymbol closer (expression f room loosest ts)) 3 (now (table .entry)) at pc (now (draft .entry)) (now (draft .exit)) (readOf r) ⌝ }
+    ensures { λ r. ⌜ ReaderAgrees (λ f ts. thenSymbol closer (expression f room loosest ts)) 3 (now (table .entry)) at pc (now (draft .entry))
+        (now (draft .exit)) (readOf r) ⌝ }
 {
     let inner = expression(table, draft, at, pc, room, LOOSEST);
     if !results::is_done(inner) {
@@ -169,7 +172,8 @@ fn bracket(
     closer: u8,
 ) -> u64
     requires { ⌜ Fits (now table) at pc ⌝ }
-    ensures { λ r. ⌜ ReaderAgrees (λ f ts. enter room opener ts (λ e q. bracket f e closer q)) 0 (now (table .entry)) at pc (now (draft .entry)) (now (draft .exit)) (readOf r) ⌝ }
+    ensures { λ r. ⌜ ReaderAgrees (λ f ts. enter room opener ts (λ e q. bracket f e closer q)) 0 (now (table .entry)) at pc (now (draft .entry))
+        (now (draft .exit)) (readOf r) ⌝ }
 {
     if !ahead::expected(table, at, opener) {
         return results::bad(at);
@@ -183,7 +187,8 @@ fn bracket(
 // call: ( arguments ), of the function whose word is w
 fn call(table: &[u64], draft: &mut [u64], at: usize, pc: usize, room: u8, w: u64) -> u64
     requires { ⌜ Fits (now table) at pc ⌝ }
-    ensures { λ r. ⌜ ReaderAgrees (λ n ts. callOf (functionAt (wordOperand w)) (wordPlace w) room n ts) 0 (now (table .entry)) at pc (now (draft .entry)) (now (draft .exit)) (readOf r) ⌝ }
+    ensures { λ r. ⌜ ReaderAgrees (λ n ts. callOf (functionAt (wordOperand w)) (wordPlace w) room n ts) 0 (now (table .entry)) at pc (now (draft .entry))
+        (now (draft .exit)) (readOf r) ⌝ }
 {
     if !ahead::expected(table, at, symbols::OPEN) {
         return results::bad(at);
@@ -289,7 +294,8 @@ fn room_behind(opened: u8) -> u8
 // The whole table, of a text of `size` bytes behind so many open brackets: an expression, and nothing after it.
 pub fn formula(table: &[u64], draft: &mut [u64], size: usize, opened: u8) -> Coded
     requires { ⌜ Fits (now table) 0 0 ⌝ }
-    ensures { λ r. ⌜ ((s : List ℕ) → length s ≡ size → Judged (judgeParse s (parseFrom opened (listed (now (table .entry))))) (now (draft .entry)) (now (draft .exit)) r) ⌝ }
+    ensures { λ r. ⌜ ((s : List ℕ) → length s ≡ size → Judged (judgeParse s (parseFrom opened (listed (now (table .entry))))) (now (draft .entry))
+        (now (draft .exit)) r) ⌝ }
 {
     let whole = expression(table, draft, 0, 0, room_behind(opened), LOOSEST);
     let at = results::next_of(whole);

@@ -61,7 +61,8 @@ take-put s p (i ∷ c) h =
     let room : suc p + length c ≤ length (putInstr s p i) = omega (arith, length-set s p (codeWord i)) in
     let here : p < length s = omega arith in
     rw e
-    (take-put (putInstr s p i) (suc p) c room ∙ ap (λ l. l ++ codeWords c) (take-suc-set s p (codeWord i) here) ∙ append-assoc (take p s) (codeWord i ∷ []) (codeWords c))
+    (take-put (putInstr s p i) (suc p) c room ∙ ap (λ l. l ++ codeWords c) (take-suc-set s p (codeWord i) here)
+    ∙ append-assoc (take p s) (codeWord i ∷ []) (codeWords c))
 
 pub words-put : (s : List ℕ) (c : List Instr) → length c ≤ length s → take (length c) (putCode s 0 c) ≡ codeWords c
 words-put s c h =

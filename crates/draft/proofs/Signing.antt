@@ -27,7 +27,8 @@ module _ {s o : List ℕ} {first r : ℕ} where
   signed-none d = record { done = d; end = refl; under = none }
 
   pub signed-more : {o′ o″ : List ℕ} {i k w r′ r″ : ℕ} → i ≡ suc k → Signed s first o r i o′ r′ → w ≡ wordAt s k
-      → readOf r″ ≡ Done (readNext r′) (readEnd r′ + 1) (unaryKind (unaryAt (prefixNumber w)) (readKind r′)) (earlier (unless (unaryTakes (unaryAt (prefixNumber w)) (readKind r′)) (wrongKindAt (wordPlace w))) (readWrong r′))
+      → readOf r″ ≡ Done (readNext r′) (readEnd r′ + 1) (unaryKind (unaryAt (prefixNumber w)) (readKind r′))
+      (earlier (unless (unaryTakes (unaryAt (prefixNumber w)) (readKind r′)) (wrongKindAt (wordPlace w))) (readWrong r′))
       → o″ ≡ putInstr o′ (readEnd r′) (Unary (unaryAt (prefixNumber w))) → Signed s first o r k o″ r″
   signed-more {o′} {r′ = r′} {r″} e x v p q =
       let u = subst (λ n. Unaries s first o (readOf r) n o′ (readOf r′)) e (x .under) in

@@ -44,7 +44,8 @@ pub bank-kind : (n : ℕ) → n < 6 → {m r : ℕ} → m ≡ n → r ≡ bankTy
 bank-kind n h e q = rw (q, e, lt-ltb n 6 h) (number-kind (bankKind (bankAt n)), kind-small (bankKind (bankAt n)))
 
 -- ---- what operators make of kinds
-pub unary-typed : (n : ℕ) → n < 8 → {m r : ℕ} {j k : Kind} → m ≡ n → j ≡ k → r ≡ unaryTyped (unaryOf m) j → (ltb r 2 ≡ unaryTakes (unaryAt n) k) × (numberKind (r % 2) ≡ unaryKind (unaryAt n) k)
+pub unary-typed : (n : ℕ) → n < 8 → {m r : ℕ} {j k : Kind} → m ≡ n → j ≡ k → r ≡ unaryTyped (unaryOf m) j
+    → (ltb r 2 ≡ unaryTakes (unaryAt n) k) × (numberKind (r % 2) ≡ unaryKind (unaryAt n) k)
 unary-typed n h {k = k} e d q =
     let o = unaryAt n in
     rw (q, e, d, lt-ltb n 8 h) (typed-taken (unaryTakes o k) (unaryKind o k), typed-kind (unaryTakes o k) (unaryKind o k))
@@ -61,11 +62,21 @@ pub binary-typed : (n : ℕ) → n < 20 → {m r : ℕ} {i j k l : Kind} → m �
     → (ltb r 2 ≡ binaryTakes (binaryAt n) k l) × (numberKind (r % 2) ≡ binaryKind (binaryAt n) k l)
 binary-typed n h {k = k} {l} e d b q =
     let o = binaryAt n in
-    rw (q, e, d, b, lt-ltb n 20 h, same-default binaryOps (B.Arith Add) B.Power n h) (typed-taken (binaryTakes o k l) (binaryKind o k l), typed-kind (binaryTakes o k l) (binaryKind o k l))
+    rw (q, e, d, b, lt-ltb n 20 h, same-default binaryOps (B.Arith Add) B.Power n h)
+    (typed-taken (binaryTakes o k l) (binaryKind o k l), typed-kind (binaryTakes o k l) (binaryKind o k l))
 
 -- ---- the operators of functions
 unary-below : (o : UnaryOp) → unaryNumber o < 8
-unary-below o = elim o [ U.Neg ↦ lit< tt | U.Complement ↦ lit< tt | U.Not ↦ lit< tt | U.Abs ↦ lit< tt | U.ToReal ↦ lit< tt | U.Trunc ↦ lit< tt | U.Round ↦ lit< tt | U.Frac ↦ lit< tt ]
+unary-below o = elim o [
+  | U.Neg ↦ lit< tt
+  | U.Complement ↦ lit< tt
+  | U.Not ↦ lit< tt
+  | U.Abs ↦ lit< tt
+  | U.ToReal ↦ lit< tt
+  | U.Trunc ↦ lit< tt
+  | U.Round ↦ lit< tt
+  | U.Frac ↦ lit< tt
+]
 
 binary-below : (o : BinaryOp) → binaryNumber o < 20
 binary-below B.Power = lit< tt

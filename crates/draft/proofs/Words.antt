@@ -24,15 +24,18 @@ module _ (s : List ℕ) (j k : ℕ) where
 
   -- the jump over the right side of && (d is 0) or || (d is 1), and what makes 0 or 1 of it
   settle-row : (d : ℕ) → d < 2 → j < k
-      → set (set (set (set (set s j (joinWord (JUMP-IF-FALSE + d) (k - j + 2))) k (joinWord (JUMP-IF-FALSE + d) 2)) (k + 1) (joinWord PUSH-INT (1 - d))) (k + 2) (joinWord JUMP 1)) (k + 3) (joinWord PUSH-INT d)
+      → set (set (set (set (set s j (joinWord (JUMP-IF-FALSE + d) (k - j + 2))) k (joinWord (JUMP-IF-FALSE + d) 2)) (k + 1) (joinWord PUSH-INT (1 - d)))
+      (k + 2) (joinWord JUMP 1)) (k + 3) (joinWord PUSH-INT d)
       ≡ settledCode s j k (eqb d 1)
   unfolding putCode
   settle-row zero h l = rw (skipping l, add-one k, add-two k, add-three k)
   settle-row (suc zero) h l = rw (skipping l, add-one k, add-two k, add-three k)
   settle-row (suc (suc d)) h l = absurd (omega arith)
 
-  pub settle-way : {d : ℕ} {s₁ s₂ s₃ s₄ s₅ : List ℕ} → d < 2 → j < k → s₁ ≡ set s j (joinWord (JUMP-IF-FALSE + d) (k - j + 2)) → s₂ ≡ set s₁ k (joinWord (JUMP-IF-FALSE + d) 2)
-      → s₃ ≡ set s₂ (k + 1) (joinWord PUSH-INT (1 - d)) → s₄ ≡ set s₃ (k + 2) (joinWord JUMP 1) → s₅ ≡ set s₄ (k + 3) (joinWord PUSH-INT d) → s₅ ≡ settledCode s j k (eqb d 1)
+  pub settle-way : {d : ℕ} {s₁ s₂ s₃ s₄ s₅ : List ℕ} → d < 2 → j < k → s₁ ≡ set s j (joinWord (JUMP-IF-FALSE + d) (k - j + 2))
+      → s₂ ≡ set s₁ k (joinWord (JUMP-IF-FALSE + d) 2)
+      → s₃ ≡ set s₂ (k + 1) (joinWord PUSH-INT (1 - d)) → s₄ ≡ set s₃ (k + 2) (joinWord JUMP 1) → s₅ ≡ set s₄ (k + 3) (joinWord PUSH-INT d)
+      → s₅ ≡ settledCode s j k (eqb d 1)
   settle-way {d} h l a b c e f = cc (settle-row d h l)
 
 -- what promotes a branch, by the kinds' numbers
@@ -55,7 +58,8 @@ module _ (s : List ℕ) (k : ℕ) where
       let o : b ≡ 1 = omega arith in
       rw (ap numberKind z, ap numberKind o) (refl, cc (add-one k))
 
-  pub promoted-one : {a b : ℕ} {s₁ : List ℕ} → a ≢ 0 → a ≢ b → a < 2 → b < 2 → s₁ ≡ set s k (joinWord (UNARY + 4) 0) → Promoted (numberKind a) (numberKind b) (k + 1) s₁
+  pub promoted-one : {a b : ℕ} {s₁ : List ℕ} → a ≢ 0 → a ≢ b → a < 2 → b < 2 → s₁ ≡ set s k (joinWord (UNARY + 4) 0)
+      → Promoted (numberKind a) (numberKind b) (k + 1) s₁
   unfolding putCode
   promoted-one {a} {b} z n h l p =
       let o : a ≡ 1 = omega arith in

@@ -1,4 +1,5 @@
-// Instructions as words, written into a draft: what follows the parts of a formula. A jump is filled in when what it skips has been written; nothing is written behind the draft's end.
+// Instructions as words, written into a draft: what follows the parts of a formula. A jump is filled in when what it skips has been written; nothing is
+// written behind the draft's end.
 ghost use mathlib.Core.Path.{_≡_};
 ghost use mathlib.Core.Bool.{false};
 ghost use Prim.Native.Nat.{_+_, _-_, _<_, _≤_};
@@ -96,7 +97,8 @@ pub fn ticked(draft: &mut [u64], next: usize, pc: usize) -> u64
 // A unary operator before an operand. Most are a minus, which takes either kind and keeps it.
 pub fn prefixed(draft: &mut [u64], w: u64, inner: u64) -> u64
     requires { ⌜ (prefixNumber w < 3) × (readEnd inner < 65535) ⌝ }
-    ensures { λ r. ⌜ readOf r ≡ Done (readNext inner) (readEnd inner + 1) (unaryKind (unaryAt (prefixNumber w)) (readKind inner)) (earlier (unless (unaryTakes (unaryAt (prefixNumber w)) (readKind inner)) (wrongKindAt (wordPlace w))) (readWrong inner)) ⌝ }
+    ensures { λ r. ⌜ readOf r ≡ Done (readNext inner) (readEnd inner + 1) (unaryKind (unaryAt (prefixNumber w)) (readKind inner))
+        (earlier (unless (unaryTakes (unaryAt (prefixNumber w)) (readKind inner)) (wrongKindAt (wordPlace w))) (readWrong inner)) ⌝ }
     ensures { λ r. ⌜ now (draft .exit) ≡ putInstr (now (draft .entry)) (readEnd inner) (Unary (unaryAt (prefixNumber w))) ⌝ }
 {
     let sign = ahead::sign_of(w);
@@ -136,7 +138,8 @@ pub fn applied(draft: &mut [u64], f: u8, first: u64) -> u64
 // SINCE, whose word is w, of its argument.
 pub fn since(draft: &mut [u64], w: u64, first: u64) -> u64
     requires { ⌜ readEnd first < 65535 ⌝ }
-    ensures { λ r. ⌜ readOf r ≡ Done (readNext first) (readEnd first + 1) Int (earlier (unless (isInt (readKind first)) (wrongKindAt (wordPlace w))) (readWrong first)) ⌝ }
+    ensures { λ r. ⌜ readOf r ≡ Done (readNext first) (readEnd first + 1) Int
+        (earlier (unless (isInt (readKind first)) (wrongKindAt (wordPlace w))) (readWrong first)) ⌝ }
     ensures { λ r. ⌜ now (draft .exit) ≡ putInstr (now (draft .entry)) (readEnd first) Since ⌝ }
 {
     let kind = kinds::of_integer(results::kind_of(first));
@@ -148,7 +151,8 @@ pub fn since(draft: &mut [u64], w: u64, first: u64) -> u64
 // A function of two arguments.
 pub fn paired(draft: &mut [u64], f: u8, first: u64, second: u64) -> u64
     requires { ⌜ (functionForm f ≡ 2) × (readEnd second < 65535) ⌝ }
-    ensures { λ r. ⌜ readOf r ≡ Done (readNext second) (readEnd second + 1) (binaryKind (functionPair f) (readKind first) (readKind second)) (earlier (readWrong first) (readWrong second)) ⌝ }
+    ensures { λ r. ⌜ readOf r ≡ Done (readNext second) (readEnd second + 1) (binaryKind (functionPair f) (readKind first) (readKind second))
+        (earlier (readWrong first) (readWrong second)) ⌝ }
     ensures { λ r. ⌜ now (draft .exit) ≡ putInstr (now (draft .entry)) (readEnd second) (Binary (functionPair f)) ⌝ }
 {
     let op = functions::operator(f) as u32;
@@ -179,7 +183,9 @@ fn settle(draft: &mut [u64], j: usize, k: usize, d: u32)
 // What follows the sides of a binary operator, whose word is w.
 pub fn joined(draft: &mut [u64], w: u64, left: u64, right: u64) -> u64
     requires { ⌜ (wordOperand w < 20) × (readEnd left + reserved (wordOperand w) ≤ readEnd right) × (readEnd right < 65000) ⌝ }
-    ensures { λ r. ⌜ readOf r ≡ Done (readNext right) (joinedEnd (wordOperand w) (readEnd right)) (infixKind (wordOperand w) (readKind left) (readKind right)) (earlier (infixWrong (wordOperand w) (wordPlace w) (readKind left) (readKind right)) (earlier (readWrong left) (readWrong right))) ⌝ }
+    ensures { λ r. ⌜ readOf r ≡ Done (readNext right) (joinedEnd (wordOperand w) (readEnd right))
+        (infixKind (wordOperand w) (readKind left) (readKind right)) (earlier (infixWrong (wordOperand w) (wordPlace w) (readKind left) (readKind right))
+        (earlier (readWrong left) (readWrong right))) ⌝ }
     ensures { λ r. ⌜ now (draft .exit) ≡ joinedCode (now (draft .entry)) (wordOperand w) (readEnd left) (readEnd right) ⌝ }
 {
     let n = token_table::operand_of(w);
@@ -240,7 +246,8 @@ pub fn decided(draft: &mut [u64], condition: u64, first: u64)
 // After the branches of IF: the jump from the first over the second.
 pub fn chosen(draft: &mut [u64], condition: u64, first: u64, second: u64) -> u64
     requires { ⌜ (readEnd first < readEnd second) × (readEnd second < 65000) ⌝ }
-    ensures { λ r. ⌜ readOf r ≡ Done (readNext second) (readEnd second + length (branchTail (readKind first) (readKind second))) (join (readKind first) (readKind second)) (earlier (readWrong condition) (earlier (readWrong first) (readWrong second))) ⌝ }
+    ensures { λ r. ⌜ readOf r ≡ Done (readNext second) (readEnd second + length (branchTail (readKind first) (readKind second)))
+        (join (readKind first) (readKind second)) (earlier (readWrong condition) (earlier (readWrong first) (readWrong second))) ⌝ }
     ensures { λ r. ⌜ now (draft .exit) ≡ chosenCode (now (draft .entry)) (readEnd first) (readEnd second) (readKind first) (readKind second) ⌝ }
 {
     let j = results::end_of(first);

@@ -47,7 +47,8 @@ fn range_wrong(first: u64, count: u64) -> u64
 pub fn totalled(draft: &mut [u64], f: u8, first: u64, count: u64, next: usize, pc: usize) -> u64
     requires { ⌜ (functionForm f ≡ 6) × CellWord first × (next < 65536) × (pc < 65535) ⌝ }
     ensures { λ r. ⌜ readOf r ≡ Done next (pc + 1) (totalKind (functionTotal f) (cellBank first)) (rangeWrong first count) ⌝ }
-    ensures { λ r. ⌜ now (draft .exit) ≡ putInstr (now (draft .entry)) pc (Total (functionTotal f) (cellBank first) (wordNumber first) (rangeSpan first count)) ⌝ }
+    ensures { λ r. ⌜ now (draft .exit) ≡ putInstr (now (draft .entry)) pc
+        (Total (functionTotal f) (cellBank first) (wordNumber first) (rangeSpan first count)) ⌝ }
 {
     let op = functions::operator(f) as u32;
     crate::put(draft, pc, TOTAL + op, range_word(first, count));
@@ -58,8 +59,10 @@ pub fn totalled(draft: &mut [u64], f: u8, first: u64, count: u64, next: usize, p
 // A total over the cells of the range that match a value, which was read before it.
 pub fn matched(draft: &mut [u64], f: u8, first: u64, count: u64, next: usize, value: u64) -> u64
     requires { ⌜ (functionForm f ≡ 7) × CellWord first × (next < 65536) × (readEnd value < 65535) ⌝ }
-    ensures { λ r. ⌜ readOf r ≡ Done next (readEnd value + 1) (matchKind (functionMatch f) (cellBank first)) (earlier (rangeWrong first count) (readWrong value)) ⌝ }
-    ensures { λ r. ⌜ now (draft .exit) ≡ putInstr (now (draft .entry)) (readEnd value) (Match (functionMatch f) (cellBank first) (wordNumber first) (rangeSpan first count)) ⌝ }
+    ensures { λ r. ⌜ readOf r ≡ Done next (readEnd value + 1) (matchKind (functionMatch f) (cellBank first))
+        (earlier (rangeWrong first count) (readWrong value)) ⌝ }
+    ensures { λ r. ⌜ now (draft .exit) ≡ putInstr (now (draft .entry)) (readEnd value)
+        (Match (functionMatch f) (cellBank first) (wordNumber first) (rangeSpan first count)) ⌝ }
 {
     let op = functions::operator(f) as u32;
     let pc = results::end_of(value);

@@ -1,4 +1,5 @@
-// What reading returns, in one word: structs and enums are returned through memory, which costs more than the packing. specs/private/Results.antt says which bits are which.
+// What reading returns, in one word: structs and enums are returned through memory, which costs more than the packing. specs/private/Results.antt says
+// which bits are which.
 ghost use mathlib.Core.Path.{_≡_};
 ghost use Prim.Native.Nat.{_<_};
 ghost use Rattle.operators.specs.Kinds.{numberKind};

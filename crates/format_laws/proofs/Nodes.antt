@@ -18,8 +18,11 @@ use Rattle.tokens.specs.declared.Function.the-variants.{Abs, ToReal, ToInt, Tru
 use Rattle.tokens.specs.Symbols.{symbolCount}
 use Rattle.tokens.proofs.Below.{below, below-at}
 use Rattle.grammar.specs.Tree.{Tree, unary, binary, logic, choice, since}
-use Rattle.grammar.specs.Symbols.{groups, groupNumber, loosest, minus, tilde, bang, prefixSymbol, is, none, infixTree, Arguments, one, more, Callee, of-one, of-two, of-choice, of-since, plain, formOf, moreArguments, callTree}
-use Rattle.format_laws.specs.Formatted.{lexeme, Notation, symbol, function, unaryNotation, binaryNotation, logicSymbol, notationGroup, top, prefixText, infixText, callText, unaryText, binaryText, formatted, withoutPlaces, namedBefore, spellings}
+use Rattle.grammar.specs.Symbols.{groups, groupNumber, loosest, minus, tilde, bang, prefixSymbol, is, none, infixTree, Arguments, one, more, Callee}
+use Rattle.grammar.specs.Symbols.{of-one, of-two, of-choice, of-since, plain, formOf, moreArguments, callTree}
+use Rattle.format_laws.specs.Formatted.{lexeme, Notation, symbol, function, unaryNotation, binaryNotation, logicSymbol, notationGroup, top}
+use Rattle.format_laws.specs.Formatted.{prefixText, infixText, callText, unaryText, binaryText, formatted, withoutPlaces, namedBefore}
+use Rattle.format_laws.specs.Formatted.{spellings}
 
 -- ---- infix operators, by computing the table of symbols
 is-symbol : ℕ → Notation → Bool

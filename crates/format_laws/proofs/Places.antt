@@ -11,7 +11,8 @@ use Rattle.operators.specs.Kinds.{isInt, join, unaryKind, unaryTakes, binaryKin
 use Rattle.operators.specs.Operators.{unaryRule, sinceRule, binaryRule, truthRule, branchRule}
 use Rattle.memory.specs.Environment.{Environment, indexedCell}
 use Rattle.totals.specs.Totals.{then, matchOver, spanOf, goodCount}
-use Rattle.grammar.specs.Tree.{Tree, literal, cell, indexed, unary, binary, logic, choice, tick, since, total, matching, treeKind, Diagnostic, clear, at, precedes, earlier, unless, diagnosticOf}
+use Rattle.grammar.specs.Tree.{Tree, literal, cell, indexed, unary, binary, logic, choice, tick, since, total, matching, treeKind, Diagnostic, clear}
+use Rattle.grammar.specs.Tree.{at, precedes, earlier, unless, diagnosticOf}
 use Rattle.grammar.specs.Eval.{shortCircuit, eval}
 use Rattle.code.specs.declared.Instr.{Instr}
 use Rattle.code.specs.declared.Instr.the-variants.{LoadIndexed, Unary, Binary, JumpIf, Jump, Since, Match}

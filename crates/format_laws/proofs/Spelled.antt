@@ -7,7 +7,8 @@ use Rattle.tokens.specs.declared.Function.the-variants.{TickMs, Total, Match}
 use Rattle.tokens.specs.Words.{nameOf}
 use Rattle.grammar.specs.Tree.{Tree, literal, cell, indexed, unary, binary, logic, choice, tick, since, total, matching}
 use Rattle.lines.specs.Printing.{letterByte, cellName}
-use Rattle.format_laws.specs.Formatted.{lexeme, Notation, symbol, function, unaryNotation, binaryNotation, logicSymbol, top, infixText, callText, unaryText, binaryText, formatted, withoutPlaces, namedBefore, spellings}
+use Rattle.format_laws.specs.Formatted.{lexeme, Notation, symbol, function, unaryNotation, binaryNotation, logicSymbol, top, infixText}
+use Rattle.format_laws.specs.Formatted.{callText, unaryText, binaryText, formatted, withoutPlaces, namedBefore, spellings}
 use Rattle.format_laws.proofs.Places.{top-placeless}
 
 -- what is done with a text and the spellings left

@@ -18,8 +18,10 @@ use Rattle.tokens.specs.declared.Token.the-variants.{Number, Cell, Letter, Name
 use Rattle.tokens.specs.Scan.{Tok}
 use Rattle.tokens.proofs.Tests.{no}
 use Rattle.grammar.specs.Tree.{Tree, literal, cell, indexed, unary, tick, total, matching}
-use Rattle.grammar.specs.Symbols.{groupNumber, openParen, closeParen, openIndex, closeIndex, comma, prefixSymbol, is, infixTree, Arguments, one, more, Callee, plain, clock, ranged, matched, formOf, moreArguments, callTree}
-use Rattle.grammar.specs.Grammar.{tok, Range, range, Derives, number, name, index, parenthesis, call, clocked, totalled, tested, prefixed, up, infixed, last, next}
+use Rattle.grammar.specs.Symbols.{groupNumber, openParen, closeParen, openIndex, closeIndex, comma, prefixSymbol, is, infixTree, Arguments, one, more}
+use Rattle.grammar.specs.Symbols.{Callee, plain, clock, ranged, matched, formOf, moreArguments, callTree}
+use Rattle.grammar.specs.Grammar.{tok, Range, range, Derives, number, name, index, parenthesis, call, clocked, totalled, tested, prefixed, up}
+use Rattle.grammar.specs.Grammar.{infixed, last, next}
 use Rattle.lines.specs.Printing.{letterByte, cellName}
 use Rattle.format_laws.specs.Formatted.{lexeme, top, isInfix, isOtherInfix, formatted, spellings}
 use Rattle.format_laws.proofs.Nodes.{infix-law, prefix-text, prefix-spelled, allSpellings, later, call-law, top-most}
@@ -28,7 +30,8 @@ use Rattle.format_theorems.proofs.Lexemes.{Spells, spelling}
 use Rattle.format_theorems.proofs.Lexed.{kept, keptName, keptAt}
 use Rattle.format_theorems.proofs.Standing.{Standing, front, back, rest}
 use Rattle.format_theorems.proofs.Standing as Standing
-use Rattle.format_theorems.proofs.Reading.{Again, AgainAll, operand, anywhere, a-number, a-cell, an-index, a-prefix, an-infix, the-last, the-next, a-call, clock-function, total-function, match-function, named, a-clock, a-total, a-match}
+use Rattle.format_theorems.proofs.Reading.{Again, AgainAll, operand, anywhere, a-number, a-cell, an-index, a-prefix, an-infix, the-last}
+use Rattle.format_theorems.proofs.Reading.{the-next, a-call, clock-function, total-function, match-function, named, a-clock, a-total, a-match}
 
 -- ---- when an operand is bare
 bare-right : (g : ℕ) → isInfix g ≡ false → g ≤ 0

@@ -22,7 +22,8 @@ use Rattle.tokens.specs.Numerals.{isSign, numeralOf}
 use Rattle.tokens.specs.Words.{wordToken}
 use Rattle.tokens.specs.Scan.{Found, runLexeme, numeralLexeme, lexemeOf, blanks, lexemeAt}
 use Rattle.tokens.specs.Scan as Scan
-use Rattle.tokens.specs.Theorems.{Starts, first, Stops, nothing, other, LongestRun, Mantissa, NumeralRun, plain, past-sign, LongestLexeme, word, numeral, symbol, stray}
+use Rattle.tokens.specs.Theorems.{Starts, first, Stops, nothing, other, LongestRun, Mantissa, NumeralRun, plain, past-sign, LongestLexeme, word}
+use Rattle.tokens.specs.Theorems.{numeral, symbol, stray}
 use Rattle.tokens.proofs.Tests.{no, either, within}
 use Rattle.tokens.proofs.Runs.{run-length}
 use Rattle.tokens.proofs.numerals.Runs.{run-starts, run-len}

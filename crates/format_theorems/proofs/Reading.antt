@@ -29,8 +29,11 @@ use Rattle.tokens.specs.Scan.{Tok}
 use Rattle.tokens.specs.Theorems.{Starts, first, Stops, other, Mantissa, whole, dotted}
 use Rattle.tokens.proofs.Tests.{no, both, by-test}
 use Rattle.grammar.specs.Tree.{Tree, literal, cell, indexed, unary, choice, tick, since, total, matching}
-use Rattle.grammar.specs.Symbols.{groupNumber, loosest, minus, tilde, bang, openParen, closeParen, openIndex, closeIndex, comma, prefixSymbol, is, none as empty, infixTree, Arguments, one, more, argument, Callee, of-one, of-two, of-choice, of-since, plain, clock, ranged, matched, formOf, moreArguments, callTree}
-use Rattle.grammar.specs.Grammar.{tok, Range, range, Derives, number, name, index, parenthesis, call, clocked, totalled, tested, prefixed, infixed, DerivesArguments, last, next}
+use Rattle.grammar.specs.Symbols.{groupNumber, loosest, minus, tilde, bang, openParen, closeParen, openIndex, closeIndex, comma, prefixSymbol, is}
+use Rattle.grammar.specs.Symbols.{none as empty, infixTree, Arguments, one, more, argument, Callee, of-one, of-two, of-choice, of-since, plain, clock}
+use Rattle.grammar.specs.Symbols.{ranged, matched, formOf, moreArguments, callTree}
+use Rattle.grammar.specs.Grammar.{tok, Range, range, Derives, number, name, index, parenthesis, call, clocked, totalled, tested, prefixed, infixed}
+use Rattle.grammar.specs.Grammar.{DerivesArguments, last, next}
 use Rattle.grammar.proofs.Levels.{lift}
 use Rattle.lines.specs.Printing.{letterByte, cellName}
 use Rattle.format_laws.specs.Formatted.{lexeme, top, parenthesized, separated, callText, formatted, withoutPlaces, spellings}
@@ -38,7 +41,8 @@ use Rattle.format_laws.proofs.Nodes.{infix-law, infix-placeless, prefix-spelled
 use Rattle.format_theorems.proofs.Words.{name-spelling}
 use Rattle.format_theorems.proofs.Lexemes.{continues, Spells, as-word, as-run, as-signed, spelling}
 use Rattle.format_theorems.proofs.Lexed.{keptName}
-use Rattle.format_theorems.proofs.Fragments.{Fragment, none, none-stops, joined, joined-silent, spelled-as, text-as, spelled, isEquals, opening, closing, opening-index, closing-index, separator, prefixing, operating}
+use Rattle.format_theorems.proofs.Fragments.{Fragment, none, none-stops, joined, joined-silent, spelled-as, text-as, spelled, isEquals}
+use Rattle.format_theorems.proofs.Fragments.{opening, closing, opening-index, closing-index, separator, prefixing, operating}
 use Rattle.format_theorems.proofs.Standing.{rest}
 
 -- ---- how a text begins: with no `=`, before which `!` would go on

@@ -14,14 +14,17 @@ use Rattle.tokens.specs.declared.Function.{Function}
 use Rattle.tokens.specs.declared.Token.the-variants.{Number, Cell, Letter, Name, Symbol}
 use Rattle.tokens.specs.Scan.{Tok}
 use Rattle.grammar.specs.Tree.{Tree, literal, cell, indexed, unary, tick, total, matching}
-use Rattle.grammar.specs.Symbols.{groupNumber, loosest, openParen, closeParen, openIndex, closeIndex, comma, prefixOf, prefixSymbol, is, none, infixTree, Callee, plain, clock, ranged, matched, formOf, moreArguments, Arguments, one, more, callTree}
-use Rattle.grammar.specs.Grammar.{tok, Range, range, Derives, number, name, index, parenthesis, call, clocked, totalled, tested, prefixed, up, infixed, last, next}
+use Rattle.grammar.specs.Symbols.{groupNumber, loosest, openParen, closeParen, openIndex, closeIndex, comma, prefixOf, prefixSymbol, is, none}
+use Rattle.grammar.specs.Symbols.{infixTree, Callee, plain, clock, ranged, matched, formOf, moreArguments, Arguments, one, more, callTree}
+use Rattle.grammar.specs.Grammar.{tok, Range, range, Derives, number, name, index, parenthesis, call, clocked, totalled, tested, prefixed, up}
+use Rattle.grammar.specs.Grammar.{infixed, last, next}
 use Rattle.grammar.specs.Parse.{Result, ok, expect, expectRange, expression, climb, operand, primary, bracket, arguments}
 use Rattle.grammar.proofs.Tests.{Follow, at-end, before, follow-less, binds-yes, binds-no}
 
 -- reading the tokens w, an expression of the group m, at any group l from m on, goes on with what follows the tree t
 abbrev Chain : ℕ → List Tok → Tree → Type 0
-Chain m w t = (d l : ℕ) (rest : List Tok) (q : Result Tree) → length w ≤ d → m ≤ l → Follow m rest → ((f : ℕ) → length rest * 4 + 1 ≤ f → climb f d l t rest ≡ q)
+Chain m w t = (d l : ℕ) (rest : List Tok) (q : Result Tree) → length w ≤ d → m ≤ l → Follow m rest
+    → ((f : ℕ) → length rest * 4 + 1 ≤ f → climb f d l t rest ≡ q)
     → (f : ℕ) → (length w + length rest) * 4 + 2 ≤ f → expression f d l (w ++ rest) ≡ q
 
 abbrev Reads : ℕ → List Tok → Tree → Type 0
@@ -51,23 +54,31 @@ full l m w t g d rest n le h f c = chain m w t g d l rest (ok t rest) n le (foll
 -- and before a symbol n that is no operator
 before-symbol : (n p : ℕ) (w : List Tok) (t : Tree) → groupNumber n ≡ 0 → Reads loosest w t → (d : ℕ) (rest : List Tok) → length w ≤ d
     → (f : ℕ) → (length w + suc (length rest)) * 4 + 2 ≤ f → expression f d loosest (w ++ tok (Symbol n) p ∷ rest) ≡ ok t (tok (Symbol n) p ∷ rest)
-before-symbol n p w t z g d rest le f c = full loosest loosest w t g d (tok (Symbol n) p ∷ rest) le (omega arith) (before {x = tok (Symbol n) p} (λ h. omega arith)) f c
+before-symbol n p w t z g d rest le f c = full loosest loosest w t g d (tok (Symbol n) p ∷ rest) le (omega arith)
+    (before {x = tok (Symbol n) p} (λ h. omega arith)) f c
 
 r-up : (m : ℕ) (w : List Tok) (t : Tree) → Reads m w t → Reads (suc m) w t
 r-up m w t g d l rest q n le h k f c = chain m w t g d l rest q n (omega arith) (follow-less (omega arith) h) k f c
 
-r-infixed : (m n p : ℕ) (w v : List Tok) (t u : Tree) → groupNumber n ≡ suc m → Reads (suc m) w t → Reads m v u → Reads (suc m) (w ++ tok (Symbol n) p ∷ v) (infixTree n p t u)
+r-infixed : (m n p : ℕ) (w v : List Tok) (t u : Tree) → groupNumber n ≡ suc m → Reads (suc m) w t → Reads m v u
+    → Reads (suc m) (w ++ tok (Symbol n) p ∷ v) (infixTree n p t u)
 unfolding climb
 r-infixed m n p w v t u e g g′ d l rest q le ge h k f c =
     let i = length-append w (tok (Symbol n) p ∷ v) in
-    rw append-assoc (g d l (tok (Symbol n) p ∷ (v ++ rest)) q (omega arith) ge (before {x = tok (Symbol n) p} (λ z. omega arith)) on f (omega (arith, length-append v rest)))
+    rw append-assoc (g d l (tok (Symbol n) p ∷ (v ++ rest)) q (omega arith) ge (before {x = tok (Symbol n) p} (λ z. omega arith)) on f
+    (omega (arith, length-append v rest)))
   where
     on : (f : ℕ) → length (tok (Symbol n) p ∷ (v ++ rest)) * 4 + 1 ≤ f → climb f d l t (tok (Symbol n) p ∷ (v ++ rest)) ≡ q
     on zero c = absurd (omega arith)
     on (suc f) c =
         let i = length-append w (tok (Symbol n) p ∷ v) in
         let j = length-append v rest in
-        rw (climb, binds-yes l (Symbol n) (omega arith) (omega arith), full (groupNumber n - 1) m v u g′ d rest (omega arith) (omega arith) (follow-less (omega arith) h) f (omega arith))
+        rw (
+          climb,
+          binds-yes l (Symbol n) (omega arith) (omega arith),
+          full (groupNumber n - 1) m v u g′ d rest (omega arith) (omega arith)
+              (follow-less (omega arith) h) f (omega arith),
+        )
         (k f (omega arith))
 
 r-prefixed : (n p : ℕ) (o : UnaryOp) (w : List Tok) (t : Tree) → prefixSymbol n ≡ is o → Reads 0 w t → Reads 0 (tok (Symbol n) p ∷ w) (unary p o t)
@@ -76,7 +87,8 @@ r-prefixed n p o w t e g d rest le zero c = absurd (omega arith)
 r-prefixed n p o w t e g d rest le (suc f) c = rw (operand, e, g d rest (omega arith) f (omega arith))
 
 r-primary : (x : Tok) (w : List Tok) (t : Tree) → prefixOf (x .token) ≡ none
-    → ((d : ℕ) (rest : List Tok) → length w ≤ d → (f : ℕ) → (length w + length rest) * 4 + 3 ≤ f → primary (suc f) (suc d) x (w ++ rest) ≡ ok t rest) → Reads 0 (x ∷ w) t
+    → ((d : ℕ) (rest : List Tok) → length w ≤ d → (f : ℕ) → (length w + length rest) * 4 + 3 ≤ f → primary (suc f) (suc d) x (w ++ rest) ≡ ok t rest)
+    → Reads 0 (x ∷ w) t
 unfolding operand
 r-primary x w t e g zero rest n f c = absurd (omega arith)
 r-primary x w t e g (suc d) rest n zero c = absurd (omega arith)
@@ -92,7 +104,8 @@ r-bracket n p w t z g d rest le (suc f) c =
     let i = length-append w (tok (Symbol n) p ∷ []) in
     rw (append-assoc, before-symbol n p w t z g d rest (omega arith) f (omega arith)) (rw (expect, eq-eqb n n refl))
 
-r-index : (b : Bank) (p q r : ℕ) (w : List Tok) (t : Tree) → Reads loosest w t → Reads 0 (tok (Letter b) p ∷ tok (Symbol openIndex) q ∷ (w ++ tok (Symbol closeIndex) r ∷ [])) (indexed b t)
+r-index : (b : Bank) (p q r : ℕ) (w : List Tok) (t : Tree) → Reads loosest w t
+    → Reads 0 (tok (Letter b) p ∷ tok (Symbol openIndex) q ∷ (w ++ tok (Symbol closeIndex) r ∷ [])) (indexed b t)
 unfolding primary groupNumber
 r-index b p q r w t g =
     r-primary (tok (Letter b) p) (tok (Symbol openIndex) q ∷ (w ++ tok (Symbol closeIndex) r ∷ [])) (indexed b t) refl
@@ -114,7 +127,8 @@ r-clocked : (h : Function) (p q r : ℕ) → formOf h ≡ clock → Reads 0 (tok
 unfolding primary
 r-clocked h p q r e = r-primary (tok (Name h) p) (tok (Symbol openParen) q ∷ tok (Symbol closeParen) r ∷ []) tick refl (λ d rest n f le. rw e)
 
-r-range : {b : Bank} {i : ℕ} {n : ℤ} {u : ℕ} {w : List Tok} (k : Bank → ℕ → ℕ → ℤ → Tree) (rest : List Tok) → Range b i n u w → expectRange (w ++ rest) k ≡ ok (k b i u n) rest
+r-range : {b : Bank} {i : ℕ} {n : ℤ} {u : ℕ} {w : List Tok} (k : Bank → ℕ → ℕ → ℤ → Tree) (rest : List Tok) → Range b i n u w
+    → expectRange (w ++ rest) k ≡ ok (k b i u n) rest
 r-range k rest (range o q p r) = refl
 
 r-totalled : (h : Function) (o : TotalOp) (p q : ℕ) {b : Bank} {i : ℕ} {n : ℤ} {u : ℕ} (w : List Tok) → formOf h ≡ ranged o → Range b i n u w
@@ -123,7 +137,8 @@ unfolding primary
 r-totalled h o p q {b} {i} {n} {u} w e g =
     r-primary (tok (Name h) p) (tok (Symbol openParen) q ∷ w) (total u o b i n) refl (λ d rest le f c. rw e (r-range _ rest g))
 
-r-tested : (h : Function) (o : MatchOp) (p q r : ℕ) {b : Bank} {i : ℕ} {n : ℤ} {u : ℕ} (w v : List Tok) (t : Tree) → formOf h ≡ matched o → Reads loosest w t → Range b i n u v
+r-tested : (h : Function) (o : MatchOp) (p q r : ℕ) {b : Bank} {i : ℕ} {n : ℤ} {u : ℕ} (w v : List Tok) (t : Tree) → formOf h ≡ matched o
+    → Reads loosest w t → Range b i n u v
     → Reads 0 (tok (Name h) p ∷ tok (Symbol openParen) q ∷ (w ++ tok (Symbol comma) r ∷ v)) (matching u o t b i n)
 unfolding primary groupNumber
 r-tested h o p q r {b} {i} {n} {u} w v t e g x =
@@ -140,7 +155,8 @@ r-last q w t g d rest n (suc f) c =
     let i = length-append w (tok (Symbol closeParen) q ∷ []) in
     rw (append-assoc, before-symbol closeParen q w t refl g d rest (omega arith) f (omega arith))
 
-r-next : (m q : ℕ) (w v : List Tok) (t : Tree) (ts : Arguments) → Reads loosest w t → ReadsAll m v ts → ReadsAll (suc m) (w ++ tok (Symbol comma) q ∷ v) (more t ts)
+r-next : (m q : ℕ) (w v : List Tok) (t : Tree) (ts : Arguments) → Reads loosest w t → ReadsAll m v ts
+    → ReadsAll (suc m) (w ++ tok (Symbol comma) q ∷ v) (more t ts)
 unfolding arguments groupNumber
 r-next m q w v t ts g g′ d rest n zero c = absurd (omega arith)
 r-next m q w v t ts g g′ d rest n (suc f) c =

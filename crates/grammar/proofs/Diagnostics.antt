@@ -8,7 +8,8 @@ use lib.Dec.{eqb, ltb, leb}
 use borrow.Author.Tests.{ltb-true, ltb-false, eqb-true, eqb-false, leb-true, leb-false}
 use Rattle.operators.specs.Kinds.{isInt, unaryTakes, binaryTakes}
 use Rattle.totals.specs.Totals.{goodCount}
-use Rattle.grammar.specs.Tree.{Tree, literal, cell, indexed, unary, binary, logic, choice, tick, since, total, matching, treeKind, Diagnostic, clear, at, precedes, earlier, unless, wrongKindAt, wrongCountAt, diagnosticOf}
+use Rattle.grammar.specs.Tree.{Tree, literal, cell, indexed, unary, binary, logic, choice, tick, since, total, matching, treeKind, Diagnostic}
+use Rattle.grammar.specs.Tree.{clear, at, precedes, earlier, unless, wrongKindAt, wrongCountAt, diagnosticOf}
 
 abbrev pub numbered : ℕ → Diagnostic
 numbered n = at (n / 16) (n % 16)

@@ -13,9 +13,11 @@ use Rattle.tokens.specs.declared.Token.{Token}
 use Rattle.tokens.specs.declared.Token.the-variants.{Number, Cell, Letter, Name, Symbol}
 use Rattle.tokens.specs.Scan.{Tok}
 use Rattle.grammar.specs.Tree.{Tree}
-use Rattle.grammar.specs.Symbols.{group, isSymbol, loosest, openParen, closeParen, openIndex, closeIndex, comma, Prefix, prefixOf, is, none, Form, plain, clock, ranged, matched, formOf, moreArguments, Arguments}
+use Rattle.grammar.specs.Symbols.{group, isSymbol, loosest, openParen, closeParen, openIndex, closeIndex, comma, Prefix, prefixOf, is, none}
+use Rattle.grammar.specs.Symbols.{Form, plain, clock, ranged, matched, formOf, moreArguments, Arguments}
 use Rattle.grammar.specs.Grammar.{tok}
-use Rattle.grammar.specs.Parse.{Result, ok, bad, deep, starved, andThen, expect, expectCell, expectCount, expectRange, enter, binds, callBody, expression, climb, operand, primary, bracket, arguments}
+use Rattle.grammar.specs.Parse.{Result, ok, bad, deep, starved, andThen, expect, expectCell, expectCount, expectRange, enter, binds, callBody}
+use Rattle.grammar.specs.Parse.{expression, climb, operand, primary, bracket, arguments}
 
 -- not starved, and fewer than n tokens left
 pub data Fed {X : Type 0} (n : ℕ) : Result X → Type 0 where
@@ -23,7 +25,8 @@ pub data Fed {X : Type 0} (n : ℕ) : Result X → Type 0 where
   at-bad : {r : List Tok} → Fed n (bad r)
   at-deep : {r : List Tok} → Fed n (deep r)
 
-fed-bind : {X Y : Type 0} {n m : ℕ} {q : Result X} (k : X → List Tok → Result Y) → Fed n q → ((t : X) (r : List Tok) → length r < n → Fed m (k t r)) → Fed m (andThen q k)
+fed-bind : {X Y : Type 0} {n m : ℕ} {q : Result X} (k : X → List Tok → Result Y) → Fed n q → ((t : X) (r : List Tok) → length r < n → Fed m (k t r))
+    → Fed m (andThen q k)
 fed-bind k (left {t = t} r lt) h = h t r lt
 fed-bind k at-bad h = at-bad
 fed-bind k at-deep h = at-deep
@@ -38,7 +41,8 @@ module _ {X : Type 0} where
   fed-test true h k = h
   fed-test false h k = k
 
-  fed-prefix : {n : ℕ} {x : UnaryOp → Result X} {y : Result X} (b : Prefix) → ((o : UnaryOp) → Fed n (x o)) → Fed n y → Fed {X = X} n (elim b [ is o ↦ x o | none ↦ y ])
+  fed-prefix : {n : ℕ} {x : UnaryOp → Result X} {y : Result X} (b : Prefix) → ((o : UnaryOp) → Fed n (x o)) → Fed n y
+      → Fed {X = X} n (elim b [ is o ↦ x o | none ↦ y ])
   fed-prefix (is o) h k = h o
   fed-prefix none h k = k
 
@@ -46,11 +50,13 @@ module _ {X : Type 0} where
   fed-expect n [] k h = at-bad
   fed-expect n (x ∷ ys) k h = fed-test (isSymbol n (x .token)) (h ys (omega arith)) at-bad
 
-  fed-enter : {m : ℕ} (d n : ℕ) (r : List Tok) (k : ℕ → List Tok → Result X) → ((e : ℕ) (ys : List Tok) → length ys < length r → Fed m (k e ys)) → Fed m (enter d n r k)
+  fed-enter : {m : ℕ} (d n : ℕ) (r : List Tok) (k : ℕ → List Tok → Result X) → ((e : ℕ) (ys : List Tok) → length ys < length r → Fed m (k e ys))
+      → Fed m (enter d n r k)
   fed-enter zero n r k h = fed-expect n r _ (λ ys lt. at-deep)
   fed-enter (suc d) n r k h = fed-expect n r _ (λ ys lt. h d ys lt)
 
-  fed-cell : {m : ℕ} (r : List Tok) (k : Bank → ℕ → List Tok → Result X) → ((b : Bank) (i : ℕ) (ys : List Tok) → length ys < length r → Fed m (k b i ys)) → Fed m (expectCell r k)
+  fed-cell : {m : ℕ} (r : List Tok) (k : Bank → ℕ → List Tok → Result X) → ((b : Bank) (i : ℕ) (ys : List Tok) → length ys < length r → Fed m (k b i ys))
+      → Fed m (expectCell r k)
   fed-cell [] k h = at-bad
   fed-cell {m} (x ∷ ys) k h = go (x .token) (x .place) (λ b i. h b i ys (omega arith))
     where
@@ -61,7 +67,8 @@ module _ {X : Type 0} where
       go (Name g) p h = at-bad
       go (Symbol n) p h = at-bad
 
-  fed-count : {m : ℕ} (r : List Tok) (k : ℕ → ℤ → List Tok → Result X) → ((p : ℕ) (z : ℤ) (ys : List Tok) → length ys < length r → Fed m (k p z ys)) → Fed m (expectCount r k)
+  fed-count : {m : ℕ} (r : List Tok) (k : ℕ → ℤ → List Tok → Result X) → ((p : ℕ) (z : ℤ) (ys : List Tok) → length ys < length r → Fed m (k p z ys))
+      → Fed m (expectCount r k)
   fed-count [] k h = at-bad
   fed-count {m} (x ∷ ys) k h = go (x .token) (x .place) (λ p z. h p z ys (omega arith))
     where
@@ -118,7 +125,8 @@ mutual
   fed-primary (suc f) d (Letter b) p xs le =
       fed-enter d openIndex xs _ (λ e ys lt. fed-bind _ (fed-bracket f e closeIndex ys (omega arith)) (λ t r lt′. left r (omega arith)))
   fed-primary (suc f) d (Name g) p xs le =
-      fed-enter d openParen xs _ (λ e ys lt. fed-more (omega arith) (fed-call (formOf g) p ys _ _ (omega arith) (λ m. fed-arguments f e m ys (omega arith)) (fed-expression f e loosest ys (omega arith))))
+      fed-enter d openParen xs _ (λ e ys lt. fed-more (omega arith) (fed-call (formOf g) p ys _ _ (omega arith) (λ m. fed-arguments f e m ys (omega arith))
+      (fed-expression f e loosest ys (omega arith))))
   fed-primary (suc f) d (Symbol n) p xs le =
       fed-enter d openParen (tok (Symbol n) p ∷ xs) _ (λ e ys lt. fed-more (omega arith) (fed-bracket f e closeParen ys (omega arith)))
 

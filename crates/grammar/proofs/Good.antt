@@ -26,7 +26,8 @@ pub record Part {X : Type 0} (d : ℕ) (P : List Tok → X → Type 0) (ts r z :
   pub whole : P (read ++ z) tree
   pub spans : Spans d read h
 
--- the tokens read are what P relates to the tree, from d open brackets to e; those read before a refusal can be completed, and before a ninth bracket by that bracket first
+-- the tokens read are what P relates to the tree, from d open brackets to e; those read before a refusal can be completed, and before a ninth bracket by
+-- that bracket first
 pub data Good {X : Type 0} (d e : ℕ) (P : List Tok → X → Type 0) (ts : List Tok) : Result X → Type 0 where
   took : {t : X} {r : List Tok} (w : List Tok) → ts ≡ w ++ r → P w t → Spans d w e → Good d e P ts (ok t r)
   stop : {r : List Tok} {h : ℕ} (z : List Tok) → Part d P ts r z h → Good d e P ts (bad r)
@@ -58,7 +59,8 @@ module _ {X Y : Type 0} {d d′ : ℕ} {P : List Tok → X → Type 0} {Q : List
   bind k (over z b y le) o c g s′ a′ f h = over (z ++ c) (extend o c g s′ a′ f b) y le
   bind k dry o c g s′ a′ f h = dry
 
-  pub wrap : {e : ℕ} {q : Result X} (o : List Tok) (g : X → Y) → Good d e P ts q → Spans d′ o d → all ≡ o ++ ts → ((w : List Tok) (t : X) → P w t → Q (o ++ w) (g t))
+  pub wrap : {e : ℕ} {q : Result X} (o : List Tok) (g : X → Y) → Good d e P ts q → Spans d′ o d → all ≡ o ++ ts
+      → ((w : List Tok) (t : X) → P w t → Q (o ++ w) (g t))
       → Good d′ e Q all (andThen q (λ t r. ok (g t) r))
   wrap o g b s a f =
       bind _ b o [] g s a (λ w t p. rw append-nil (f w t p))
@@ -83,12 +85,14 @@ module _ {X : Type 0} {d e : ℕ} {P : List Tok → X → Type 0} {all : List To
   prefixes (is o) h k = h o refl
   prefixes none h k = k
 
-  pub expects : (n : ℕ) (r : List Tok) (k : List Tok → Result X) → ((p : ℕ) (ys : List Tok) → r ≡ tok (Symbol n) p ∷ ys → Good d e P all (k ys)) → Good d e P all (bad r)
+  pub expects : (n : ℕ) (r : List Tok) (k : List Tok → Result X) → ((p : ℕ) (ys : List Tok) → r ≡ tok (Symbol n) p ∷ ys → Good d e P all (k ys))
+      → Good d e P all (bad r)
       → Good d e P all (expect n r k)
   expects n [] k h b = b
   expects n (x ∷ ys) k h b = test (isSymbol n (x .token)) (λ i. h (x .place) ys (ap (λ (y : Tok). y ∷ ys) (symbol-is n x i))) (λ i. b)
 
-  pub expects-cell : (r : List Tok) (k : Bank → ℕ → List Tok → Result X) → ((b : Bank) (i p : ℕ) (ys : List Tok) → r ≡ tok (Cell b i) p ∷ ys → Good d e P all (k b i ys))
+  pub expects-cell : (r : List Tok) (k : Bank → ℕ → List Tok → Result X)
+      → ((b : Bank) (i p : ℕ) (ys : List Tok) → r ≡ tok (Cell b i) p ∷ ys → Good d e P all (k b i ys))
       → Good d e P all (bad r) → Good d e P all (expectCell r k)
   expects-cell [] k h b = b
   expects-cell (x ∷ ys) k h b = go (x .token) (x .place) (λ c i p. h c i p ys) b
@@ -101,12 +105,14 @@ module _ {X : Type 0} {d e : ℕ} {P : List Tok → X → Type 0} {all : List To
       go (Name g) p h b = b
       go (Symbol n) p h b = b
 
-  pub expects-count : (r : List Tok) (k : ℕ → ℤ → List Tok → Result X) → ((p : ℕ) (z : ℤ) (ys : List Tok) → r ≡ tok (Number (Int z)) p ∷ ys → Good d e P all (k p z ys))
+  pub expects-count : (r : List Tok) (k : ℕ → ℤ → List Tok → Result X)
+      → ((p : ℕ) (z : ℤ) (ys : List Tok) → r ≡ tok (Number (Int z)) p ∷ ys → Good d e P all (k p z ys))
       → Good d e P all (bad r) → Good d e P all (expectCount r k)
   expects-count [] k h b = b
   expects-count (x ∷ ys) k h b = go (x .token) (x .place) (λ p z. h p z ys) b
     where
-      go : (t : Token) (p : ℕ) → ((q : ℕ) (z : ℤ) → tok t p ∷ ys ≡ tok (Number (Int z)) q ∷ ys → Good d e P all (k q z ys)) → Good d e P all (bad (tok t p ∷ ys))
+      go : (t : Token) (p : ℕ) → ((q : ℕ) (z : ℤ) → tok t p ∷ ys ≡ tok (Number (Int z)) q ∷ ys → Good d e P all (k q z ys))
+          → Good d e P all (bad (tok t p ∷ ys))
           → Good d e P all (expectCount (tok t p ∷ ys) k)
       go (Number (Int z)) p h b = h p z refl
       go (Number (Real y)) p h b = b
@@ -120,18 +126,22 @@ module _ {X : Type 0} {d e : ℕ} {P : List Tok → X → Type 0} {all : List To
       → isOpener (tok (Symbol n) 0) ≡ true → room + d ≡ mostOpen → Spans d o d → all ≡ o ++ ts → ((p : ℕ) → P (o ++ tok (Symbol n) p ∷ c) t)
       → ((p room′ : ℕ) (ys : List Tok) → room′ + suc d ≡ mostOpen → ts ≡ tok (Symbol n) p ∷ ys → Good d e P all (k room′ ys))
       → Good d e P all (enter room n ts k)
-  enters zero n ts o c t k i m s a f h = expects n ts (λ r. deep ts) found (stop (tok (Symbol n) 0 ∷ c) (record { read = o; tree = t; split = a; whole = f 0; spans = s }))
+  enters zero n ts o c t k i m s a f h = expects n ts (λ r. deep ts) found
+      (stop (tok (Symbol n) 0 ∷ c) (record { read = o; tree = t; split = a; whole = f 0; spans = s }))
     where
       found : (p : ℕ) (ys : List Tok) → ts ≡ tok (Symbol n) p ∷ ys → Good d e P all (deep ts)
       found p ys q = rw q (over c (record { read = o; tree = t; split = a ∙ ap (λ (v : List Tok). o ++ v) q; whole = f p; spans = s }) i (omega arith))
   enters (suc room) n ts o c t k i m s a f h =
-      expects n ts (λ r. k room r) (λ p ys q. h p room ys (omega arith) q) (stop (tok (Symbol n) 0 ∷ c) (record { read = o; tree = t; split = a; whole = f 0; spans = s }))
+      expects n ts (λ r. k room r) (λ p ys q. h p room ys (omega arith) q)
+      (stop (tok (Symbol n) 0 ∷ c) (record { read = o; tree = t; split = a; whole = f 0; spans = s }))
 
 -- a closing symbol n after the tokens w
 pub closes : {X : Type 0} {d : ℕ} {P : List Tok → X → Type 0} {all : List Tok} (n : ℕ) (w r : List Tok) (t : X)
-    → isOpener (tok (Symbol n) 0) ≡ false → isCloser (tok (Symbol n) 0) ≡ true → Spans (suc d) w (suc d) → all ≡ w ++ r → ((p : ℕ) → P (w ++ tok (Symbol n) p ∷ []) t)
+    → isOpener (tok (Symbol n) 0) ≡ false → isCloser (tok (Symbol n) 0) ≡ true → Spans (suc d) w (suc d) → all ≡ w ++ r
+    → ((p : ℕ) → P (w ++ tok (Symbol n) p ∷ []) t)
     → Good (suc d) d P all (expect n r (λ ys. ok t ys))
 closes n w r t i j s a f =
     expects n r _
-    (λ p ys q. took (w ++ tok (Symbol n) p ∷ []) (a ∙ ap (λ (v : List Tok). w ++ v) q ∙ sym (append-assoc w (tok (Symbol n) p ∷ []) ys)) (f p) (along s (closing i j nothing)))
+    (λ p ys q. took (w ++ tok (Symbol n) p ∷ []) (a ∙ ap (λ (v : List Tok). w ++ v) q ∙ sym (append-assoc w (tok (Symbol n) p ∷ []) ys)) (f p)
+    (along s (closing i j nothing)))
     (stop (tok (Symbol n) 0 ∷ []) (record { read = w; tree = t; split = a; whole = f 0; spans = s }))

@@ -14,8 +14,10 @@ use Rattle.tokens.specs.declared.Token.{Token}
 use Rattle.tokens.specs.declared.Token.the-variants.{Number, Cell, Letter, Name, Symbol}
 use Rattle.tokens.specs.Scan.{Tok}
 use Rattle.grammar.specs.Tree.{Tree, literal, indexed, unary, tick, total, matching}
-use Rattle.grammar.specs.Symbols.{group, loosest, openParen, closeParen, openIndex, closeIndex, comma, prefixOf, Form, plain as values, clock, ranged, matched, formOf, moreArguments, Arguments, one, more, callTree}
-use Rattle.grammar.specs.Grammar.{tok, Range, range, Derives, number, name, index, parenthesis, call, clocked, totalled, tested, DerivesArguments, last, next}
+use Rattle.grammar.specs.Symbols.{group, loosest, openParen, closeParen, openIndex, closeIndex, comma, prefixOf, Form, plain as values, clock}
+use Rattle.grammar.specs.Symbols.{ranged, matched, formOf, moreArguments, Arguments, one, more, callTree}
+use Rattle.grammar.specs.Grammar.{tok, Range, range, Derives, number, name, index, parenthesis, call, clocked, totalled, tested}
+use Rattle.grammar.specs.Grammar.{DerivesArguments, last, next}
 use Rattle.grammar.specs.Parse.{Result, binds, expectRange, callBody, expression, climb, operand, primary, bracket, arguments, mostOpen}
 use Rattle.grammar.specs.Theorems.{isOpener, isCloser}
 use Rattle.grammar.proofs.Tests.{Follow, before, follow-less, follow-any, binds-true}
@@ -97,14 +99,17 @@ fill-call g p clock e = (tok (Symbol closeParen) 0 ∷ [], tick, λ q. clocked 0
 fill-call g p (ranged o) e = (someRange, total 0 o D 0 (pos 0), λ q. totalled e some-range)
 fill-call g p (matched o) e = (zeroTok ∷ tok (Symbol comma) 0 ∷ someRange, matching 0 o zeroTree D 0 (pos 0), λ q. tested 0 e zero-is some-range)
 
-sound-call : {d : ℕ} (g : Function) (p q : ℕ) (ys all : List Tok) (read : ℕ → List Tok → Result Arguments) (whole : List Tok → Result Tree) (o : Form) → formOf g ≡ o
+sound-call : {d : ℕ} (g : Function) (p q : ℕ) (ys all : List Tok) (read : ℕ → List Tok → Result Arguments) (whole : List Tok → Result Tree) (o : Form)
+    → formOf g ≡ o
     → Spans d (tok (Symbol openParen) q ∷ []) (suc d) → all ≡ tok (Name g) p ∷ tok (Symbol openParen) q ∷ ys
-    → ((m : ℕ) → Good (suc d) d (DerivesArguments m) ys (read m ys)) → Good (suc d) (suc d) (Derives loosest) ys (whole ys) → Good d d (Derives 0) all (callBody o p read whole ys)
+    → ((m : ℕ) → Good (suc d) d (DerivesArguments m) ys (read m ys)) → Good (suc d) (suc d) (Derives loosest) ys (whole ys)
+    → Good d d (Derives 0) all (callBody o p read whole ys)
 sound-call g p q ys all read whole (values c) e s a h k =
     wrap (tok (Name g) p ∷ tok (Symbol openParen) q ∷ []) (λ us. callTree c p us) (h (moreArguments c)) (passing refl refl s) a (λ w us b. call e b)
 sound-call g p q ys all read whole clock e s a h k =
     expects closeParen ys _
-    (λ r zs i. took (tok (Name g) p ∷ tok (Symbol openParen) q ∷ tok (Symbol closeParen) r ∷ []) (a ∙ ap (λ (z : List Tok). tok (Name g) p ∷ tok (Symbol openParen) q ∷ z) i)
+    (λ r zs i. took (tok (Name g) p ∷ tok (Symbol openParen) q ∷ tok (Symbol closeParen) r ∷ [])
+    (a ∙ ap (λ (z : List Tok). tok (Name g) p ∷ tok (Symbol openParen) q ∷ z) i)
     (clocked r e) (passing refl refl (along s (closing refl refl nothing))))
     (stop (tok (Symbol closeParen) 0 ∷ []) (record {
       read = tok (Name g) p ∷ tok (Symbol openParen) q ∷ [];
@@ -122,9 +127,11 @@ sound-call g p q ys all read whole (matched o) e s a h k =
     bind _ k (tok (Name g) p ∷ tok (Symbol openParen) q ∷ []) (tok (Symbol comma) 0 ∷ someRange) (λ t. matching 0 o t D 0 (pos 0)) (passing refl refl s) a
     (λ w t b. tested 0 e b some-range)
     (λ w t r _ e′ b s′. expects comma r _
-    (λ c zs e″. plain (wrap (tok (Name g) p ∷ tok (Symbol openParen) q ∷ (w ++ tok (Symbol comma) c ∷ [])) (λ u. u) (sound-range _ (λ b i u n. matching u o t b i n) zs)
+    (λ c zs e″. plain (wrap (tok (Name g) p ∷ tok (Symbol openParen) q ∷ (w ++ tok (Symbol comma) c ∷ [])) (λ u. u)
+    (sound-range _ (λ b i u n. matching u o t b i n) zs)
     (passing refl refl (along s (along s′ (passing refl refl nothing))))
-    (a ∙ ap (λ (v : List Tok). tok (Name g) p ∷ tok (Symbol openParen) q ∷ v) (e′ ∙ ap (λ (v : List Tok). w ++ v) e″ ∙ sym (append-assoc w (tok (Symbol comma) c ∷ []) zs)))
+    (a ∙ ap (λ (v : List Tok). tok (Name g) p ∷ tok (Symbol openParen) q ∷ v)
+    (e′ ∙ ap (λ (v : List Tok). w ++ v) e″ ∙ sym (append-assoc w (tok (Symbol comma) c ∷ []) zs)))
     (given w t b c)))
     (stop (tok (Symbol comma) 0 ∷ someRange) (record {
       read = tok (Name g) p ∷ tok (Symbol openParen) q ∷ w;
@@ -183,7 +190,8 @@ mutual
   sound-primary (suc f) room d (Name g) p xs m =
       let c = fill-call g p (formOf g) refl in
       enters room openParen xs (tok (Name g) p ∷ []) (c .0) (c .1) _ refl m (passing refl refl nothing) refl (c .2)
-      (λ q room′ ys m′ e. sound-call g p q ys (tok (Name g) p ∷ xs) (λ n r. arguments f room′ n r) (λ r. expression f room′ loosest r) (formOf g) refl (opener openParen q room′ refl m′)
+      (λ q room′ ys m′ e. sound-call g p q ys (tok (Name g) p ∷ xs) (λ n r. arguments f room′ n r) (λ r. expression f room′ loosest r)
+      (formOf g) refl (opener openParen q room′ refl m′)
       (ap (λ (z : List Tok). tok (Name g) p ∷ z) e)
       (λ n. sound-arguments f room′ d n ys m′) (sound-expression f room′ (suc d) loosest ys m′))
   sound-primary (suc f) room d (Symbol n) p xs m =

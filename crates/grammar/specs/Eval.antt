@@ -1,6 +1,6 @@
--- The value of a tree (paper 01: "The rules give the value of the whole tree, or the first fault met in working it out"): left to right, "`&&` and `||` skip the right side where the left decides; IF works
--- out only the chosen branch". "TICKms(), the tick handed in by the caller as a 32-bit pattern, .. the same throughout" (paper 02, Ask 13).
--- Over an environment: whatever a memory holds, at any tick.
+-- The value of a tree (paper 01: "The rules give the value of the whole tree, or the first fault met in working it out"): left to right, "`&&` and `||`
+-- skip the right side where the left decides; IF works out only the chosen branch". "TICKms(), the tick handed in by the caller as a 32-bit pattern, .. the
+-- same throughout" (paper 02, Ask 13). Over an environment: whatever a memory holds, at any tick.
 use mathlib.Core.Bool.{Bool, cond, Bool·beq}
 use Rattle.values.specs.declared.Value.the-variants.{Int}
 use Rattle.values.specs.declared.Outcome.{Outcome}

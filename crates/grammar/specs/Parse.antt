@@ -1,5 +1,5 @@
--- The tree of a list of tokens, by precedence climbing, with fuel; the nesting is limited to eight. It computes; that it finds just the trees of the grammar, and stops just where no formula goes
--- on, is Theorems.
+-- The tree of a list of tokens, by precedence climbing, with fuel; the nesting is limited to eight. It computes; that it finds just the trees of the
+-- grammar, and stops just where no formula goes on, is Theorems.
 use mathlib.Core.Bool.{Bool, true, false, _&&_}
 use mathlib.Core.List.{List, [], _∷_}
 use Prim.Native.Nat.{ℕ, zero, suc, _+_, _-_, _*_}
@@ -12,7 +12,8 @@ use Rattle.tokens.specs.declared.Token.{Token}
 use Rattle.tokens.specs.declared.Token.the-variants.{Number, Cell, Letter, Name, Symbol}
 use Rattle.tokens.specs.Scan.{Tok}
 use Rattle.grammar.specs.Tree.{Tree, literal, cell, indexed, unary, tick, total, matching}
-use Rattle.grammar.specs.Symbols.{group, loosest, isSymbol, openParen, closeParen, openIndex, closeIndex, comma, prefixOf, is, none, infixTree, Form, plain, clock, ranged, matched, formOf, moreArguments, Arguments, one, more, callTree}
+use Rattle.grammar.specs.Symbols.{group, loosest, isSymbol, openParen, closeParen, openIndex, closeIndex, comma, prefixOf, is, none, infixTree}
+use Rattle.grammar.specs.Symbols.{Form, plain, clock, ranged, matched, formOf, moreArguments, Arguments, one, more, callTree}
 
 -- a tree and the tokens left; the tokens from the first that no formula has there; the tokens from an opener met with eight still open; or too little fuel
 pub data Result (X : Type 0) : Type 0 where
@@ -81,7 +82,8 @@ symbolNumber (Symbol n) = n
 abbrev pub binds : ℕ → Token → Bool
 binds l x = leb 1 (group x) && leb (group x) l
 
--- what stands behind the opening parenthesis of a call at the place p, by its form, given how so many arguments after the first are read, and how an expression is
+-- what stands behind the opening parenthesis of a call at the place p, by its form, given how so many arguments after the first are read, and how an
+-- expression is
 abbrev pub callBody : Form → ℕ → (ℕ → List Tok → Result Arguments) → (List Tok → Result Tree) → List Tok → Result Tree
 callBody (plain c) p read whole ts = andThen (read (moreArguments c) ts) (λ us r. ok (callTree c p us) r)
 callBody clock p read whole ts = expect closeParen ts (λ r. ok tick r)

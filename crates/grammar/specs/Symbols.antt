@@ -1,6 +1,6 @@
--- What each token can be in a formula (paper 01, "Grammar and grouping"): "Tightest first: unary `- ~ !`, which may repeat; `**`; `* / %`; `+ -`; `<< >> >>>`; `< > <= >=`; `== !=`; `&`; `^`;
--- `|`; `&&`; `||`." "ABS, TOREAL, TOINT, TRUNC, ROUND, FRAC one, MAX, MIN two, IF three." TICKms has none, SINCE one (paper 02, Ask 13); totals "a first cell and a
--- plain numeral count", "for the IF forms an expression, then" these (Ask 2).
+-- What each token can be in a formula (paper 01, "Grammar and grouping"): "Tightest first: unary `- ~ !`, which may repeat; `**`; `* / %`; `+ -`; `<< >>
+-- >>>`; `< > <= >=`; `== !=`; `&`; `^`; `|`; `&&`; `||`." "ABS, TOREAL, TOINT, TRUNC, ROUND, FRAC one, MAX, MIN two, IF three." TICKms has none, SINCE one
+-- (paper 02, Ask 13); totals "a first cell and a plain numeral count", "for the IF forms an expression, then" these (Ask 2).
 use mathlib.Core.Bool.{Bool, false, cond}
 use mathlib.Core.List.{List, [], _∷_}
 use Prim.Native.Nat.{ℕ, zero, suc}

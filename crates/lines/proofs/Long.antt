@@ -30,7 +30,8 @@ digits : (k n : ℕ) (cs : List ℕ) → n ≤ 10 ^ suc k → numberBelow n cs �
 digits k n cs h t =
     let b = both (noLeadingZero cs && allDigits cs) (ltb (decimalValue cs) n) t in
     let p = both (noLeadingZero cs) (allDigits cs) (b .0) in
-    let width : length cs ≡ widthOf (decimalValue cs) = sym (ap length (text-of cs (p .0) (p .1))) ∙ length-digits 10 (widthOf (decimalValue cs)) (decimalValue cs) in
+    let width : length cs ≡ widthOf (decimalValue cs) = sym (ap length (text-of cs (p .0) (p .1)))
+    ∙ length-digits 10 (widthOf (decimalValue cs)) (decimalValue cs) in
     omega (arith, at-most k (decimalValue cs) (omega (arith, ltb-true (decimalValue cs) n (b .1))), width)
 
 pub no-number : (k n : ℕ) (cs : List ℕ) → n ≤ 10 ^ suc k → suc k < length cs → numberBelow n cs ≡ false

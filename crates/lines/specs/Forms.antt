@@ -1,5 +1,6 @@
--- The value of a cell on input (paper 01: "cells (R as its pattern)"; "Integers print in signed decimal"): an integer in just the form in which it is printed, within its
--- bank's range; for R the printed form, with hexadecimal digits of either case. With any other value the line is one "of any other form".
+-- The value of a cell on input (paper 01: "cells (R as its pattern)"; "Integers print in signed decimal"): an integer in just the form in which it is
+-- printed, within its bank's range; for R the printed form, with hexadecimal digits of either case. With any other value the line is one "of any other
+-- form".
 use mathlib.Core.Bool.{_&&_, not, cond}
 use mathlib.Core.List.{List, [], _∷_}
 use Prim.Native.Nat.{ℕ, suc, _-_, _*_}

@@ -14,7 +14,8 @@ use Rattle.compiler.specs.Compile.{encodeAll}
 use Rattle.list_laws.specs.Needed.{Needed}
 
 pub needed : Needed
-unfolding letterBank namedRule otherWord wordToken lexemeOf scanFrom groupNumber treeKind diagnosticOf expression parseFrom eval judgeParse judgeScan judgeFrom indexedTarget targetOf codeOf encodeAll
+unfolding letterBank namedRule otherWord wordToken lexemeOf scanFrom groupNumber treeKind diagnosticOf expression parseFrom eval judgeParse judgeScan
+    judgeFrom indexedTarget targetOf codeOf encodeAll
 needed =
     record {
       targets = record { one = refl; other = refl };

@@ -53,7 +53,8 @@ module _ (d : ℕ) (s code : List ℕ) (t : Tree) (e : judgeFrom d s ≡ accepte
   code-is : 16384 ≤ length code → codeText (codedBytes code (accepted t)) (length (codeOf t)) ≡ linesFrom 0 (codeOf t)
   unfolding codeText
   code-is room =
-      let good : verdict (codeOf t) ≡ Accepted (treeKind t) = verdict-laws .exact (codeOf t) (treeKind t) .1 (compile-theorems-from d .demand s t e .accepted) in
+      let good : verdict (codeOf t) ≡ Accepted (treeKind t) = verdict-laws .exact (codeOf t)
+      (treeKind t) .1 (compile-theorems-from d .demand s t e .accepted) in
       ap (λ (c : List Instr). listed listingRoom c .text) (compile-theorems-from d .there s code t e room)
       ∙ ap (λ (v : Verdict). verdictListed (codeOf t) v .text) good
 

@@ -3,7 +3,8 @@ use mathlib.Core.Path.{_≡_, sym, ap, _∙_}
 use mathlib.Core.Bool.{false}
 use mathlib.Core.List.{List, [], _∷_}
 use Prim.Native.Nat.{ℕ, zero, suc, _+_, _-_, _*_, _/_, _^_, _≤_, _<_}
-use native.Mathlib.Nat.{le-trans, le-of-lt, lt-of-le-of-lt, lt-of-lt-of-le, add-zero, zero-add, add-suc, suc-add, mul-one, mul-assoc, mul-comm, mul-pos, mul-le-mul, mul-le-mul-left, one-le-pow, pow-le-pow-right}
+use native.Mathlib.Nat.{le-trans, le-of-lt, lt-of-le-of-lt, lt-of-lt-of-le, add-zero, zero-add, add-suc, suc-add, mul-one, mul-assoc, mul-comm}
+use native.Mathlib.Nat.{mul-pos, mul-le-mul, mul-le-mul-left, one-le-pow, pow-le-pow-right}
 use native.Mathlib.Omega.{arith}
 use lib.Dec.{lit<, lit≤}
 use lib.Pow.{pow-add}
@@ -27,7 +28,8 @@ listed (x ∷ xs) j (suc k) t h = listed xs (suc j) k (t .1) (omega arith) ∙ a
 
 abbrev tens : List ℕ
 tens =
-    1 ∷ 10 ∷ 100 ∷ 1000 ∷ 10000 ∷ 100000 ∷ 1000000 ∷ 10000000 ∷ 100000000 ∷ 1000000000 ∷ 10000000000 ∷ 100000000000 ∷ 1000000000000 ∷ 10000000000000 ∷ 100000000000000 ∷ []
+    1 ∷ 10 ∷ 100 ∷ 1000 ∷ 10000 ∷ 100000 ∷ 1000000 ∷ 10000000 ∷ 100000000 ∷ 1000000000 ∷ 10000000000 ∷ 100000000000 ∷ 1000000000000 ∷ 10000000000000
+    ∷ 100000000000000 ∷ []
 
 pub power-of-ten : (k : ℕ) → k ≤ 14 → getD tens k 0 ≡ 10 ^ k
 power-of-ten k h = listed tens 0 k (search needs depth 20) (omega arith) ∙ ap (λ (i : ℕ). 10 ^ i) (zero-add k)

@@ -1,7 +1,8 @@
 -- Mixed numbers over b * a: one split from n, one multiplied, and the bounds of a whole part.
 use mathlib.Core.Path.{_≡_, ap}
 use Prim.Native.Nat.{ℕ, suc, _+_, _*_, _/_, _%_, _^_, _≤_, _<_}
-use native.Mathlib.Nat.{le-of-lt, le-trans, lt-of-le-of-lt, lt-of-lt-of-le, lt-of-not-le, not-le-of-lt, lt-of-mul-lt-mul-right, mod-lt, div-add-mod', div-le-of-le-mul, one-mul, mul-one, mul-assoc, mul-le-mul, mul-le-mul-right}
+use native.Mathlib.Nat.{le-of-lt, le-trans, lt-of-le-of-lt, lt-of-lt-of-le, lt-of-not-le, not-le-of-lt, lt-of-mul-lt-mul-right, mod-lt, div-add-mod'}
+use native.Mathlib.Nat.{div-le-of-le-mul, one-mul, mul-one, mul-assoc, mul-le-mul, mul-le-mul-right}
 use native.Mathlib.Omega.{arith}
 use lib.Pow.{pow-add, pow-mono}
 use Rattle.literals.specs.declared.Mixed.{Mixed}

@@ -106,15 +106,18 @@ module _ (E : Environment) (h : ℕ) (l r : Value) where
   short-since p = rw (lt-ltb h 1 p)
 
   -- ---- of t values, to the outcome o, where the instruction i is j
-  worked : (t : ℕ) (o : Outcome) {i j : Instr} {y : Outcome} {x : Step} → i ≡ j → made j ≡ givenStep h t o → t ≤ h → y ≡ o → x ≡ outcomeStep (h - t) y → x ≡ made i
+  worked : (t : ℕ) (o : Outcome) {i j : Instr} {y : Outcome} {x : Step} → i ≡ j → made j ≡ givenStep h t o → t ≤ h → y ≡ o → x ≡ outcomeStep (h - t) y
+      → x ≡ made i
   worked t o f g p d e =
       let enough : outcomeStep (h - t) o ≡ givenStep h t o = rw (le-ltb h t p) in
       e ∙ ap (outcomeStep (h - t)) d ∙ enough ∙ sym g ∙ ap made (sym f)
 
-  pub indexed-made : (a : ℕ) (b : Bank) {y : Outcome} {x : Step} → bankNumbered a ≡ BankOf.Is b → 1 ≤ h → y ≡ indexedCell E b r → x ≡ outcomeStep (h - 1) y → x ≡ made (indexed (bankNumbered a) 0)
+  pub indexed-made : (a : ℕ) (b : Bank) {y : Outcome} {x : Step} → bankNumbered a ≡ BankOf.Is b → 1 ≤ h → y ≡ indexedCell E b r → x ≡ outcomeStep (h - 1) y
+      → x ≡ made (indexed (bankNumbered a) 0)
   indexed-made a b e = worked 1 (indexedCell E b r) (ap (λ (u : BankOf). indexed u 0) e) refl
 
-  pub unary-made : (a : ℕ) (o : UnaryOp) {y : Outcome} {x : Step} → unaryOf a ≡ UnaryOf.Is o → 1 ≤ h → y ≡ unaryRule o r → x ≡ outcomeStep (h - 1) y → x ≡ made (ofUnary (unaryOf a) 0)
+  pub unary-made : (a : ℕ) (o : UnaryOp) {y : Outcome} {x : Step} → unaryOf a ≡ UnaryOf.Is o → 1 ≤ h → y ≡ unaryRule o r → x ≡ outcomeStep (h - 1) y
+      → x ≡ made (ofUnary (unaryOf a) 0)
   unary-made a o e = worked 1 (unaryRule o r) (ap (λ (u : UnaryOf). ofUnary u 0) e) refl
 
   pub since-made : {y : Outcome} {x : Step} → 1 ≤ h → y ≡ sinceRule (E .tick) r → x ≡ outcomeStep (h - 1) y → x ≡ made (applySince 0)

@@ -138,7 +138,8 @@ module _ {E : Environment} {code : List ℕ} {n p : ℕ} {st : List Value} {k : 
       }
 
   -- where the code has no instruction
-  pub finishes : (h : ℕ) (v : Value) → Stands E code n p st k → minimum n (length code / 8) ≤ p → finish st ≡ finishOf h v → finishedAt n p h v k ≡ wholeRun E code n
+  pub finishes : (h : ℕ) (v : Value) → Stands E code n p st k → minimum n (length code / 8) ≤ p → finish st ≡ finishOf h v
+      → finishedAt n p h v k ≡ wholeRun E code n
   finishes h v S q f = over (ltb n p) refl
     where
       beneath : (t : Bool) → ltb p n ≡ t → p ≤ n → cond t (stuckAt (k + 1)) (endedAt k (finishOf h v)) ≡ wholeRun E code n

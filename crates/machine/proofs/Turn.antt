@@ -45,7 +45,8 @@ pub record Performed (E : Environment) (h : ℕ) (s : List Value) (w k k′ : �
   pub count : k′ ≡ k + cost E (instructionOf w) (held h s)
 
 -- c is the class of the number w, told to be d, and l and r are the places of the two values at the top, if they are there
-by-class : (E : Environment) (h : ℕ) (s : List Value) (w : ℕ) {l r : ℕ} {c d : Class} {x : Step} → c ≡ classOf (opcodeOf w) → c ≡ d → (2 ≤ h → l ≡ h - 2) → (1 ≤ h → r ≡ h - 1)
+by-class : (E : Environment) (h : ℕ) (s : List Value) (w : ℕ) {l r : ℕ} {c d : Class} {x : Step} → c ≡ classOf (opcodeOf w) → c ≡ d → (2 ≤ h → l ≡ h - 2)
+    → (1 ≤ h → r ≡ h - 1)
     → x ≡ stepOf E (instrIn d w) h (getD s l none) (getD s r none) → x ≡ stepOf E (instructionOf w) h (getD s (h - 2) none) (getD s (h - 1) none)
 by-class E h s w {d = d} f g u v e =
     rw (number-class w, ← f, g) (e ∙ regardless E (instrIn d w) h (λ q. ap (λ (j : ℕ). getD s j none) (u q)) (λ q. ap (λ (j : ℕ). getD s j none) (v q)))
@@ -58,7 +59,8 @@ counts E st w k {b = b} f g e q =
     q ∙ sum ∙ ap (λ (m : ℕ). k + suc m) e ∙ rw (number-class w, ← f, g) (ap (λ (m : ℕ). k + m) (sym (cost-is E _ st)))
 
 -- a plain one begins none
-pub performed : (E : Environment) (h : ℕ) (s : List Value) (w : ℕ) {l r : ℕ} {c d : Class} {x : Step} {k k′ : ℕ} → c ≡ classOf (opcodeOf w) → c ≡ d → T (isPlain d)
+pub performed : (E : Environment) (h : ℕ) (s : List Value) (w : ℕ) {l r : ℕ} {c d : Class} {x : Step} {k k′ : ℕ} → c ≡ classOf (opcodeOf w) → c ≡ d
+    → T (isPlain d)
     → (2 ≤ h → l ≡ h - 2) → (1 ≤ h → r ≡ h - 1) → x ≡ stepOf E (instrIn d w) h (getD s l none) (getD s r none) → k′ ≡ k + 1 → Performed E h s w k k′ x
 performed E h s w {d = d} {k = k} f g t u v e q =
     let none-begun : 0 ≡ cellsBegun E (instrIn d w) (held h s) =

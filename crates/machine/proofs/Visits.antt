@@ -41,7 +41,8 @@ module _ (f : Bank → ℕ → ℕ → Visited) (w : ℕ) {d a : ℕ} (is : d �
 
 -- ---- its step and its cells, for any value of the bank and the test
 module _ (E : Environment) (h : ℕ) (l r : Value) where
-  range-step : (f : Bank → ℕ → ℕ → Instr) (g : Bank → ℕ → ℕ → Visited) (k : ℕ) → ((b : Bank) (i n : ℕ) → outcomeStep k (g b i n .result) ≡ stepOf E (f b i n) h l r)
+  range-step : (f : Bank → ℕ → ℕ → Instr) (g : Bank → ℕ → ℕ → Visited) (k : ℕ)
+      → ((b : Bank) (i n : ℕ) → outcomeStep k (g b i n .result) ≡ stepOf E (f b i n) h l r)
       → (x : BankOf) (i n : ℕ) → outcomeStep k (bankVisit g x i n .result) ≡ stepOf E (overRange f x i n) h l r
   range-step f g k e (BankOf.Is b) i n = by (goodRange b i n)
     where
@@ -115,7 +116,8 @@ module _ (E : Environment) (w : ℕ) where
     where
       by : (u : MatchOf) → matchVisit E u (getD s h none) w .cells ≡ cellsBegun E (ofMatch u w) (getD s h none ∷ held h s)
       by (MatchOf.Is o) =
-          range-cells E (getD s h none ∷ held h s) (Match o) (matchOver E o (getD s h none)) (λ b i n. refl) (bankNumbered (rangeBank w)) (rangeFirst w) (rangeCount w)
+          range-cells E (getD s h none ∷ held h s) (Match o) (matchOver E o (getD s h none)) (λ b i n. refl) (bankNumbered (rangeBank w)) (rangeFirst w)
+          (rangeCount w)
       by MatchOf.Nothing = refl
 
 -- without a value there is nothing to compare with

@@ -1,6 +1,7 @@
 -- The machine of docs/INSTRUCTIONS.md: one rule an instruction on the values held (the last pushed first), and what is left of the code. The state is the
 -- instructions left and how many of them to skip, so no place is named. Paper 01: "An instruction .. sees only itself, the values held and the memory", and
--- paper 02 of the tick: "an instruction sees it too"; "Instructions executed are those begun, the faulting one included". Total for any bytes: `Stuck` is what the verifier rules out.
+-- paper 02 of the tick: "an instruction sees it too"; "Instructions executed are those begun, the faulting one included". Total for any bytes: `Stuck` is
+-- what the verifier rules out.
 use mathlib.Core.Bool.{cond, Bool·beq}
 use mathlib.Core.List.{List, [], _∷_}
 use Prim.Native.Nat.{ℕ, zero, suc, _+_}

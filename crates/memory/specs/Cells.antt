@@ -1,5 +1,5 @@
--- Reading a cell (paper 01; of its image "any non-zero byte reads 1", since Ask 9 a bit is 0 or 1): "V0-V255 unsigned 16; N0-N255 signed 16; D0-D255 signed 32; R0-R255 singles";
--- "Reading an R cell that holds an infinity or NaN is 13." An element that is not there is 14.
+-- Reading a cell (paper 01; of its image "any non-zero byte reads 1", since Ask 9 a bit is 0 or 1): "V0-V255 unsigned 16; N0-N255 signed 16; D0-D255 signed
+-- 32; R0-R255 singles"; "Reading an R cell that holds an infinity or NaN is 13." An element that is not there is 14.
 use mathlib.Core.Bool.{Bool, cond}
 use mathlib.Core.List.{List}
 use Prim.Native.Nat.{ℕ}

@@ -1,5 +1,5 @@
--- What a formula, and an instruction, can read: the memory, cell by cell, and the tick at which it is read. A definition over an environment holds for every memory
--- and tick; nothing else is read, so two environments with the same cells and tick are one to it. No rule of paper 01 reads the tick.
+-- What a formula, and an instruction, can read: the memory, cell by cell, and the tick at which it is read. A definition over an environment holds for
+-- every memory and tick; nothing else is read, so two environments with the same cells and tick are one to it. No rule of paper 01 reads the tick.
 use mathlib.Core.List.{List}
 use Prim.Native.Nat.{ℕ}
 use Rattle.values.specs.declared.Value.{Value}

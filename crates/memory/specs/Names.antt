@@ -1,5 +1,5 @@
--- Names of cells (paper 01): "a bank letter and a decimal number without a leading zero (`0` itself is good)", within its bank; and answer 2: "target is not exactly
--- one word that is a C, V, N, D or R cell, no spaces".
+-- Names of cells (paper 01): "a bank letter and a decimal number without a leading zero (`0` itself is good)", within its bank; and answer 2: "target is
+-- not exactly one word that is a C, V, N, D or R cell, no spaces".
 use mathlib.Core.Bool.{Bool, true, false, _&&_, cond}
 use mathlib.Core.List.{List, [], _∷_}
 use Prim.Native.Nat.{ℕ, _+_, _-_, _*_, _^_}

@@ -1,6 +1,6 @@
-// The memory on edge images, to compare with a second implementation: tests/host/expected/memory.rs. For each image a line for each bank with what its first, second and last element and the one past it read, and a line of
-// indexed reads; then each value stored into each bank, with the answer and every byte that changed; then each bit turned over among zeros and among ones; then
-// texts as targets.
+// The memory on edge images, to compare with a second implementation: tests/host/expected/memory.rs. For each image a line for each bank with what its
+// first, second and last element and the one past it read, and a line of indexed reads; then each value stored into each bank, with the answer and every
+// byte that changed; then each bit turned over among zeros and among ones; then texts as targets.
 use memory::Bank;
 use memory::IMAGE_SIZE;
 use memory::names::Named;

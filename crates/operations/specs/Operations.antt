@@ -37,6 +37,7 @@ use Rattle.machine.specs.Machine.{exec, endOf}
 use Rattle.verifier.specs.declared.Verdict.{Verdict}
 use Rattle.verifier.specs.declared.Verdict.the-variants as Verdict
 use Rattle.verifier.specs.Verdicts.{verdict}
+pub use Rattle.verifier.specs.Verdicts.{isAccepted}
 use Rattle.tree_code.specs.Code.{codeOf}
 use Rattle.compiler.specs.Compile.{codedBytes}
 use Rattle.targets.specs.declared.Element.{Element}
@@ -123,10 +124,6 @@ afterStore v n b i (Stored.Stopped f) = Fault f n
 pub data Goal : Type 0 where
   to : Bank → Element → Goal
   none : ℕ → Goal
-
-abbrev pub isAccepted : Verdict → Bool
-isAccepted (Verdict.Accepted k) = true
-isAccepted Verdict.Refused = false
 
 -- "the index code, checked like the other; a plain cell has none"
 abbrev pub indexPasses : List ℕ → Element → Bool

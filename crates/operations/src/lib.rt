@@ -201,10 +201,7 @@ fn index_passes(element: Element, index: &[u8]) -> bool
 {
     match element {
         Element::Is(_) => true,
-        Element::By(k) => match verifier::check(index, k) {
-            Verdict::Accepted(_) => true,
-            Verdict::Refused => false,
-        },
+        Element::By(k) => verifier::accepts(index, k),
     }
 }
 

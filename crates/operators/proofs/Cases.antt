@@ -30,5 +30,6 @@ pub beside-real : {A : Type 0} (f : ℤ → ℤ → A) (g : Float → Float → 
 beside-real f g (Int z) y h = h
 beside-real f g (Real x) y h = h
 
-pub on-ints : (f : ℤ → ℤ → Outcome) (a b : Value) {i j : ℤ} {r : Outcome} → a ≡ Int i → b ≡ Int j → SFits w32 i → SFits w32 j → r ≡ f (read i) (read j) → r ≡ onInts f a b
+pub on-ints : (f : ℤ → ℤ → Outcome) (a b : Value) {i j : ℤ} {r : Outcome} → a ≡ Int i → b ≡ Int j → SFits w32 i → SFits w32 j → r ≡ f (read i) (read j)
+    → r ≡ onInts f a b
 on-ints f a b {i} {j} p q F G h = rw (p, q) (rw (toZ-ofZ w32 i F, toZ-ofZ w32 j G) at h)

@@ -53,7 +53,8 @@ module _ (Q : Value → Type 0) (closed : Closed Q) where
   since-gives t (Int z) h = int (sinceInt t z) (of-pattern Q closed (lowBits 32 (pos t -ℤ z)))
   since-gives t (Real x) h = absurd h
 
-  pub binary-gives : (o : BinaryOp) (a b : Value) → T (binaryTakes o (kindOf a) (kindOf b)) → Q a → Q b → Gives Q (binaryKind o (kindOf a) (kindOf b)) (binaryRule o a b)
+  pub binary-gives : (o : BinaryOp) (a b : Value) → T (binaryTakes o (kindOf a) (kindOf b)) → Q a → Q b
+      → Gives Q (binaryKind o (kindOf a) (kindOf b)) (binaryRule o a b)
   binary-gives (Arith o) a b t p q =
       promoting-gives Q closed (Gives Q) (intArith o) (realArith o) (λ i j h k. int-arith Q closed o i j) (real-arith Q closed o) a b p q
   binary-gives Power a b t p q = power Q closed a b t p

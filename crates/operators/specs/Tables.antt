@@ -1,4 +1,5 @@
--- The operators by number, in the order in which paper 01 lists them ("Grammar and grouping"), then the functions. The instruction set and the symbols of the text use these numbers.
+-- The operators by number, in the order in which paper 01 lists them ("Grammar and grouping"), then the functions. The instruction set and the symbols of
+-- the text use these numbers.
 use mathlib.Core.Bool.{cond}
 use mathlib.Core.List.{List, [], _∷_}
 use Prim.Native.Nat.{ℕ}

@@ -14,7 +14,8 @@ use Rattle.code.specs.declared.Instr.the-variants.{Unknown}
 use Rattle.verifier.specs.declared.Verdict.the-variants.{Accepted, Refused}
 use Rattle.verifier.specs.Typing.{Shape, Move, illTyped, next, jump, fork, moveOf, wellFormed}
 use Rattle.verifier.specs.Accepts.{MovesTo, next-place, jump-target, not-taken, taken, instrAt, Reached, start, onward}
-use Rattle.verifier.specs.Verdicts.{State, rejected, unreached, holds, States, sameShape, joinState, joinAt, propagate, transfer, dataflow, verdictOf, entryStates, verdict}
+use Rattle.verifier.specs.Verdicts.{State, rejected, unreached, holds, States, sameShape, joinState, joinAt, propagate, transfer, dataflow, verdictOf}
+use Rattle.verifier.specs.Verdicts.{entryStates, verdict}
 use Rattle.verifier.proofs.Verdicts.{verdict-laws}
 use Rattle.profile_code.specs.Instructions.{readsReal}
 use Rattle.profile_code.specs.Checking.{allInt, heldAfter, moveIn, wellFormedIn, AcceptsIn, transferIn, dataflowIn, verdictIn}

@@ -11,7 +11,7 @@ use Rattle.grammar.specs.Tree.{Tree}
 use Rattle.grammar.specs.Parse.{mostOpen}
 use Rattle.text.specs.Judge.{Judgement, accepted, refused, judge}
 use Rattle.text.specs.Targets.{Target, toCell, toIndexed, noTarget, targetOf}
-use Rattle.compiler.specs.Compile.{compiling}
+use Rattle.compiler.specs.Compile.{compiling, compilingIn}
 use Rattle.targets.specs.Found.{indexBytes}
 use Rattle.operations.specs.declared.Answer.the-variants.{Refused}
 use Rattle.operations.specs.Operations.{targetAnswer, compileTargetAnswer, compileTargetCode, Request, stops, ofText, ofTarget, request}
@@ -20,7 +20,7 @@ use Rattle.profile_text.specs.Judge.{judgeIn}
 use Rattle.profile_text.specs.Targets.{integerTarget, takenTarget, targetIn}
 use Rattle.profile_text.proofs.Theorems.{profile-texts}
 use Rattle.profile_text.proofs.Judging.{Judged, as-full, real-token, judged}
-use Rattle.profile_laws.specs.Operations.{compilingFor, compileTargetAnswerFor, compileTargetCodeFor, ofTargetFor, requestFor}
+use Rattle.profile_laws.specs.Operations.{compileTargetAnswerFor, compileTargetCodeFor, ofTargetFor, requestFor}
 use Rattle.profile_laws.specs.Results.{OfProfile}
 use Rattle.profile_laws.proofs.Goals.{two, nineteen}
 
@@ -32,7 +32,7 @@ none-open = omega arith
 pub full-judge : (s : List ℕ) → judgeIn true 0 s ≡ judge s
 full-judge s = profile-texts .full 0 s
 
-pub full-compiling : (room : ℕ) (s : List ℕ) → compilingFor true room s ≡ compiling room s
+pub full-compiling : (room : ℕ) (s : List ℕ) → compilingIn true 0 room s ≡ compiling room s
 full-compiling room s = ap (λ (j : Judgement). cond (ltb room 16384) (refused 10 0) j) (full-judge s)
 
 -- what the profile takes the full box takes
@@ -42,7 +42,7 @@ took s t e = profile-texts .accepts 0 s t none-open .0 e
 same-judge : (s : List ℕ) (t : Tree) → judgeIn false 0 s ≡ accepted t → judgeIn false 0 s ≡ judge s
 same-judge s t e = e ∙ sym (took s t e .0)
 
-pub same-compiling : (room : ℕ) (s : List ℕ) (t : Tree) → judgeIn false 0 s ≡ accepted t → compilingFor false room s ≡ compiling room s
+pub same-compiling : (room : ℕ) (s : List ℕ) (t : Tree) → judgeIn false 0 s ≡ accepted t → compilingIn false 0 room s ≡ compiling room s
 same-compiling room s t e = ap (λ (j : Judgement). cond (ltb room 16384) (refused 10 0) j) (same-judge s t e)
 
 -- two judgements: one, or the profile finds a real token
@@ -57,7 +57,7 @@ of-judged {s} (real-token p r) = real-found p (judge s)
 pub both-judge : (s : List ℕ) → Judgements (judgeIn false 0 s) (judge s)
 both-judge s = of-judged (judged 0 s)
 
-pub both-compile : (room : ℕ) (s : List ℕ) → Judgements (compilingFor false room s) (compiling room s)
+pub both-compile : (room : ℕ) (s : List ℕ) → Judgements (compilingIn false 0 room s) (compiling room s)
 both-compile room s = by (ltb room 16384) (both-judge s)
   where
     by : (b : Bool) {j k : Judgement} → Judgements j k → Judgements (cond b (refused 10 0) j) (cond b (refused 10 0) k)

@@ -21,16 +21,18 @@ use Rattle.targets.specs.declared.Element.{Element}
 use Rattle.targets.specs.declared.Element.the-variants.{Is, By}
 use Rattle.targets.specs.declared.Found.{Found}
 use Rattle.targets.specs.declared.Found.the-variants.{In, Other}
-use Rattle.targets.specs.Found.{foundToRun}
+use Rattle.targets.specs.Found.{foundToRun, takenFound, runTargetIn}
 use Rattle.operations.specs.declared.Answer.{Answer}
 use Rattle.operations.specs.declared.Answer.the-variants.{Refused}
 use Rattle.operations.specs.Operations.{reached, Arrival, Goal, to, none, isAccepted, indexPasses, givenGoalOf, goalOf, goal, givenGoal, runsIn, arrival}
-use Rattle.operations.specs.Operations.{finished, memoryAfter, followAnswer, followMemory, ranAnswer, ranMemory, runAnswer, runMemory, gaveAnswer, gaveMemory, givenAnswer, givenMemory}
+use Rattle.operations.specs.Operations.{finished, memoryAfter, followAnswer, followMemory, ranAnswer, ranMemory, runAnswer, runMemory, gaveAnswer}
+use Rattle.operations.specs.Operations.{gaveMemory, givenAnswer, givenMemory}
 use Rattle.profile.specs.Parts.{realBank}
 use Rattle.profile_code.specs.Checking.{AcceptsIn, verdictIn}
 use Rattle.profile_code.proofs.Theorems.{profile-code}
-use Rattle.profile_laws.specs.Operations.{runsFor, takenFound, runTargetIn, arrivalFor, indexPassesFor, givenGoalOfFor, goalOfFor, goalFor, givenGoalFor}
-use Rattle.profile_laws.specs.Operations.{ranAnswerFor, ranMemoryFor, runAnswerFor, runMemoryFor, gaveAnswerFor, gaveMemoryFor, givenAnswerFor, givenMemoryFor}
+use Rattle.profile_laws.specs.Operations.{runsFor, arrivalFor, indexPassesFor, givenGoalOfFor, goalOfFor, goalFor, givenGoalFor}
+use Rattle.profile_laws.specs.Operations.{ranAnswerFor, ranMemoryFor, runAnswerFor, runMemoryFor, gaveAnswerFor, gaveMemoryFor, givenAnswerFor}
+use Rattle.profile_laws.specs.Operations.{givenMemoryFor}
 use Rattle.profile_laws.specs.Results.{OfProfile}
 use Rattle.profile_laws.specs.Theorems.{FeederCode, FeederIndex}
 use Rattle.profile_laws.proofs.Verdicts.{BothChecks, passes, fails, both-checks, full-runs, same-runs}

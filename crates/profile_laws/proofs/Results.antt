@@ -25,7 +25,8 @@ use Rattle.compiler.specs.Compile.{codedBytes}
 use Rattle.targets.specs.Found.{indexBytes}
 use Rattle.operations.specs.declared.Answer.{Answer}
 use Rattle.operations.specs.declared.Answer.the-variants.{Refused}
-use Rattle.operations.specs.Operations.{compileAnswer, verdictAnswer, targetAnswer, Goal, runsIn, valueAnswer, evaluateAnswer, givenValue, gaveAnswer, gaveMemory}
+use Rattle.operations.specs.Operations.{compileAnswer, verdictAnswer, targetAnswer, Goal, runsIn, valueAnswer, evaluateAnswer, givenValue, gaveAnswer}
+use Rattle.operations.specs.Operations.{gaveMemory}
 use Rattle.operations.specs.Operations.{Request, requestAnswer, requestMemory, requestCode, requestIndex}
 use Rattle.promises.specs.Terms.{answerNumber, Refusal}
 use Rattle.promises.specs.Promises.{Operation, compile, compile-target, check, run, compile-and-run, store, OperationResult, FrameConditions, resultOf}
@@ -37,7 +38,8 @@ use Rattle.profile_code.proofs.Theorems.{profile-code}
 use Rattle.profile_laws.specs.Operations.{runsFor, gaveAnswerFor, gaveMemoryFor, evaluateAnswerFor}
 use Rattle.profile_laws.specs.Results.{resultFor, OfProfile, Profiled, as-full, refuses, ProfileFrame}
 use Rattle.profile_laws.proofs.Verdicts.{BothChecks, passes, fails, both-checks, full-runs, same-runs}
-use Rattle.profile_laws.proofs.Goals.{two, fifteen, nineteen, Goals, both-stop, stops-alone, both-go, run-goals, store-goals, Alike, same, alone, ran-alike, gave-alike}
+use Rattle.profile_laws.proofs.Goals.{two, fifteen, nineteen, Goals, both-stop, stops-alone, both-go, run-goals, store-goals, Alike, same}
+use Rattle.profile_laws.proofs.Goals.{alone, ran-alike, gave-alike}
 use Rattle.profile_laws.proofs.Goals.{full-run, full-run-memory, full-store, full-store-memory}
 use Rattle.profile_laws.proofs.Asked.{full-compiling, Judgements, one-judgement, real-found, both-compile, Targets, one-target, none-taken, both-target}
 use Rattle.profile_laws.proofs.Asked.{full-request, Requests, one-request, stops-before, both-requests}

@@ -9,22 +9,21 @@ use Rattle.values.specs.declared.Value.{Value}
 use Rattle.memory.specs.declared.Bank.{Bank}
 use Rattle.memory.specs.Layout.{imageSize}
 use Rattle.memory.specs.Environment.{memoryAt}
-use Rattle.text.specs.Judge.{Judgement, refused}
 use Rattle.text.specs.Targets.{Target, toCell, toIndexed, noTarget}
 use Rattle.code.specs.Instructions.{instructions}
 use Rattle.machine.specs.declared.Ran.{Ran}
 use Rattle.verifier.specs.declared.Verdict.{Verdict}
-use Rattle.compiler.specs.Compile.{codedBytes}
+use Rattle.compiler.specs.Compile.{compilingIn, codedBytes}
 use Rattle.targets.specs.declared.Element.{Element}
 use Rattle.targets.specs.declared.Element.the-variants.{Is, By}
 use Rattle.targets.specs.declared.Found.{Found}
 use Rattle.targets.specs.declared.Found.the-variants as Found
-use Rattle.targets.specs.Found.{foundToRun, indexBytes}
+use Rattle.targets.specs.Found.{runTargetIn, indexBytes}
 use Rattle.operations.specs.declared.Answer.{Answer}
 use Rattle.operations.specs.declared.Answer.the-variants.{Refused}
 use Rattle.operations.specs.Operations.{compileAnswer, verdictAnswer, targetAnswer, cell, reached, Arrival, Goal, to, none, isAccepted, valueAnswer}
 use Rattle.operations.specs.Operations.{finished, memoryAfter, followAnswer, followMemory, Request, stops, ofText}
-use Rattle.profile.specs.Parts.{realBank, realValue}
+use Rattle.profile.specs.Parts.{realValue}
 use Rattle.profile_text.specs.Judge.{judgeIn}
 use Rattle.profile_text.specs.Targets.{targetIn}
 use Rattle.profile_code.specs.Checking.{verdictIn}
@@ -32,15 +31,11 @@ use Rattle.profile_code.specs.Machine.{execIn}
 
 -- ---- compile
 
--- the judgement of a text for a buffer of so many bytes
-abbrev pub compilingFor : Bool → ℕ → List ℕ → Judgement
-compilingFor reals room s = cond (ltb room 16384) (refused 10 0) (judgeIn reals 0 s)
-
 abbrev pub compileAnswerFor : Bool → List ℕ → List ℕ → Answer
-compileAnswerFor reals text code = compileAnswer (compilingFor reals (length code) text)
+compileAnswerFor reals text code = compileAnswer (compilingIn reals 0 (length code) text)
 
 abbrev pub compiledCodeFor : Bool → List ℕ → List ℕ → List ℕ
-compiledCodeFor reals text code = codedBytes code (compilingFor reals (length code) text)
+compiledCodeFor reals text code = codedBytes code (compilingIn reals 0 (length code) text)
 
 -- ---- compile a target
 
@@ -59,16 +54,6 @@ checkAnswerFor reals code n = verdictAnswer (verdictIn reals (instructions code 
 
 abbrev pub runsFor : Bool → ℕ → List ℕ → ℕ → List ℕ → Ran
 runsFor reals tick code n m = execIn reals (memoryAt tick m) (instructions code n) 0 []
-
--- "an R target .. is 2": an R cell, and the letter R
-abbrev pub takenFound : Bool → Found → Found
-takenFound true x = x
-takenFound false (Found.In b e) = cond (realBank b) Found.Other (Found.In b e)
-takenFound false Found.Other = Found.Other
-
--- run's and store's target, whose element k instructions give
-abbrev pub runTargetIn : Bool → ℕ → List ℕ → Found
-runTargetIn reals k s = takenFound reals (foundToRun k s)
 
 abbrev pub arrivalFor : Bool → ℕ → List ℕ → List ℕ → Bank → Element → Arrival
 arrivalFor reals tick index m b (Is i) = record { destination = cell b i; count = 0 }

@@ -25,14 +25,17 @@ use Rattle.tree_code.specs.Demand.{rangeCalls}
 use Rattle.targets.specs.declared.Element.the-variants.{By}
 use Rattle.targets.specs.declared.Found.the-variants.{In, Other}
 use Rattle.operations.specs.declared.Answer.the-variants.{Refused}
-use Rattle.operations.specs.Operations.{doneWith, compileTargetAnswer, compileTargetCode, runAnswer, runMemory, evaluateAnswer, givenAnswer, givenMemory, request}
+use Rattle.operations.specs.Operations.{doneWith, compileTargetAnswer, compileTargetCode, runAnswer, runMemory, evaluateAnswer, givenAnswer}
+use Rattle.operations.specs.Operations.{givenMemory, request}
 use Rattle.promises.specs.Terms.{compileAnswerOf, compiledCode, answerNumber, Room}
 use Rattle.promises.specs.Promises.{Operation, compile-and-run, resultOf}
 use Rattle.profile_text.specs.Trees.{integerOnly}
 use Rattle.profile_text.specs.Judge.{judgeIn}
 use Rattle.profile_text.specs.Targets.{targetIn}
 use Rattle.profile_code.specs.Checking.{AcceptsIn}
-use Rattle.profile_laws.specs.Operations.{compileAnswerFor, compiledCodeFor, compileTargetAnswerFor, compileTargetCodeFor, checkAnswerFor, runsFor, runTargetIn}
+use Rattle.profile_laws.specs.Operations.{compileAnswerFor, compiledCodeFor, compileTargetAnswerFor, compileTargetCodeFor, checkAnswerFor}
+use Rattle.targets.specs.Found.{runTargetIn}
+use Rattle.profile_laws.specs.Operations.{runsFor}
 use Rattle.profile_laws.specs.Operations.{runAnswerFor, runMemoryFor, evaluateAnswerFor, givenAnswerFor, givenMemoryFor, requestFor}
 use Rattle.profile_laws.specs.Results.{resultFor, Profiled, ProfileFrame}
 

@@ -11,7 +11,8 @@ use Rattle.operators.specs.declared.BinaryOp.{BinaryOp}
 use Rattle.operators.specs.declared.BinaryOp.the-variants as B
 use Rattle.operators.specs.Kinds.{isInt, unaryTakes, binaryTakes}
 use Rattle.totals.specs.Totals.{goodCount}
-use Rattle.grammar.specs.Tree.{Tree, literal, cell, indexed, unary, binary, logic, choice, tick, since, total, matching, treeKind, Diagnostic, clear, at, precedes, earlier, unless, wrongKindAt, wrongCountAt, diagnosticOf}
+use Rattle.grammar.specs.Tree.{Tree, literal, cell, indexed, unary, binary, logic, choice, tick, since, total, matching, treeKind, Diagnostic, clear}
+use Rattle.grammar.specs.Tree.{at, precedes, earlier, unless, wrongKindAt, wrongCountAt, diagnosticOf}
 use Rattle.profile.specs.Parts.{realBank, realValue, realUnary, realTotal}
 use Rattle.profile.proofs.Tests.{both, not-true}
 use Rattle.profile.proofs.Integers.{is-int, bank-int, join-int, unary-int, binary-int, total-int, match-int}

@@ -20,15 +20,18 @@ unfolding letterBank namedRule otherWord wordToken lexemeOf scanFrom firstReal j
 real-alone = (refl, (refl, (refl, (refl, (refl, (refl, (refl, tt)))))))
 
 real-behind : AllShown behind
-unfolding letterBank namedRule otherWord wordToken lexemeOf scanFrom groupNumber treeKind diagnosticOf expression parseFrom judgeParse judgeScan firstReal judgeScanIn judgeIn
+unfolding letterBank namedRule otherWord wordToken lexemeOf scanFrom groupNumber treeKind diagnosticOf expression parseFrom judgeParse judgeScan firstReal
+    judgeScanIn judgeIn
 real-behind = (refl, (refl, (refl, (refl, (refl, (refl, (refl, (refl, (refl, (refl, (refl, (refl, (refl, (refl, tt))))))))))))))
 
 none-real : AllShown good
-unfolding letterBank namedRule otherWord wordToken lexemeOf scanFrom groupNumber treeKind diagnosticOf expression parseFrom judgeParse judgeScan firstReal judgeScanIn judgeIn
+unfolding letterBank namedRule otherWord wordToken lexemeOf scanFrom groupNumber treeKind diagnosticOf expression parseFrom judgeParse judgeScan firstReal
+    judgeScanIn judgeIn
 none-real = (refl, (refl, (refl, (refl, tt))))
 
 to-targets : AllShown targets
-unfolding letterBank namedRule otherWord wordToken lexemeOf scanFrom groupNumber treeKind diagnosticOf expression parseFrom judgeParse judgeScan judgeFrom indexedTarget targetOf integerOnly integerTarget
+unfolding letterBank namedRule otherWord wordToken lexemeOf scanFrom groupNumber treeKind diagnosticOf expression parseFrom judgeParse judgeScan judgeFrom
+    indexedTarget targetOf integerOnly integerTarget
 to-targets = (refl, (refl, (refl, (refl, (refl, (refl, (refl, (refl, tt))))))))
 
 too-long : judgeIn false 0 long ≡ refused 3 0

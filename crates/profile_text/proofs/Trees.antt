@@ -17,8 +17,10 @@ use Rattle.tokens.specs.declared.Function.the-variants as F
 use Rattle.tokens.specs.declared.Token.the-variants.{Symbol}
 use Rattle.tokens.specs.Scan.{Tok}
 use Rattle.grammar.specs.Tree.{Tree, binary, logic}
-use Rattle.grammar.specs.Symbols.{minus, tilde, bang, comma, prefixSymbol, is, none, infixTree, Callee, of-one, of-two, of-choice, of-since, Form, plain, clock, ranged, matched, formOf, moreArguments, Arguments, more, argument, callTree}
-use Rattle.grammar.specs.Grammar.{tok, Range, range, Derives, number, name, index, parenthesis, call, clocked, totalled, tested, prefixed, up, infixed, last, next}
+use Rattle.grammar.specs.Symbols.{minus, tilde, bang, comma, prefixSymbol, is, none, infixTree, Callee, of-one, of-two, of-choice, of-since, Form}
+use Rattle.grammar.specs.Symbols.{plain, clock, ranged, matched, formOf, moreArguments, Arguments, more, argument, callTree}
+use Rattle.grammar.specs.Grammar.{tok, Range, range, Derives, number, name, index, parenthesis, call, clocked, totalled, tested, prefixed, up}
+use Rattle.grammar.specs.Grammar.{infixed, last, next}
 use Rattle.profile.specs.Parts.{realBank, realValue, realUnary, realTotal}
 use Rattle.profile_text.specs.Tokens.{realFunction, realToken, noReal}
 use Rattle.profile_text.specs.Trees.{integerOnly}

@@ -1,5 +1,5 @@
--- The lines of a case (paper 01): "The program reads lines of key=value from standard input: cells (R as its pattern), then target, then expr. Lines of any other form are skipped."
--- The order of lines is not enforced, and a later line for the same key wins.
+-- The lines of a case (paper 01): "The program reads lines of key=value from standard input: cells (R as its pattern), then target, then expr. Lines of any
+-- other form are skipped." The order of lines is not enforced, and a later line for the same key wins.
 use mathlib.Core.Bool.{cond}
 use mathlib.Core.List.{List, [], _∷_}
 use Prim.Native.Nat.{ℕ}

@@ -1,5 +1,6 @@
--- The program's reply to a case (paper 01, "Sheet of sums"): the answer, its place and, on answer 0, the cell stored to, after the store (paper 02: "The program prints the cell stored to, as `D42=`."). "A refusal or fault prints the first two
--- lines only." Each line ends with byte 10. No reply is longer than 64 bytes: that is part of the contract of `respond`.
+-- The program's reply to a case (paper 01, "Sheet of sums"): the answer, its place and, on answer 0, the cell stored to, after the store (paper 02: "The
+-- program prints the cell stored to, as `D42=`."). "A refusal or fault prints the first two lines only." Each line ends with byte 10. No reply is longer
+-- than 64 bytes: that is part of the contract of `respond`.
 use mathlib.Core.Path.{_≡_}
 use mathlib.Core.Bool.{cond}
 use mathlib.Core.List.{List, [], _∷_, _++_}

@@ -47,10 +47,12 @@ beyond code n k (refused a p) e h = refl
 pub only-code : (text code : List ℕ) (n k : ℕ) → compileAnswerOf text code ≡ doneWith n → 8 * n ≤ k → getD (compiledCode text code) k 0 ≡ getD code k 0
 only-code text code n k = beyond code n k (compiling (length code) text)
 
-pub only-index : (target index : List ℕ) (k : ℕ) → 8 * reportOf (compileTargetAnswer index target) .count ≤ k → getD (compileTargetCode index target) k 0 ≡ getD index k 0
+pub only-index : (target index : List ℕ) (k : ℕ) → 8 * reportOf (compileTargetAnswer index target) .count ≤ k
+    → getD (compileTargetCode index target) k 0 ≡ getD index k 0
 only-index target index k = by (ltb (length index) 16384) (targetOf target)
   where
-    by : (t : Bool) (g : Target) → 8 * reportOf (cond t (Refused 10 0) (targetAnswer g)) .count ≤ k → getD (cond t index (indexBytes index g)) k 0 ≡ getD index k 0
+    by : (t : Bool) (g : Target) → 8 * reportOf (cond t (Refused 10 0) (targetAnswer g)) .count ≤ k
+        → getD (cond t index (indexBytes index g)) k 0 ≡ getD index k 0
     by true g h = refl
     by false (toCell b i) h = refl
     by false (toIndexed b t) h = beyond-code index t k h
@@ -59,7 +61,8 @@ only-index target index k = by (ltb (length index) 16384) (targetOf target)
 -- ---- accepted code
 
 module _ (code : List ℕ) (n : ℕ) where
-  well : {k : Kind} → Verifier.Accepts (instructions code n) k → (most : ℕ) → ((tick : ℕ) (m : List ℕ) → runsAt tick code n m .count ≤ most) → Ends code n most k
+  well : {k : Kind} → Verifier.Accepts (instructions code n) k → (most : ℕ) → ((tick : ℕ) (m : List ℕ) → runsAt tick code n m .count ≤ most)
+      → Ends code n most k
   well {k} a most h = record {
     well = λ tick m. safe .ends (memoryAt tick m) (instructions code n) k (kinded tick m) a;
     quick = h;

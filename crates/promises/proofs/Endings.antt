@@ -155,7 +155,8 @@ of-reached b c i (Ended.Done v) q = by (positionRule b v) q
 of-reached b c i (Ended.Stopped f) e = let z : _≡_ {A = ℕ} 0 1 = cc in absurd (omega arith)
 of-reached b c i Ended.Stuck e = let z : _≡_ {A = ℕ} 0 1 = cc in absurd (omega arith)
 
-pub names-run : (tick : ℕ) (index m : List ℕ) (b : Bank) (e : Element) {c : Bank} {i : ℕ} → arrival tick index m b e .destination ≡ Goes.cell c i → Names (In b e) c i
+pub names-run : (tick : ℕ) (index m : List ℕ) (b : Bank) (e : Element) {c : Bank} {i : ℕ} → arrival tick index m b e .destination ≡ Goes.cell c i
+    → Names (In b e) c i
 names-run tick index m b (Is j) {c} {i} q =
     let p : b ≡ c = cc in
     let r : j ≡ i = cc in

@@ -42,7 +42,8 @@ use Rattle.operations.specs.declared.Answer.{Answer}
 use Rattle.operations.specs.declared.Answer.the-variants.{Done, Fault, Refused}
 use Rattle.operations.specs.Operations.{Destination, cell, fault, lost, Arrival, arrival, arrivalOf, afterStore, arrivedAnswer, followAnswer, followMemory}
 use Rattle.operations.specs.Operations.{Goal, to, none, indexPasses, goalOf, goal, finished, memoryAfter, ranAnswer, ranMemory, runAnswer, runMemory}
-use Rattle.operations.specs.Operations.{valueAnswer, evaluateAnswer, kindWord, bitsOf, givenValue, givenGoalOf, gaveAnswer, gaveMemory, givenAnswer, givenMemory}
+use Rattle.operations.specs.Operations.{valueAnswer, evaluateAnswer, kindWord, bitsOf, givenValue, givenGoalOf, gaveAnswer, gaveMemory, givenAnswer}
+use Rattle.operations.specs.Operations.{givenMemory}
 use Rattle.operations.specs.Operations.{compileTargetCode, stores, request, requestAnswer, requestMemory}
 use Rattle.promises.specs.Terms.{compiledCode}
 use Rattle.promises.specs.Promises.{textToRun, countToRun}

@@ -40,14 +40,16 @@ use Rattle.targets.specs.declared.Found.the-variants.{In, Other}
 use Rattle.targets.specs.Found.{foundOf, foundToRun, indexBytes}
 use Rattle.operations.specs.declared.Answer.{Answer}
 use Rattle.operations.specs.declared.Answer.the-variants.{Done, Fault, Refused}
-use Rattle.operations.specs.Operations.{reportOf, compileAnswer, verdictAnswer, checkAnswer, targetAnswer, compileTargetAnswer, compileTargetCode, Destination, cell}
+use Rattle.operations.specs.Operations.{reportOf, compileAnswer, verdictAnswer, checkAnswer, targetAnswer, compileTargetAnswer, compileTargetCode}
+use Rattle.operations.specs.Operations.{Destination, cell}
 use Rattle.operations.specs.Operations.{Arrival, arrival, arrivalOf, indexPasses, Goal, to, none, goalOf, goal, ranAnswer, ranMemory, runAnswer, runMemory}
 use Rattle.operations.specs.Operations.{givenValue, givenGoalOf, givenGoal, gaveAnswer, gaveMemory}
 use Rattle.operations.specs.Operations.{Request, ofTarget, ofText, request, requestAnswer, requestMemory, requestCode, requestIndex}
 use Rattle.operations.proofs.Verdicts as run
 use Rattle.operations.proofs.Giving as given
 use Rattle.operations.proofs.Requests.{kinded, no-memory, no-room, no-index-room, named}
-use Rattle.promises.specs.Terms.{compileAnswerOf, compiledCode, answerNumber, Refusal, Names, SameBut, StoredOrFault, stored, unstored, no-element, infinite, stopped}
+use Rattle.promises.specs.Terms.{compileAnswerOf, compiledCode, answerNumber, Refusal, Names, SameBut, StoredOrFault, stored, unstored}
+use Rattle.promises.specs.Terms.{no-element, infinite, stopped}
 use Rattle.promises.specs.Promises.{Operation, compile, compile-target, check, run, compile-and-run, store, resultOf, FrameConditions}
 use Rattle.promises.proofs.Numbers.{either, Numbered, formula, three-to-nine, numbered, fault-range, no-fault, own-number}
 use Rattle.promises.proofs.Endings.{run-sound, target-sound, ends-well, gives, names-run, names-target}
@@ -76,7 +78,8 @@ small : (a : ℕ) → Refusal a → a ≤ 15
 small a (l, h) = ⊎-elim (λ l. omega arith) (λ l. omega arith) h
 
 module _ {W : Bank → ℕ → Type 0} {m code index : List ℕ} where
-  keeps : {r : Answer} {m′ code′ index′ : List ℕ} → Sorted W m code index r m′ code′ index′ → FrameConditions m code index (record { answer = r; memory = m′; code = code′; index = index′ })
+  keeps : {r : Answer} {m′ code′ index′ : List ℕ} → Sorted W m code index r m′ code′ index′
+      → FrameConditions m code index (record { answer = r; memory = m′; code = code′; index = index′ })
   keeps (done h x l w i) = record {
     listed = omega arith;
     refused = λ x. absurd (omega arith);
@@ -133,7 +136,8 @@ module _ (m code index : List ℕ) where
   index-length (toIndexed b t) = coded-length index (accepted t)
   index-length noTarget = refl
 
-  sorted-judged : {W : Bank → ℕ → Type 0} {j : Judgement} → ((b : Bank) (i : ℕ) → W b i) → Numbered j → Sorted W m code index (compileAnswer j) m (codedBytes code j) index
+  sorted-judged : {W : Bank → ℕ → Type 0} {j : Judgement} → ((b : Bank) (i : ℕ) → W b i) → Numbered j
+      → Sorted W m code index (compileAnswer j) m (codedBytes code j) index
   sorted-judged {j = j} x formula = done (record { cells = λ c j l d. refl; flags = λ f. refl }) (x _ _) refl (coded-length code j) refl
   sorted-judged x (three-to-nine a p l h) = low a p (omega arith) (omega arith)
 
@@ -211,7 +215,8 @@ module _ (m code index : List ℕ) where
 
   module _ (target text : List ℕ) (tick : ℕ) where
     abbrev Performs : Request → Type 0
-    Performs q = Sorted (Names (foundOf (targetOf target))) m code index (requestAnswer tick m q) (requestMemory tick m q) (requestCode code q) (requestIndex index q)
+    Performs q = Sorted (Names (foundOf (targetOf target))) m code index (requestAnswer tick m q) (requestMemory tick m q) (requestCode code q)
+        (requestIndex index q)
 
     sorted-text : {b : Bank} {e : Element} → length m ≡ imageSize → (g : Target) → targetOf target ≡ g → foundOf g ≡ In b e → (j : Judgement) → judge text ≡ j
         → Performs (ofText code index g j)

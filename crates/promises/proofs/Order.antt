@@ -21,7 +21,8 @@ use Rattle.targets.specs.declared.Element.the-variants.{By}
 use Rattle.targets.specs.declared.Found.the-variants.{Other}
 use Rattle.targets.specs.Found.{foundToRun}
 use Rattle.operations.specs.declared.Answer.the-variants.{Refused}
-use Rattle.operations.specs.Operations.{doneWith, verdictAnswer, checkAnswer, targetAnswer, compileTargetAnswer, isAccepted, ranAnswer, runAnswer, request, requestAnswer}
+use Rattle.operations.specs.Operations.{doneWith, verdictAnswer, checkAnswer, targetAnswer, compileTargetAnswer, isAccepted, ranAnswer, runAnswer}
+use Rattle.operations.specs.Operations.{request, requestAnswer}
 use Rattle.operations.proofs.Verdicts as run
 use Rattle.operations.proofs.Requests as request
 use Rattle.promises.specs.Terms.{compileAnswerOf, ReadyToRun, Room}
@@ -74,4 +75,5 @@ module _ (code index : List ℕ) (n k tick : ℕ) {target m : List ℕ} {b : Ban
   wrong-index j ready c h =
       let a = run.accepted-by code n c in
       let v = verdict-laws .exact (instructions code n) (a .0) .1 (a .1) in
-      ap (ranAnswer tick index m (runsAt tick code n m)) (run.aimed code n target index k m (ready .memory) (ready .goal) v refl (ap isAccepted (refused index j h)))
+      ap (ranAnswer tick index m (runsAt tick code n m)) (run.aimed code n target index k m (ready .memory)
+      (ready .goal) v refl (ap isAccepted (refused index j h)))

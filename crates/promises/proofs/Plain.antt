@@ -23,7 +23,8 @@ use Rattle.targets.specs.declared.Element.the-variants.{Is}
 use Rattle.targets.specs.Found.{foundOf}
 use Rattle.targets.proofs.Theorems.{from-plain, target-theorems}
 use Rattle.operations.specs.declared.Answer.the-variants.{Fault}
-use Rattle.operations.specs.Operations.{doneWith, checkAnswer, cell, Arrival, storedAnswer, finished, memoryAfter, ofText, request, requestAnswer, requestMemory, requestIndex}
+use Rattle.operations.specs.Operations.{doneWith, checkAnswer, cell, Arrival, storedAnswer, finished, memoryAfter, ofText, request, requestAnswer}
+use Rattle.operations.specs.Operations.{requestMemory, requestIndex}
 use Rattle.operations.specs.Operations.{runAnswer, runMemory}
 use Rattle.promises.specs.Terms.{compileAnswerOf, compiledCode, Ready, ReadyToRun, Plain, Room, plainAnswer, plainMemory}
 use Rattle.promises.proofs.Endings.{there}
@@ -68,7 +69,8 @@ module _ {target m : List ℕ} {b : Bank} {i : ℕ} (plain : Plain target m b i)
       let x = runsAt tick code n m in
       (f .0 ∙ plain-answer m b i (plain .memory) inside (x .end) (x .count), f .1 ∙ plain-memory m b i (plain .memory) inside (x .end))
 
-  pub plain-request : {text : List ℕ} {t : Tree} {n : ℕ} (code index : List ℕ) (tick : ℕ) → Room index → AcceptedFormula text t → compileAnswerOf text code ≡ doneWith n
+  pub plain-request : {text : List ℕ} {t : Tree} {n : ℕ} (code index : List ℕ) (tick : ℕ) → Room index → AcceptedFormula text t
+      → compileAnswerOf text code ≡ doneWith n
       → let e = endOf (eval (memoryAt tick m) t) in
       (requestAnswer tick m (request target text m code index) ≡ plainAnswer m b i e (runsAt tick (compiledCode text code) n m .count))
       × ((requestMemory tick m (request target text m code index) ≡ plainMemory m b i e) × (requestIndex index (request target text m code index) ≡ index))

@@ -25,7 +25,8 @@ use Rattle.targets.specs.declared.Element.the-variants.{Is, By}
 use Rattle.targets.specs.declared.Found.the-variants.{In}
 use Rattle.targets.specs.Found.{foundOf, foundToRun, indexBytes}
 use Rattle.targets.proofs.Theorems.{indexed, target-theorems}
-use Rattle.operations.specs.Operations.{doneWith, checkAnswer, to, goal, arrival, arrivalOf, isAccepted, indexPasses, finished, memoryAfter, ranAnswer, ranMemory}
+use Rattle.operations.specs.Operations.{doneWith, checkAnswer, to, goal, arrival, arrivalOf, isAccepted, indexPasses, finished, memoryAfter}
+use Rattle.operations.specs.Operations.{ranAnswer, ranMemory}
 use Rattle.operations.specs.Operations.{compileTargetCode, runAnswer, runMemory, requestAnswer, requestMemory}
 use Rattle.operations.proofs.Verdicts.{accepted-by, aimed, Finishes}
 use Rattle.operations.proofs.Requests.{kinded, run-code, arrives}
@@ -36,12 +37,14 @@ use Rattle.promises.proofs.Texts.{is-formula, formula, written, index-c
 use Rattle.promises.proofs.Codes.{faithful, faithful-index}
 
 -- a formula's instructions stand at the front of the buffer, whatever it held
-front : (d : ℕ) (text code : List ℕ) (t : Tree) → judgeFrom d text ≡ accepted t → Room code → take (8 * length (codeOf t)) (codedBytes code (accepted t)) ≡ encodeAll (codeOf t)
+front : (d : ℕ) (text code : List ℕ) (t : Tree) → judgeFrom d text ≡ accepted t → Room code
+    → take (8 * length (codeOf t)) (codedBytes code (accepted t)) ≡ encodeAll (codeOf t)
 front d text code t q room =
     let size = encoded-length (codeOf t) in
     rw (← size) (run-written code 0 (encodeAll (codeOf t)) (omega (arith, size, Compile.short d text t q)))
 
-module _ {target m : List ℕ} {b : Bank} {e : Element} (k tick : ℕ) (ready : ReadyToRun k target m b e) (index : List ℕ) (passes : indexPasses index e ≡ true) where
+module _ {target m : List ℕ} {b : Bank} {e : Element} (k tick : ℕ) (ready : ReadyToRun k target m b e) (index : List ℕ)
+    (passes : indexPasses index e ≡ true) where
   -- accepted code is run, and its value goes to the target
   the-goal : (code : List ℕ) (n : ℕ) → checkAnswer code n ≡ doneWith 0 → goal code n target index k m ≡ to b e
   the-goal code n c =
@@ -49,7 +52,8 @@ module _ {target m : List ℕ} {b : Bank} {e : Element} (k tick : ℕ) (ready : 
       aimed code n target index k m (ready .memory) (ready .goal) (verdict-laws .exact (instructions code n) (a .0) .1 (a .1)) refl passes
 
   module _ (code : List ℕ) (n : ℕ) (c : checkAnswer code n ≡ doneWith 0) where
-    pub finishes : Finishes m (arrival tick index m b e) (runsAt tick code n m) (runAnswer tick code n target index k m) (runMemory tick code n target index k m)
+    pub finishes : Finishes m (arrival tick index m b e) (runsAt tick code n m) (runAnswer tick code n target index k m)
+        (runMemory tick code n target index k m)
     finishes =
         let g = the-goal code n c in
         (ap (ranAnswer tick index m (runsAt tick code n m)) g, ap (ranMemory tick index m (runsAt tick code n m)) g)
@@ -60,7 +64,8 @@ module _ {target m : List ℕ} {b : Bank} {e : Element} (k tick : ℕ) (ready : 
         let a = accepted-by code n c in
         let w = safe .ends (memoryAt tick m) (instructions code n) (a .0) (kinded tick m) (a .1) in
         let x = runsAt tick code n m in
-        subst⁻¹ (λ g. StoredOrFault m (x .count) (arrival tick index m b e) (x .end) (ranAnswer tick index m x g) (ranMemory tick index m x g)) (the-goal code n c)
+        subst⁻¹ (λ g. StoredOrFault m (x .count) (arrival tick index m b e) (x .end) (ranAnswer tick index m x g) (ranMemory tick index m x g))
+        (the-goal code n c)
         (gives m (ready .memory) (x .count) (arrival tick index m b e) (run-sound k target tick index m e (ready .goal) passes) w)
 
 -- ---- desk and box
@@ -102,7 +107,8 @@ module _ {target m : List ℕ} {b : Bank} {e : Element} (tick : ℕ) (ready : Re
       → arrivalOf tick (indexBytes desk g) m g ≡ arrivalOf tick (indexBytes box g) m g
   same-arrival desk box d x (toCell c i) q f = refl
   same-arrival desk box d x (toIndexed c t) q f =
-      let same = run-code 1 (indexText target) t (indexed target q .judged) tick m desk d ∙ sym (run-code 1 (indexText target) t (indexed target q .judged) tick m box x) in
+      let same = run-code 1 (indexText target) t (indexed target q .judged) tick m desk d
+      ∙ sym (run-code 1 (indexText target) t (indexed target q .judged) tick m box x) in
       ap (λ y. record { destination = arrivalOf tick (indexBytes box (toIndexed c t)) m (toIndexed c t) .destination; count = y .count }) same
   same-arrival desk box d x noTarget q f = refl
 
@@ -131,7 +137,8 @@ module _ {target m : List ℕ} {b : Bank} {e : Element} (tick : ℕ) (ready : Re
         index = rw there (same-index di bi rd rb g refl (ready .goal));
       }
 
-  pub desk-and-box : (text desk box desk-index box-index : List ℕ) {n : ℕ} → Room box → Room desk-index → Room box-index → compileAnswerOf text desk ≡ doneWith n
+  pub desk-and-box : (text desk box desk-index box-index : List ℕ) {n : ℕ} → Room box → Room desk-index → Room box-index
+      → compileAnswerOf text desk ≡ doneWith n
       → Agree n (countToRun e) (resultOf (run n (countToRun e) tick) (textToRun target e) m (compiledCode text desk) (compileTargetCode desk-index target))
       (resultOf (compile-and-run text tick) target m box box-index)
   desk-and-box text desk box di bi room rd rb c = agree desk box di bi (formula text desk c .1) room rd rb c

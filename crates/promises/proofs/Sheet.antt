@@ -15,5 +15,6 @@ use Rattle.tree_code.specs.Code.{codeOf}
 use Rattle.promises.specs.Sheet.{Sums, sheet}
 
 pub sums : Sums sheet
-unfolding Ieee.ofBits Ieee.toBits Ieee.ofInt Ieee.add Ieee.div Ieee.eq letterBank namedRule otherWord wordToken lexemeOf scanFrom groupNumber treeKind diagnosticOf expression parseFrom eval judgeParse judgeScan judgeFrom indexedTarget targetOf exec act codeOf
+unfolding Ieee.ofBits Ieee.toBits Ieee.ofInt Ieee.add Ieee.div Ieee.eq letterBank namedRule otherWord wordToken lexemeOf scanFrom groupNumber treeKind
+    diagnosticOf expression parseFrom eval judgeParse judgeScan judgeFrom indexedTarget targetOf exec act codeOf
 sums = (refl, (refl, (refl, (refl, (refl, (refl, (refl, (refl, (refl, (refl, (refl, (refl, tt))))))))))))

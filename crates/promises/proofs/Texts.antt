@@ -26,9 +26,11 @@ use Rattle.targets.specs.declared.Element.{Element}
 use Rattle.targets.specs.Found.{indexBytes}
 use Rattle.operations.specs.declared.Answer.{Answer}
 use Rattle.operations.specs.declared.Answer.the-variants.{Refused}
-use Rattle.operations.specs.Operations.{doneWith, compileAnswer, compileTargetCode, Arrival, arrivalOf, ofText, request, requestAnswer, requestMemory, requestCode, requestIndex}
+use Rattle.operations.specs.Operations.{doneWith, compileAnswer, compileTargetCode, Arrival, arrivalOf, ofText, request, requestAnswer, requestMemory}
+use Rattle.operations.specs.Operations.{requestCode, requestIndex}
 use Rattle.operations.proofs.Requests.{kinded, named, good-target, with-room}
-use Rattle.promises.specs.Terms.{compileAnswerOf, compiledCode, answerNumber, Refusal, Ready, Room, StoredOrFault, stored, unstored, no-element, infinite, stopped}
+use Rattle.promises.specs.Terms.{compileAnswerOf, compiledCode, answerNumber, Refusal, Ready, Room, StoredOrFault, stored, unstored, no-element}
+use Rattle.promises.specs.Terms.{infinite, stopped}
 use Rattle.promises.proofs.Numbers.{no-fault}
 use Rattle.promises.proofs.Endings.{target-sound, ends-well, gives}
 
@@ -99,16 +101,21 @@ module _ {target m : List ℕ} {b : Bank} {e : Element} (tick : ℕ) (ready : Re
       let w = written text code (is-formula a) c in
       let kind = compile-theorems .demand text t (is-formula a) .kind (memoryAt tick m) (kinded tick m) in
       rw (the-tree code index (w .room) more a, w .bytes, ← w .count, index-code target index more)
-      (gives m (ready .memory) _ (arrivalOf tick (indexBytes index (targetOf target)) m (targetOf target)) (target-sound target tick m (targetOf target) refl (ready .goal)) (ends-well kind))
+      (gives m (ready .memory) _ (arrivalOf tick (indexBytes index (targetOf target)) m (targetOf target))
+      (target-sound target tick m (targetOf target) refl (ready .goal)) (ends-well kind))
 
   pub performs : (text code index : List ℕ) → Room code → Room index
       → (Refusal (answerNumber (requestAnswer tick m (request target text m code index))) → ⊥) ↔ ((t : Tree) × AcceptedFormula text t)
-  performs text code index room more = (rw (the-text text code index room more) (only (judge text) refl), λ x. no-refusal (answers code index more (x .1) (taken (x .1))))
+  performs text code index room more = (
+    rw (the-text text code index room more) (only (judge text) refl),
+    λ x. no-refusal (answers code index more (x .1) (taken (x .1))),
+  )
     where
       taken : {t : Tree} → AcceptedFormula text t → compileAnswerOf text code ≡ doneWith (length (codeOf t))
       taken a = ap compileAnswer (with-room code text room ∙ is-formula a)
 
-      only : (j : Judgement) → judge text ≡ j → (Refusal (answerNumber (requestAnswer tick m (ofText code index (targetOf target) j))) → ⊥) → (t : Tree) × AcceptedFormula text t
+      only : (j : Judgement) → judge text ≡ j → (Refusal (answerNumber (requestAnswer tick m (ofText code index (targetOf target) j))) → ⊥)
+          → (t : Tree) × AcceptedFormula text t
       only (accepted t) q e = (t, text-theorems .accepts text t .0 q)
       only (refused a p) q e = absurd (let h = low text q in e (omega arith, inl (omega arith)))
 

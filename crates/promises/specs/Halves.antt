@@ -33,7 +33,8 @@ use Rattle.targets.specs.declared.Found.the-variants.{Other}
 use Rattle.targets.specs.Found.{foundToRun}
 use Rattle.operations.specs.declared.Answer.{Answer}
 use Rattle.operations.specs.declared.Answer.the-variants.{Done, Fault, Refused}
-use Rattle.operations.specs.Operations.{doneWith, checkAnswer, compileTargetCode, to, goal, runAnswer, runMemory, arrival, arrivalOf, indexPasses, followAnswer, followMemory}
+use Rattle.operations.specs.Operations.{doneWith, checkAnswer, compileTargetCode, to, goal, runAnswer, runMemory, arrival, arrivalOf, indexPasses}
+use Rattle.operations.specs.Operations.{followAnswer, followMemory}
 use Rattle.operations.specs.Operations.{evaluateAnswer, kindWord, bitsOf, givenValue, givenAnswer, givenMemory, stores, request, requestAnswer, requestMemory}
 use Rattle.promises.specs.Terms.{compileAnswerOf, compiledCode, answerNumber, ReadyToRun, StoredOrFault, Ready, Room}
 use Rattle.promises.specs.Promises.{textToRun, countToRun}
@@ -69,7 +70,8 @@ pub record Halves : Type 0 where
       → givenAnswer tick v target index k m ≡ Refused 2 0
   pub store-wrong-index : (v : Value) (index : List ℕ) (k j tick : ℕ) {target m : List ℕ} {b : Bank} → ReadyToRun k target m b (By j)
       → ((i : Kind) → Code.Accepts (instructions index j) i → ⊥) → givenAnswer tick v target index k m ≡ Refused 15 0
-  -- where none holds it "may fault with 13 or, for an indexed target, its index fault", and "turns on the flag of its own fault"; its count is of the index code
+  -- where none holds it "may fault with 13 or, for an indexed target, its index fault", and "turns on the flag of its own fault"; its count is of the index
+  -- code
   pub stores-given : (v : Value) (index : List ℕ) (k tick : ℕ) {target m : List ℕ} {b : Bank} {e : Element}
       → ReadyToRun k target m b e → indexPasses index e ≡ true
       → StoredOrFault m 0 (arrival tick index m b e) (Ended.Done v) (givenAnswer tick v target index k m) (givenMemory tick v target index k m)

@@ -30,13 +30,15 @@ use Rattle.targets.specs.declared.Found.the-variants.{Other}
 use Rattle.targets.specs.Found.{foundOf, foundToRun}
 use Rattle.operations.specs.declared.Answer.{Answer}
 use Rattle.operations.specs.declared.Answer.the-variants.{Refused}
-use Rattle.operations.specs.Operations.{reportOf, doneWith, checkAnswer, compileTargetAnswer, compileTargetCode, arrival, arrivalOf, indexPasses, runAnswer, runMemory}
+use Rattle.operations.specs.Operations.{reportOf, doneWith, checkAnswer, compileTargetAnswer, compileTargetCode, arrival, arrivalOf, indexPasses}
+use Rattle.operations.specs.Operations.{runAnswer, runMemory}
 use Rattle.operations.specs.Operations.{givenValue, givenAnswer, givenMemory, request, requestAnswer, requestMemory, requestCode, requestIndex}
-use Rattle.promises.specs.Terms.{compileAnswerOf, compiledCode, answerNumber, Refusal, Ready, ReadyToRun, Plain, Room, Names, SameBut, StoredOrFault, plainAnswer, plainMemory, Finite, Ends}
+use Rattle.promises.specs.Terms.{compileAnswerOf, compiledCode, answerNumber, Refusal, Ready, ReadyToRun, Plain, Room, Names, SameBut}
+use Rattle.promises.specs.Terms.{StoredOrFault, plainAnswer, plainMemory, Finite, Ends}
 
--- "compile alone (expression, code buffer), check (code buffer, number of instructions), run (those, memory, target), and compile-and-run (all but the number)";
--- paper 02: "A run takes the bank and the index code", of so many instructions; "The tick is an input wherever a value is worked out"; "storing a given value", of
--- a kind and a pattern. Evaluate is lent the memory to read only, so it writes nothing, on a fault too
+-- "compile alone (expression, code buffer), check (code buffer, number of instructions), run (those, memory, target), and compile-and-run (all but the
+-- number)"; paper 02: "A run takes the bank and the index code", of so many instructions; "The tick is an input wherever a value is worked out"; "storing a
+-- given value", of a kind and a pattern. Evaluate is lent the memory to read only, so it writes nothing, on a fault too
 pub data Operation : Type 0 where
   compile : List ℕ → Operation
   compile-target : Operation
@@ -177,7 +179,8 @@ pub record Promises : Type 0 where
       → Room box → Room desk-index → Room box-index → compileAnswerOf text desk ≡ doneWith n
       → Agree n (countToRun e) (resultOf (run n (countToRun e) tick) (textToRun target e) m (compiledCode text desk) (compileTargetCode desk-index target))
       (resultOf (compile-and-run text tick) target m box box-index)
-  pub same-refusal : (text desk box index : List ℕ) (tick : ℕ) {target m : List ℕ} {b : Bank} {e : Element} {a p : ℕ} → Ready target m b e → Room desk → Room box
+  pub same-refusal : (text desk box index : List ℕ) (tick : ℕ) {target m : List ℕ} {b : Bank} {e : Element} {a p : ℕ} → Ready target m b e → Room desk
+      → Room box
       → Room index → compileAnswerOf text desk ≡ Refused a p → resultOf (compile-and-run text tick) target m box index .answer ≡ Refused a p
   pub same-code : (text code index : List ℕ) (tick : ℕ) {target m : List ℕ} {b : Bank} {e : Element} → Ready target m b e → Room code → Room index
       → resultOf (compile-and-run text tick) target m code index .code ≡ compiledCode text code

@@ -1,5 +1,5 @@
--- The sheet of sums of paper 01, "Proved: these twelve, as one list under one claim": each compiled and run at tick 0 on a memory whose cells hold something else,
--- with the value that is returned, before the store, and what the cell reads after it. proofs/Sheet.antt proves `Sums sheet`.
+-- The sheet of sums of paper 01, "Proved: these twelve, as one list under one claim": each compiled and run at tick 0 on a memory whose cells hold
+-- something else, with the value that is returned, before the store, and what the cell reads after it. proofs/Sheet.antt proves `Sums sheet`.
 use mathlib.Core.Path.{_≡_}
 use mathlib.Core.List.{List, [], _∷_}
 use Prim.Native.Nat.{ℕ}

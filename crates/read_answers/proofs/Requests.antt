@@ -27,7 +27,8 @@ use Rattle.compiler.specs.Compile.{codedBytes}
 use Rattle.compiler.proofs.Theorems.{compile-theorems-from}
 use Rattle.targets.specs.Found.{indexBytes}
 use Rattle.targets.proofs.Theorems.{indexed}
-use Rattle.operations.specs.Operations.{Destination, destinationOf, indexBegun, arrivalOf, finished, Request, stores, stops, ofText, ofTarget, request, requestAnswer}
+use Rattle.operations.specs.Operations.{Destination, destinationOf, indexBegun, arrivalOf, finished, Request, stores, stops, ofText, ofTarget}
+use Rattle.operations.specs.Operations.{request, requestAnswer}
 use Rattle.read_answers.specs.Answers.{requestCells}
 use Rattle.read_answers.proofs.Runs.{element, finished-same}
 

@@ -34,7 +34,8 @@ use Rattle.targets.specs.declared.Found.the-variants as Found
 use Rattle.targets.specs.Found.{foundToRun}
 use Rattle.operations.specs.declared.Answer.{Answer}
 use Rattle.operations.specs.declared.Answer.the-variants.{Fault}
-use Rattle.operations.specs.Operations.{Destination, cell, fault, lost, reached, destinationOf, Arrival, arrival, afterStore, arrivedAnswer, followAnswer, finished}
+use Rattle.operations.specs.Operations.{Destination, cell, fault, lost, reached, destinationOf, Arrival, arrival, afterStore, arrivedAnswer}
+use Rattle.operations.specs.Operations.{followAnswer, finished}
 use Rattle.operations.specs.Operations.{Goal, to, none, indexPasses, goalOf, goal, ranAnswer, runAnswer, request}
 use Rattle.operations.specs.Operations.{valueAnswer, evaluateAnswer, givenGoalOf, givenGoal, gaveAnswer, givenAnswer}
 use Rattle.read_answers.specs.Answers.{elementCells, foundCells, runCells}
@@ -113,7 +114,8 @@ ran tick code n target index k m m′ a =
     let mine = first (codeCells (instructions code n)) (foundCells index (foundToRun k target)) both in
     let its = second (codeCells (instructions code n)) (foundCells index (foundToRun k target)) both in
     let x = runsAt tick code n m′ in
-    ap (λ (r : Ran). ranAnswer tick index m r (goal code n target index k m)) (read-theorems .run (memoryAt tick m) (memoryAt tick m′) (instructions code n) mine)
+    ap (λ (r : Ran). ranAnswer tick index m r (goal code n target index k m))
+    (read-theorems .run (memoryAt tick m) (memoryAt tick m′) (instructions code n) mine)
     ∙ ap (λ (g : Goal). ranAnswer tick index m x g) (goal-is code n target index k m (a .size))
     ∙ goal-same m m′ (a .size) (a .size′) tick index x (verdict (instructions code n)) (foundToRun k target) its
     ∙ sym (ap (λ (g : Goal). ranAnswer tick index m′ x g) (goal-is code n target index k m′ (a .size′)))

@@ -67,7 +67,8 @@ module _ (b : Bank) (j : ℕ) where
   code-cells (choice p c t u) =
       let tail = branchTail (treeKind t) (treeKind u) in
       let jump = Jump (length (codeOf u) + branchTailSkip (treeKind t) (treeKind u)) in
-      and-then (codeOf c) (JumpIf false (length (codeOf t) + 1) ∷ (codeOf t ++ jump ∷ (codeOf u ++ tail))) (treeCells c b j) (treeCells t b j || treeCells u b j)
+      and-then (codeOf c) (JumpIf false (length (codeOf t) + 1) ∷ (codeOf t ++ jump ∷ (codeOf u ++ tail))) (treeCells c b j)
+      (treeCells t b j || treeCells u b j)
       (code-cells c)
       (and-then (codeOf t) (jump ∷ (codeOf u ++ tail)) (treeCells t b j) (treeCells u b j) (code-cells t)
       (then-nothing (codeOf u) tail (branch-tail (treeKind t) (treeKind u)) ∙ code-cells u))

@@ -2,7 +2,8 @@
 use mathlib.Core.Path.{_≡_, refl, sym, ap, _∙_, subst}
 use mathlib.Core.Logic.{_↔_, _⊎_, inl, inr}
 use mathlib.Core.Bool.{Bool, true, false, cond}
-use mathlib.Core.List.{List, [], _∷_, _++_, List·Memᴰ, List·Memᴰ·head, List·Memᴰ·tail, List·Memᴰ·not-nil, List·Memᴰ·cases-cons, List·Memᴰ·append-cases, Memᴰ·append-left, Memᴰ·append-right}
+use mathlib.Core.List.{List, [], _∷_, _++_, List·Memᴰ, List·Memᴰ·head, List·Memᴰ·tail, List·Memᴰ·not-nil, List·Memᴰ·cases-cons}
+use mathlib.Core.List.{List·Memᴰ·append-cases, Memᴰ·append-left, Memᴰ·append-right}
 use Prim.Native.Nat.{ℕ, zero, suc, _+_, _≤_, _<_}
 use native.Mathlib.Nat.{le-trans}
 use native.Mathlib.Omega.{arith}
@@ -77,7 +78,8 @@ module _ (f : Cells) (c : Cell) where
       more : Found f b (suc i + n) c → Found f b (i + suc n) c
       more r = record { bank = r .bank; held = r .held; below = (let l = r .below in omega arith) }
 
-      is : (c ≡ named b i) ⊎ List·Memᴰ c (cellsFrom f b (suc i) n) → f b i ≡ true → (List·Memᴰ c (cellsFrom f b (suc i) n) → Found f b (i + suc n) c) → Found f b (i + suc n) c
+      is : (c ≡ named b i) ⊎ List·Memᴰ c (cellsFrom f b (suc i) n) → f b i ≡ true → (List·Memᴰ c (cellsFrom f b (suc i) n) → Found f b (i + suc n) c)
+          → Found f b (i + suc n) c
       is (inl e) q rest =
           record {
             bank = ap (λ (x : Cell). x .bank) e;
@@ -113,7 +115,8 @@ above {j} l (end k) = end j
 above {j} l (next k n ns h r) = next j n ns (le-trans l h) r
 
 module _ (f : Cells) (b : Bank) (rest : List Cell) where
-  from-rising : (i n k : ℕ) → k ≤ firstNumber b + i → RisingFrom (firstNumber b + (i + n)) (cellNumbers rest) → RisingFrom k (cellNumbers (cellsFrom f b i n ++ rest))
+  from-rising : (i n k : ℕ) → k ≤ firstNumber b + i → RisingFrom (firstNumber b + (i + n)) (cellNumbers rest)
+      → RisingFrom k (cellNumbers (cellsFrom f b i n ++ rest))
   unfolding cellsFrom
   from-rising i zero k l r = above (omega arith) r
   from-rising i (suc n) k l r = by (f b i) (λ k′ l′. from-rising (suc i) n k′ l′ (subst (λ (m : ℕ). RisingFrom m (cellNumbers rest)) (omega arith) r))

@@ -28,7 +28,8 @@ use Rattle.code.specs.declared.Instr.{Instr}
 use Rattle.code.specs.declared.Instr.the-variants.{Load, LoadIndexed, Unary, Binary, Tick, Since, Total, Match, Unknown}
 use Rattle.code.specs.declared.Class.{Class}
 use Rattle.code.specs.declared.Class.the-variants as Class
-use Rattle.code.specs.Instructions.{finiteOnly, loadElement, loadIndexed, rangeBank, rangeFirst, rangeCount, overRange, ranging, opcodeOf, wordOf, instructionOf}
+use Rattle.code.specs.Instructions.{finiteOnly, loadElement, loadIndexed, rangeBank, rangeFirst, rangeCount, overRange, ranging, opcodeOf, wordOf}
+use Rattle.code.specs.Instructions.{instructionOf}
 use Rattle.code.specs.private.Classes.{classOf, ofBank, ofUnary, ofBinary, ofTotal, ofMatch, instrIn, numberOf}
 use Rattle.code.proofs.Page.{number-class}
 use Rattle.read_set.specs.declared.Interval.{Interval}

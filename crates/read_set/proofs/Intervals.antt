@@ -77,7 +77,8 @@ pub nothing-read : (f : Cells) → ((c : Bank) (j : ℕ) → f c j ≡ false) �
 nothing-read f h =
     record {
       inside = lit< tt;
-      numbers = λ c j l. h c j ∙ sym (ap (λ (t : Bool). leb 0 (cellNumber c j) && t) (le-ltb (cellNumber c j) 0 (omega arith)) ∙ and-false (leb 0 (cellNumber c j)));
+      numbers = λ c j l. h c j ∙ sym (ap (λ (t : Bool). leb 0 (cellNumber c j) && t) (le-ltb (cellNumber c j) 0 (omega arith))
+          ∙ and-false (leb 0 (cellNumber c j)));
     }
 
 pub range-read : (f : Cells) (b : Bank) (i n : ℕ) → goodRange b i n ≡ true → ((c : Bank) (j : ℕ) → j < layoutOf c .elements → f c j ≡ cellRange b i n c j)

@@ -90,7 +90,8 @@ ends {s} {before} {after} {n} {p} L q h =
     record {
       long = L .long;
       marked = λ b j l.
-          sym (ap (λ (t : Bool). isReached after (cellNumber b j) || t) (over (ltb n (length s / 8)) (subst (λ (k : ℕ). k ≤ p) q h) b j) ∙ or-false (isReached after (cellNumber b j)))
+          sym (ap (λ (t : Bool). isReached after (cellNumber b j) || t) (over (ltb n (length s / 8)) (subst (λ (k : ℕ). k ≤ p) q h) b j)
+          ∙ or-false (isReached after (cellNumber b j)))
           ∙ L .rest b j l;
     }
   where

@@ -50,7 +50,8 @@ module _ {rs list₀ list : List ℕ} {number found : ℕ} (L : Listing rs list�
       ≡ cond t (number ∷ passing (isReached rs) (suc number) (cellCount - suc number)) (passing (isReached rs) (suc number) (cellCount - suc number))
   left t e =
       ap (passing (isReached rs) number) one-less ∙ passes (isReached rs) number (cellCount - suc number)
-      ∙ ap (λ (u : Bool). cond u (number ∷ passing (isReached rs) (suc number) (cellCount - suc number)) (passing (isReached rs) (suc number) (cellCount - suc number))) e
+      ∙ ap (λ (u : Bool). cond u (number ∷ passing (isReached rs) (suc number) (cellCount - suc number))
+      (passing (isReached rs) (suc number) (cellCount - suc number))) e
 
   with-this : {list′ : List ℕ} → isReached rs number ≡ true → list′ ≡ set list found number → Listing rs list₀ list′ (suc number) (suc found)
   with-this e q =
@@ -70,14 +71,17 @@ module _ {rs list₀ list : List ℕ} {number found : ℕ} (L : Listing rs list�
       }
 
   -- e is the end of what is reached
-  pub listed : {list′ : List ℕ} {e : ℕ} → e ≡ reachedTo rs (number + 1) → number < e → list′ ≡ set list found number → Listing rs list₀ list′ (number + 1) (found + 1)
+  pub listed : {list′ : List ℕ} {e : ℕ} → e ≡ reachedTo rs (number + 1) → number < e → list′ ≡ set list found number
+      → Listing rs list₀ list′ (number + 1) (found + 1)
   listed {list′} {e} r l q =
-      let is : isReached rs number ≡ true = lt-ltb number (reachedTo rs (suc number)) (subst (λ (m : ℕ). number < m) (r ∙ ap (reachedTo rs) (add-one number)) l) in
+      let is : isReached rs number ≡ true = lt-ltb number (reachedTo rs (suc number))
+      (subst (λ (m : ℕ). number < m) (r ∙ ap (reachedTo rs) (add-one number)) l) in
       rw (add-one number, add-one found) (with-this is q)
 
   pub skipped : {e : ℕ} → e ≡ reachedTo rs (number + 1) → e ≤ number → Listing rs list₀ list (number + 1) found
   skipped {e} r l =
-      let not : isReached rs number ≡ false = le-ltb number (reachedTo rs (suc number)) (subst (λ (m : ℕ). m ≤ number) (r ∙ ap (reachedTo rs) (add-one number)) l) in
+      let not : isReached rs number ≡ false = le-ltb number (reachedTo rs (suc number))
+      (subst (λ (m : ℕ). m ≤ number) (r ∙ ap (reachedTo rs) (add-one number)) l) in
       rw (add-one number) (without not)
 
 module _ {rs list₀ list : List ℕ} {number found : ℕ} (L : Listing rs list₀ list number found) (h : cellCount ≤ number) where
@@ -132,7 +136,8 @@ module _ (t : ℕ → Bool) where
         let next : suc (firstNumber b + i) ≡ firstNumber b + suc i = omega arith in
         ap (λ (l : List ℕ). cond (t (firstNumber b + i)) ((firstNumber b + i) ∷ l) l)
         (ap (λ (k : ℕ). passing t k n) next ∙ bank-numbers b (suc i) n (omega arith))
-        ∙ ap (λ (u : Bool). cond u ((firstNumber b + i) ∷ cellNumbers (cellsFrom f b (suc i) n)) (cellNumbers (cellsFrom f b (suc i) n))) (same b i (omega arith))
+        ∙ ap (λ (u : Bool). cond u ((firstNumber b + i) ∷ cellNumbers (cellsFrom f b (suc i) n)) (cellNumbers (cellsFrom f b (suc i) n)))
+        (same b i (omega arith))
         ∙ by (f b i)
       where
         by : (u : Bool) → cond u ((firstNumber b + i) ∷ cellNumbers (cellsFrom f b (suc i) n)) (cellNumbers (cellsFrom f b (suc i) n))
@@ -163,7 +168,8 @@ pub marks-list : (c d : List Instr) (one two : List ℕ) → Marks c (replicate 
     → reachedNumbers two ≡ cellNumbers (cellList (union (codeCells c) (codeCells d)))
 marks-list c d one two a b =
     all-banks (isReached two) (union (codeCells c) (codeCells d))
-    (λ i j l. b .marked i j l ∙ ap (λ (t : Bool). t || codeCells d i j) (a .marked i j l ∙ ap (λ (t : Bool). t || codeCells c i j) (blank-reaches cellCount (cellNumber i j))))
+    (λ i j l. b .marked i j l ∙ ap (λ (t : Bool). t || codeCells d i j)
+    (a .marked i j l ∙ ap (λ (t : Bool). t || codeCells c i j) (blank-reaches cellCount (cellNumber i j))))
 
 pub marks-count : (c d : List Instr) (one two : List ℕ) → Marks c (replicate cellCount 0) one → Marks d one two
     → length (reachedNumbers two) ≡ length (cellList (union (codeCells c) (codeCells d)))

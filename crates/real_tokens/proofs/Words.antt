@@ -19,9 +19,11 @@ use Rattle.tokens.specs.declared.Function.the-variants as F
 use Rattle.tokens.specs.declared.Token.{Token}
 use Rattle.tokens.specs.Scan.{Tok}
 use Rattle.grammar.specs.Tree.{Diagnostic, clear}
-use Rattle.token_table.specs.private.Table.{functionNumber, packToken, wordClass, wordOperand, wordPlace, entryOf, wordAt, listed, tokensFrom, Sound, TokenWord, blank}
+use Rattle.token_table.specs.private.Table.{functionNumber, packToken, wordClass, wordOperand, wordPlace, entryOf, wordAt, listed, tokensFrom, Sound}
+use Rattle.token_table.specs.private.Table.{TokenWord, blank}
 use Rattle.token_table.specs.private.Table.{token, TokenWords}
-use Rattle.token_table.proofs.Laws.{tok, tokenClass, tokenOperand, class-packed, operand-packed, place-packed, unpacked, some-class, blank-end, from-is, from-end}
+use Rattle.token_table.proofs.Laws.{tok, tokenClass, tokenOperand, class-packed, operand-packed, place-packed, unpacked, some-class, blank-end}
+use Rattle.token_table.proofs.Laws.{from-is, from-end}
 use Rattle.profile.specs.Parts.{realBank}
 use Rattle.profile_text.specs.Tokens.{realFunction, realToken, realAt, firstReal}
 use Rattle.real_tokens.specs.private.Words.{isRealFunction, isRealBank, isRealWord, shown}

@@ -1,7 +1,8 @@
 -- The library's choice between two neighbours, `nearest`, takes the nearer one, and the even one only where both are as near.
 use mathlib.Core.Path.{_≡_, refl, sym, ap, subst⁻¹}
 use mathlib.Core.Logic.{_⊎_, inl, inr}
-use Prim.Native.Nat.{ℕ, zero, suc, _+_, _*_, _%_, _≤_, _<_, suc-le-suc, compare, Ordering, Ordering·lt, Ordering·eq, Ordering·gt, compare·zero-zero, compare·zero-suc, compare·suc-zero, compare·suc-suc}
+use Prim.Native.Nat.{ℕ, zero, suc, _+_, _*_, _%_, _≤_, _<_, suc-le-suc, compare, Ordering, Ordering·lt, Ordering·eq, Ordering·gt, compare·zero-zero}
+use Prim.Native.Nat.{compare·zero-suc, compare·suc-zero, compare·suc-suc}
 use native.Mathlib.Nat.{le-of-eq, le-of-lt, suc-mul, zero-lt-suc}
 use native.Mathlib.Omega.{arith}
 use lib.Ieee.{nearest}

@@ -21,6 +21,7 @@ cut h (fin s m e) S l = go s
     whole : m * up e / down e ≡ unitCount (fin s m e) / 2 ^ 149
     whole = div-same (m * up e) (down e) (unitCount (fin s m e)) (2 ^ low binary32) (down-pos e) (pow-pos (low binary32)) (is (fin s m e) S .1)
 
-    go : (s : Bool) → cond s (negℤ (pos (min (m * up e / down e) (2 ^ h)))) (pos (min (m * up e / down e) (2 ^ h - 1))) ≡ signed s (unitCount (fin s m e) / 2 ^ 149)
+    go : (s : Bool) → cond s (negℤ (pos (min (m * up e / down e) (2 ^ h)))) (pos (min (m * up e / down e) (2 ^ h - 1)))
+        ≡ signed s (unitCount (fin s m e) / 2 ^ 149)
     go true = ap (λ (z : ℕ). negℤ (pos (min z (2 ^ h)))) whole ∙ ap (λ (z : ℕ). negℤ (pos z)) (min-eq-left (le-of-lt l))
     go false = ap (λ (z : ℕ). pos (min z (2 ^ h - 1))) whole ∙ ap pos (min-eq-left (le-ones h l))

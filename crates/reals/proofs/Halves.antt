@@ -2,7 +2,8 @@
 use mathlib.Core.Path.{_≡_, sym, ap, _∙_, subst}
 use mathlib.Core.Logic.{_⊎_, inl, inr}
 use Prim.Native.Nat.{ℕ, _+_, _*_, _/_, _≤_, _<_}
-use native.Mathlib.Nat.{le-trans, le-of-eq, le-antisymm, le-of-mul-le-mul-right, mul-left-comm, mul-pos, mul-le-mul-right, div-mul-le-self, div-lt-iff-lt-mul, suc-mul, lt-suc-self, zero-lt-suc}
+use native.Mathlib.Nat.{le-trans, le-of-eq, le-antisymm, le-of-mul-le-mul-right, mul-left-comm, mul-pos, mul-le-mul-right, div-mul-le-self}
+use native.Mathlib.Nat.{div-lt-iff-lt-mul, suc-mul, lt-suc-self, zero-lt-suc}
 use native.Mathlib.Omega.{arith}
 use Rattle.reals.specs.Rounding.{distance, ClosestWhole}
 use Rattle.reals.proofs.Grid.{split}

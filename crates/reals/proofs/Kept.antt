@@ -2,7 +2,8 @@
 use mathlib.Core.Path.{_≡_, refl, sym, ap, _∙_}
 use mathlib.Core.Logic.{_≢_, _⊎_, inl, inr}
 use Prim.Native.Nat.{ℕ, suc, _+_, _-_, _*_, _/_, _%_, _^_, _≤_, _<_, compare}
-use native.Mathlib.Nat.{le-trans, mul-assoc, mul-comm, mul-pos, suc-mul, mul-le-mul-right, mod-lt, div-add-mod', div-div-eq-div-mul, le-div-iff-mul-le, eq-of-mul-eq-mul-right, pow-succ', eq-or-lt-of-le}
+use native.Mathlib.Nat.{le-trans, mul-assoc, mul-comm, mul-pos, suc-mul, mul-le-mul-right, mod-lt, div-add-mod', div-div-eq-div-mul}
+use native.Mathlib.Nat.{le-div-iff-mul-le, eq-of-mul-eq-mul-right, pow-succ', eq-or-lt-of-le}
 use native.Mathlib.Omega.{arith}
 use lib.Pow.{pow-add, pow-pos, pow-lt}
 use lib.Ieee.{Format, prec, size}
@@ -43,7 +44,14 @@ module _ (f : Format) (q k : ℕ) (h : q ≤ 2 ^ prec f) where
   to-held l = go (eq-or-lt-of-le h)
     where
       go : (q ≡ 2 ^ prec f) ⊎ (q < 2 ^ prec f) → Held f (q * 2 ^ k)
-      go (inl e) = record { digits = 2 ^ (prec f - 1); place = suc k; few = under (prec f) (two f); is = ap (λ (x : ℕ). x * 2 ^ k) e ∙ carry (prec f) k (two f); below = l }
+      go (inl e) = record {
+        digits = 2 ^ (prec f - 1);
+        place = suc k;
+        few = under (prec f) (two f);
+        is = ap (λ (x : ℕ). x * 2 ^ k) e
+            ∙ carry (prec f) k (two f);
+        below = l;
+      }
       go (inr s) = record { digits = q; place = k; few = s; is = refl; below = l }
 
   to-even : q % 2 ≡ 0 → Even f (q * 2 ^ k)

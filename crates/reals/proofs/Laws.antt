@@ -52,7 +52,8 @@ real z = Ieee.ofInt binary32 z
 
 -- 2 ^ 31 is far below the end of the range
 small : (n b : ℕ) → 0 < b → n ≤ 2 ^ 31 → n * 2 ^ 149 < overflowUnits * b
-small n b B h = lt-of-le-of-lt (mul-le-mul-right (2 ^ 149) h) (lt-of-lt-of-le (lit< {m = 2 ^ 31 * 2 ^ 149} {n = overflowUnits * 1} tt) (mul-le-mul-left overflowUnits B))
+small n b B h = lt-of-le-of-lt (mul-le-mul-right (2 ^ 149) h) (lt-of-lt-of-le (lit< {m = 2 ^ 31 * 2 ^ 149} {n = overflowUnits * 1} tt)
+    (mul-le-mul-left overflowUnits B))
 
 promote : (z : ℤ) → Rounds (integerFraction z) (real z)
 promote z = Bridge.rounds (ofInt-fits binary32 z) (ofInt-rounded binary32 z)
@@ -70,7 +71,8 @@ climbs : (y z : ℤ) → natAbs y ≤ 2 ^ 31 → natAbs z ≤ 2 ^ 31 → natAbs 
 climbs y z h k l =
     let v = promoted y h in
     let w = promoted z k in
-    Bridge.rising (natAbs y * 2 ^ 149) (natAbs z * 2 ^ 149) 1 (real y) (real z) (le-refl 1) (mul-le-mul-right (2 ^ 149) l) (v .single) (w .single) (v .closest) (w .closest)
+    Bridge.rising (natAbs y * 2 ^ 149) (natAbs z * 2 ^ 149) 1 (real y) (real z) (le-refl 1) (mul-le-mul-right (2 ^ 149) l) (v .single) (w .single)
+    (v .closest) (w .closest)
 
 ordered : (y z : ℤ) → natAbs y ≤ 2 ^ 31 → natAbs z ≤ 2 ^ 31 → T (leZ y z) → T (leZ (signedUnits (real y)) (signedUnits (real z)))
 ordered y z h k = rw (promoted y h .sign, promoted z k .sign) (in-order y z (unitCount (real y)) (unitCount (real z)) (climbs y z h k) (climbs z y k h))

@@ -25,7 +25,8 @@ Law f P = (x y : Float) (s : Bool) (m : ℕ) (t : Bool) (n : ℕ) → Is f x s m
 
 -- it need only be proved of `fin`: M * up e / down e and N * up d / down d are m and n units
 apiece : (f : Format) (P : Claim)
-    → ((s : Bool) (M : ℕ) (e : ℤ) (m : ℕ) (t : Bool) (N : ℕ) (d : ℤ) (n : ℕ) → M * up e * 2 ^ low f ≡ m * down e → N * up d * 2 ^ low f ≡ n * down d → P s m t n (fin s M e) (fin t N d))
+    → ((s : Bool) (M : ℕ) (e : ℤ) (m : ℕ) (t : Bool) (N : ℕ) (d : ℤ) (n : ℕ) → M * up e * 2 ^ low f ≡ m * down e → N * up d * 2 ^ low f ≡ n * down d
+    → P s m t n (fin s M e) (fin t N d))
     → Law f P
 apiece f P g nan y s m t n h k = absurd h
 apiece f P g (inf u) y s m t n h k = absurd h
@@ -35,11 +36,13 @@ apiece f P g (fin u M e) (fin v N d) s m t n h k = subst₂ (λ (s t : Bool). P 
 
 -- or with both brought to the one denominator down e * down d, as the library does
 pub common : (f : Format) (P : Claim)
-    → ((s : Bool) (M : ℕ) (e : ℤ) (m : ℕ) (t : Bool) (N : ℕ) (d : ℤ) (n : ℕ) → M * up e * down d * 2 ^ low f ≡ m * (down e * down d) → N * up d * down e * 2 ^ low f ≡ n * (down e * down d)
+    → ((s : Bool) (M : ℕ) (e : ℤ) (m : ℕ) (t : Bool) (N : ℕ) (d : ℤ) (n : ℕ) → M * up e * down d * 2 ^ low f ≡ m * (down e * down d)
+    → N * up d * down e * 2 ^ low f ≡ n * (down e * down d)
     → P s m t n (fin s M e) (fin t N d))
     → Law f P
 common f P g = apiece f P (λ s M e m t N d n h k.
-    g s M e m t N d n (cross (M * up e) (down e) (down d) (2 ^ low f) m h) (cross (N * up d) (down d) (down e) (2 ^ low f) n k ∙ ap (λ (z : ℕ). n * z) (mul-comm (down d) (down e))))
+    g s M e m t N d n (cross (M * up e) (down e) (down d) (2 ^ low f) m h)
+    (cross (N * up d) (down d) (down e) (2 ^ low f) n k ∙ ap (λ (z : ℕ). n * z) (mul-comm (down d) (down e))))
   where
     cross : (X E D L m : ℕ) → X * L ≡ m * E → X * D * L ≡ m * (E * D)
     cross X E D L m h = mul-right-comm X D L ∙ ap (λ (z : ℕ). z * D) h ∙ mul-assoc m E D
@@ -71,7 +74,8 @@ neg-is f nan s n h = h
 neg-is f (inf t) s n h = h
 neg-is f (fin t m e) s n h = (ap not (h .0), h .1)
 
-pub sub-rounded : (f : Format) → Law f (λ s m t n x y. Rounded f (signOf (s && not t) (signed s m -ℤ signed t n)) (natAbs (signed s m -ℤ signed t n)) 1 (sub f x y))
+pub sub-rounded : (f : Format) → Law f (λ s m t n x y. Rounded f (signOf (s && not t) (signed s m -ℤ signed t n))
+    (natAbs (signed s m -ℤ signed t n)) 1 (sub f x y))
 unfolding sub
 sub-rounded f x y s m t n h k =
     subst (λ (z : ℤ). Rounded f (signOf (s && not t) (signed s m +ℤ z)) (natAbs (signed s m +ℤ z)) 1 (add f x (neg y))) (neg-signed t n)

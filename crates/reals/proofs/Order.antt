@@ -75,7 +75,8 @@ module _ (L C A B m n : ℕ) (P : 0 < L) (Q : 0 < C) (x : A * L ≡ m * C) (y : 
 pub lt-is : (f : Format) → Law f (λ s m t n x y. lt x y ≡ ltZ (signed s m) (signed t n))
 unfolding lt
 lt-is f = common f _
-    (λ s M e m t N d n h k. below-same (2 ^ low f) (down e * down d) (M * up e * down d) (N * up d * down e) m n (pow-pos (low f)) (denominator e d) h k s t ∙ below-ltZ s m t n)
+    (λ s M e m t N d n h k. below-same (2 ^ low f) (down e * down d) (M * up e * down d) (N * up d * down e) m n (pow-pos (low f)) (denominator e d) h k s t
+    ∙ below-ltZ s m t n)
 
 pub eq-is : (f : Format) → Law f (λ s m t n x y. T (eq x y) ↔ (signed s m ≡ signed t n))
 unfolding eq

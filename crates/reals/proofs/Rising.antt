@@ -95,7 +95,8 @@ module _ (f : Format) (a b n m : ℕ) (B : 0 < b) (N : Nearest f a b n) (M : Nea
           two-steps (en .half) q (2 ^ en .place) n m (en .is) (coarser (em .half) (en .place) (em .place) m h (em .is)) (pow-pos (en .place)) L after
       go (inr h) =
           let q = en .half * 2 ^ (en .place - em .place) in
-          two-steps q (em .half) (2 ^ em .place) n m (coarser (en .half) (em .place) (en .place) n (le-of-lt h) (en .is)) (em .is) (pow-pos (em .place)) L before
+          two-steps q (em .half) (2 ^ em .place) n m (coarser (en .half) (em .place) (en .place) n (le-of-lt h) (en .is)) (em .is)
+          (pow-pos (em .place)) L before
 
 -- ---- with z below x: what x is as near to as z lies at their middle or above, and what z is as near to as x there or below
 at-least : (x z a : ℕ) → z < x → distance x a ≤ distance z a → z + x ≤ 2 * a

@@ -65,7 +65,8 @@ above-inf (fin s m e) t = absurd t
 
 leaves : (f : Format) (num den : ℕ) → 0 < den → limit f * den ≤ num * 2 ^ low f → overflow f ≤ grid f (num * 2 ^ low f) den
 leaves f num den B h =
-    unless (overflow f) (grid f (num * 2 ^ low f) den) (λ l. subst (λ (z : Float). HasValue z false (grid f (num * 2 ^ low f) den) (2 ^ low f)) is (round-val f num den l))
+    unless (overflow f) (grid f (num * 2 ^ low f) den) (λ l. subst (λ (z : Float). HasValue z false (grid f (num * 2 ^ low f) den) (2 ^ low f)) is
+    (round-val f num den l))
   where
     is : round f false num den ≡ inf false
     is = above-inf (round f false num den) (rw (is-inf f) at (round-mono f (limit f) (2 ^ low f) num den (pow-pos (low f)) B h))
@@ -79,7 +80,8 @@ pub rounded : (f : Format) (s : Bool) (num den : ℕ) → 0 < den → Rounded f 
 rounded f s num den B = go (split (limit f * den) (num * 2 ^ low f))
   where
     go : (limit f * den ≤ num * 2 ^ low f) ⊎ (num * 2 ^ low f < limit f * den) → Rounded f s (num * 2 ^ low f) den (round f s num den)
-    go (inl h) = over h (round-is f s num den ∙ units-inf f s (kept (prec f) (num * 2 ^ low f) den) (drop (prec f) (num * 2 ^ low f) den) (leaves f num den B h))
+    go (inl h) = over h (round-is f s num den ∙ units-inf f s (kept (prec f) (num * 2 ^ low f) den) (drop (prec f) (num * 2 ^ low f) den)
+        (leaves f num den B h))
     go (inr h) =
         let l = stays f (num * 2 ^ low f) den B h in
         to (grid f (num * 2 ^ low f) den) h

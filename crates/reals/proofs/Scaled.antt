@@ -3,7 +3,8 @@ use mathlib.Core.Path.{_≡_, refl, sym, ap, ap₂, _∙_}
 use mathlib.Core.Logic.{_⊎_, inl, inr}
 use mathlib.Core.Bool.{Bool, true, false}
 use Prim.Native.Nat.{ℕ, _+_, _-_, _*_, _/_, _%_, _≤_, _<_}
-use native.Mathlib.Nat.{mul-comm, mul-right-comm, mul-sub, add-mul, mul-le-mul-right, mul-lt-mul-of-pos-right, mul-div-mul-right, mod-eq-sub-mul-div, eq-of-mul-eq-mul-right}
+use native.Mathlib.Nat.{mul-comm, mul-right-comm, mul-sub, add-mul, mul-le-mul-right, mul-lt-mul-of-pos-right, mul-div-mul-right, mod-eq-sub-mul-div}
+use native.Mathlib.Nat.{eq-of-mul-eq-mul-right}
 use lib.Dec.{ltb, eqb}
 use borrow.Author.Tests.{lt-ltb, le-ltb, eqb-true, eqb-false, eq-eqb, ne-eqb}
 use Rattle.reals.proofs.Grid.{split}

@@ -71,7 +71,8 @@ falling (suc m) zero h = tt
 falling (suc m) (suc n) h = le→leb n m (le-of-suc-le-suc h)
 
 -- y and z keep their order where each keeps its sign and their sizes keep theirs
-pub in-order : (y z : ℤ) (m n : ℕ) → (natAbs y ≤ natAbs z → m ≤ n) → (natAbs z ≤ natAbs y → n ≤ m) → T (leZ y z) → T (leZ (signed (signOf false y) m) (signed (signOf false z) n))
+pub in-order : (y z : ℤ) (m n : ℕ) → (natAbs y ≤ natAbs z → m ≤ n) → (natAbs z ≤ natAbs y → n ≤ m) → T (leZ y z)
+    → T (leZ (signed (signOf false y) m) (signed (signOf false z) n))
 in-order (pos a) (pos b) m n up down h = rw (sign-kept false a, sign-kept false b) (le→leb m n (up (leb→le a b h)))
 in-order (pos a) (negsuc b) m n up down h = absurd h
 in-order (negsuc a) (pos b) m n up down h = rw (sign-kept false b) (across m n)

@@ -2,7 +2,9 @@
 use mathlib.Core.Path.{_≡_, refl, sym, ap, _∙_, subst, subst₂}
 use mathlib.Core.Bool.{Bool, _&&_}
 use Prim.Native.Nat.{ℕ, zero, suc, _+_, _-_, _*_, _/_, _%_, _^_, _≤_, _<_}
-use native.Mathlib.Nat.{le-trans, le-of-eq, lt-of-not-le, not-le-of-lt, le-of-suc-le-suc, mul-one, one-mul, zero-mul, mul-comm, mul-assoc, mul-right-comm, mul-pos, mul-le-mul-right, mul-div-cancel, mul-lt-mul-of-pos-right, lt-of-mul-lt-mul-right, eq-of-mul-eq-mul-right, zero-lt-suc}
+use native.Mathlib.Nat.{le-trans, le-of-eq, lt-of-not-le, not-le-of-lt, le-of-suc-le-suc, mul-one, one-mul, zero-mul, mul-comm, mul-assoc}
+use native.Mathlib.Nat.{mul-right-comm, mul-pos, mul-le-mul-right, mul-div-cancel, mul-lt-mul-of-pos-right, lt-of-mul-lt-mul-right}
+use native.Mathlib.Nat.{eq-of-mul-eq-mul-right, zero-lt-suc}
 use lib.IntN.{ℤ, pos, negsuc}
 use lib.Dec.{T, ltb, leb, eqb, ltb→lt, leb→le, eqb→eq}
 use lib.Pow.{pow-pos, pow-add, pow-lt}
@@ -25,7 +27,8 @@ parts : (f : Format) (s : Bool) (m : ℕ) (e : ℤ) → T (fits f (fin s m e)) �
 unfolding fits
 parts f s zero e t = record {
   few = pow-pos (prec f);
-  fine = le-trans (le-of-eq (sym (one-mul (down e)))) (le-trans (mul-le-mul-right (down e) (up-pos e)) (le-trans (le-of-eq (eqb→eq (up e * down e) 1 t)) (pow-pos (low f))));
+  fine = le-trans (le-of-eq (sym (one-mul (down e)))) (le-trans (mul-le-mul-right (down e) (up-pos e))
+      (le-trans (le-of-eq (eqb→eq (up e * down e) 1 t)) (pow-pos (low f))));
   under = rw (zero-mul (up e)) (mul-pos (pow-pos (suc (emax f))) (down-pos e));
 }
 parts f s (suc m) e t =
@@ -66,7 +69,8 @@ module _ (f : Format) (s : Bool) (m : ℕ) (e : ℤ) (t : T (fits f (fin s m e))
     place = at .0;
     few = parts f s m e t .few;
     is = size;
-    below = lt-of-mul-lt-mul-right (down e) (subst₂ _<_ (scaled ∙ ap (λ (x : ℕ). x * down e) (sym size)) end (mul-lt-mul-of-pos-right (parts f s m e t .under) (pow-pos (low f))));
+    below = lt-of-mul-lt-mul-right (down e) (subst₂ _<_ (scaled ∙ ap (λ (x : ℕ). x * down e) (sym size)) end
+        (mul-lt-mul-of-pos-right (parts f s m e t .under) (pow-pos (low f))));
   }
     where
       ring : (a d l : ℕ) → a * d * l ≡ l * a * d
@@ -95,7 +99,11 @@ factor-in k (fin t m e) s a c (sign, same) = (sign, sym (mul-assoc (m * up e) c 
 factor-out : (k : ℕ) → 0 < k → (x : Float) (s : Bool) (a c : ℕ) → HasValue x s (a * k) (c * k) → HasValue x s a c
 factor-out k K nan s a c v = v
 factor-out k K (inf t) s a c v = v
-factor-out k K (fin t m e) s a c (sign, same) = (sign, eq-of-mul-eq-mul-right k K (m * up e * c) (a * down e) (mul-assoc (m * up e) c k ∙ same ∙ mul-right-comm a k (down e)))
+factor-out k K (fin t m e) s a c (sign, same) = (
+  sign,
+  eq-of-mul-eq-mul-right k K (m * up e * c) (a * down e)
+      (mul-assoc (m * up e) c k ∙ same ∙ mul-right-comm a k (down e)),
+)
 
 -- ---- a fraction that is a held size rounds to it: num / den is num units over den units, so c dens over den units
 pub exact-is : (f : Format) (s : Bool) (num den c : ℕ) → 0 < den → Held f c → num * 2 ^ low f ≡ c * den → Is f (round f s num den) s c

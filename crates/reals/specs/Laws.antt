@@ -48,7 +48,8 @@ pub record RealLaws : Type 0 where
   pub promote : (z : ℤ) → Rounds (integerFraction z) (Ieee.ofInt binary32 z)
   pub promote-single : (z : ℤ) → natAbs z ≤ 2 ^ 31 → Single (Ieee.ofInt binary32 z)
   pub same : (z : ℤ) → natAbs z ≤ 2 ^ 24 → signedUnits (Ieee.ofInt binary32 z) ≡ z *ℤ pos (2 ^ 149)
-  pub ordered : (y z : ℤ) → natAbs y ≤ 2 ^ 31 → natAbs z ≤ 2 ^ 31 → T (leZ y z) → T (leZ (signedUnits (Ieee.ofInt binary32 y)) (signedUnits (Ieee.ofInt binary32 z)))
+  pub ordered : (y z : ℤ) → natAbs y ≤ 2 ^ 31 → natAbs z ≤ 2 ^ 31 → T (leZ y z)
+      → T (leZ (signedUnits (Ieee.ofInt binary32 y)) (signedUnits (Ieee.ofInt binary32 z)))
   -- the library's rounding of any fraction num / den is the nearest single
   pub fraction : (s : Bool) (num den : ℕ) → 0 < den → Rounds (record { sign = s; num = num * 2 ^ 149; den = den }) (Ieee.round binary32 s num den)
   -- 1.0

@@ -49,11 +49,16 @@ pub fn run_list(
     index_code: &mut [u8],
     tick: u32,
 ) -> Answers
-    ensures { λ r. ⌜ r .answer ≡ ranTable tick (now (places .entry)) (now (texts .entry)) (now (memory .entry)) (now (code .entry)) (now («index_code» .entry)) .answer ⌝ }
-    ensures { λ r. ⌜ r .answers ≡ ranTable tick (now (places .entry)) (now (texts .entry)) (now (memory .entry)) (now (code .entry)) (now («index_code» .entry)) .answers ⌝ }
-    ensures { λ r. ⌜ now (memory .exit) ≡ ranTable tick (now (places .entry)) (now (texts .entry)) (now (memory .entry)) (now (code .entry)) (now («index_code» .entry)) .buffers .memory ⌝ }
-    ensures { λ r. ⌜ now (code .exit) ≡ ranTable tick (now (places .entry)) (now (texts .entry)) (now (memory .entry)) (now (code .entry)) (now («index_code» .entry)) .buffers .code ⌝ }
-    ensures { λ r. ⌜ now («index_code» .exit) ≡ ranTable tick (now (places .entry)) (now (texts .entry)) (now (memory .entry)) (now (code .entry)) (now («index_code» .entry)) .buffers .index ⌝ }
+    ensures { λ r. ⌜ r .answer ≡ ranTable tick (now (places .entry)) (now (texts .entry)) (now (memory .entry)) (now (code .entry))
+        (now («index_code» .entry)) .answer ⌝ }
+    ensures { λ r. ⌜ r .answers ≡ ranTable tick (now (places .entry)) (now (texts .entry)) (now (memory .entry)) (now (code .entry))
+        (now («index_code» .entry)) .answers ⌝ }
+    ensures { λ r. ⌜ now (memory .exit) ≡ ranTable tick (now (places .entry)) (now (texts .entry)) (now (memory .entry)) (now (code .entry))
+        (now («index_code» .entry)) .buffers .memory ⌝ }
+    ensures { λ r. ⌜ now (code .exit) ≡ ranTable tick (now (places .entry)) (now (texts .entry)) (now (memory .entry)) (now (code .entry))
+        (now («index_code» .entry)) .buffers .code ⌝ }
+    ensures { λ r. ⌜ now («index_code» .exit) ≡ ranTable tick (now (places .entry)) (now (texts .entry)) (now (memory .entry)) (now (code .entry))
+        (now («index_code» .entry)) .buffers .index ⌝ }
 {
     let mut answers = [0; MOST_LISTED];
     let count = places.len() / WORDS_LISTED;

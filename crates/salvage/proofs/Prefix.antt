@@ -27,10 +27,13 @@ module _ (file kept named : List ℕ) where
       n : List ℕ
       n = namedBytes (salvaged formulaAnswer file)
 
-      by : (t : Bool) → fits (length kept) (length named) (salvaged formulaAnswer file) ≡ t → r ≡ salvagedIn (cond t (rescued k n) unfit) → (r .kept ≤ length kept) × (r .named ≤ length named)
+      by : (t : Bool) → fits (length kept) (length named) (salvaged formulaAnswer file) ≡ t → r ≡ salvagedIn (cond t (rescued k n) unfit)
+          → (r .kept ≤ length kept) × (r .named ≤ length named)
       by true q w =
-          let h = both (leb (length k) (length kept)) (leb (length n) (length named)) q in
-          (omega (arith, leb-true (length k) (length kept) (h .0), ap (λ (s : Salvaged). s .kept) w), omega (arith, leb-true (length n) (length named) (h .1), ap (λ (s : Salvaged). s .named) w))
+          let h = both (leb (length k) (length kept)) (leb (length n) (length named)) q in (
+            omega (arith, leb-true (length k) (length kept) (h .0), ap (λ (s : Salvaged). s .kept) w),
+            omega (arith, leb-true (length n) (length named) (h .1), ap (λ (s : Salvaged). s .named) w),
+          )
       by false q w = (omega (arith, ap (λ (s : Salvaged). s .kept) w), omega (arith, ap (λ (s : Salvaged). s .named) w))
 
   kept-long : (x : Salvage) → length (keptAfter kept x) ≡ length kept

@@ -23,14 +23,23 @@ use Rattle.card_laws.specs.Cards.{card, cardKey, checkText, Form, formed, out, 
 use Rattle.card_laws.specs.Reading.{CardRead, taken, refused, unlessRefused, judged}
 use Rattle.card_laws.specs.Theorems.{JudgeLaws}
 use Rattle.salvage_laws.specs.Cut.{ontoFirst}
-use Rattle.salvage_laws.specs.Salvage.{cardFollows, parts, exactForm, PartAnswer, keeps, leaves, answerOf, lastKept, part, nameLines, namedBefore, namedBytes, partAnswer, classifyParts, salvaged}
+use Rattle.salvage_laws.specs.Salvage.{cardFollows, parts, exactForm, PartAnswer, keeps, leaves, answerOf, lastKept, part, nameLines}
+use Rattle.salvage_laws.specs.Salvage.{namedBefore, namedBytes, partAnswer, classifyParts, salvaged}
 
 pub name-size : (first size a : ℕ) → length (nameLines first size a) ≡ 23 + widthOf first + widthOf size + widthOf a
 unfolding nameLines
 name-size first size a =
     let y : List ℕ = ended (ascii "answer=" ++ decimalText a) [] in
     let x : List ℕ = ended (ascii "length=" ++ decimalText size) y in
-    omega (arith, length-append (decimalText first) (10 ∷ x), length-append (decimalText size) (10 ∷ y), length-append (decimalText a) (10 ∷ []), length-digits 10 (widthOf first) first, length-digits 10 (widthOf size) size, length-digits 10 (widthOf a) a)
+    omega (
+      arith,
+      length-append (decimalText first) (10 ∷ x),
+      length-append (decimalText size) (10 ∷ y),
+      length-append (decimalText a) (10 ∷ []),
+      length-digits 10 (widthOf first) first,
+      length-digits 10 (widthOf size) size,
+      length-digits 10 (widthOf a) a,
+    )
 
 -- ---- what the first part is
 data Cuts (s : List ℕ) (ps : List (List ℕ)) : Type 0 where
@@ -113,14 +122,21 @@ module _ (formula : List ℕ → List ℕ → Verdict) (laws : JudgeLaws formula
       by (refused b) q w = let z : b ≡ a = cc in judged-small last (exactForm (cardForm p)) a (q ∙ ap refused z)
 
   -- what a part adds to the names
-  added : (last at : ℕ) (p : List ℕ) (rest : PartAnswer → List ℕ) (k m : ℕ) → at < 1000000 → 25 + widthOf at + widthOf (length p) ≤ k → ((x : PartAnswer) → length (rest x) ≤ m)
+  added : (last at : ℕ) (p : List ℕ) (rest : PartAnswer → List ℕ) (k m : ℕ) → at < 1000000 → 25 + widthOf at + widthOf (length p) ≤ k
+      → ((x : PartAnswer) → length (rest x) ≤ m)
       → length (namedBefore (part at p (partAnswer formula last p)) (rest (partAnswer formula last p))) ≤ k + m
   added last at p rest k m b h i = by (partAnswer formula last p) refl
     where
       by : (x : PartAnswer) → partAnswer formula last p ≡ x → length (namedBefore (part at p x) (rest x)) ≤ k + m
       by (keeps c) q = omega (arith, i (keeps c))
       by (leaves a) q =
-          omega (arith, length-append (nameLines at (length p) a) (rest (leaves a)), name-size at (length p) a, i (leaves a), at-most 1 a (answer-small last p a q))
+          omega (
+            arith,
+            length-append (nameLines at (length p) a) (rest (leaves a)),
+            name-size at (length p) a,
+            i (leaves a),
+            at-most 1 a (answer-small last p a q),
+          )
 
   -- ---- behind the first part
   rest-names : (n : ℕ) (s : List ℕ) (last at : ℕ) → length s ≤ n → begins cardKey s ≡ true → at + length s < 1000000
@@ -129,23 +145,28 @@ module _ (formula : List ℕ → List ℕ → Verdict) (laws : JudgeLaws formula
   rest-names (suc n) s last at h b u = by (parts s) (cuts s) (λ r last′ at′ h′ b′ u′. rest-names n r last′ at′ h′ b′ u′)
     where
       by : (ps : List (List ℕ)) → Cuts s ps
-          → ((r : List ℕ) (last′ at′ : ℕ) → length r ≤ n → begins cardKey r ≡ true → at′ + length r < 1000000 → length (namedBytes (classifyParts formula last′ at′ (parts r))) ≤ 6 * length r + 2)
+          → ((r : List ℕ) (last′ at′ : ℕ) → length r ≤ n → begins cardKey r ≡ true → at′ + length r < 1000000
+          → length (namedBytes (classifyParts formula last′ at′ (parts r))) ≤ 6 * length r + 2)
           → length (namedBytes (classifyParts formula last at ps)) ≤ 6 * length s + 2
       by ps (none e) again = omega (arith, ap (λ (qs : List (List ℕ)). length (namedBytes (classifyParts formula last at qs))) e)
       by ps (whole e) again =
-          let w : 25 + widthOf at + widthOf (length s) ≤ 6 * length s + 2 = omega (arith, at-most 5 at (omega arith), short-name (length s) (key-long cardKey s b) (omega arith)) in
-          let g : length (namedBytes (classifyParts formula last at (s ∷ []))) ≤ 6 * length s + 2 + 0 = added last at s (λ x. []) (6 * length s + 2) 0 (omega arith) w (λ x. omega arith) in
+          let w : 25 + widthOf at + widthOf (length s) ≤ 6 * length s + 2 =
+          omega (arith, at-most 5 at (omega arith), short-name (length s) (key-long cardKey s b) (omega arith)) in
+          let g : length (namedBytes (classifyParts formula last at (s ∷ []))) ≤ 6 * length s + 2 + 0 =
+          added last at s (λ x. []) (6 * length s + 2) 0 (omega arith) w (λ x. omega arith) in
           omega (arith, ap (λ (qs : List (List ℕ)). length (namedBytes (classifyParts formula last at qs))) e)
       by ps (split l r e c q) again =
           let p : List ℕ = ended l [] in
           let long : length p ≡ length l + 1 = length-append l (10 ∷ []) in
           let all-long : length s ≡ length l + 1 + length r = ap length e ∙ length-append l (10 ∷ r) ∙ omega arith in
           let five : 5 ≤ length l = key-inside cardKey l r refl (subst (λ (k : List ℕ). begins cardKey k ≡ true) e b) in
-          let w : 25 + widthOf at + widthOf (length p) ≤ 6 * length p = omega (arith, at-most 5 at (omega arith), shorter-name (length p) (omega arith) (omega arith)) in
+          let w : 25 + widthOf at + widthOf (length p) ≤ 6 * length p = omega
+          (arith, at-most 5 at (omega arith), shorter-name (length p) (omega arith) (omega arith)) in
           let i : (x : PartAnswer) → length (namedBytes (classifyParts formula (lastKept last x) (at + length p) (parts r))) ≤ 6 * length r + 2 =
           λ x. again r (lastKept last x) (at + length p) (omega arith) c (omega arith) in
           let g : length (namedBytes (classifyParts formula last at (p ∷ parts r))) ≤ 6 * length p + (6 * length r + 2) =
-          added last at p (λ x. namedBytes (classifyParts formula (lastKept last x) (at + length p) (parts r))) (6 * length p) (6 * length r + 2) (omega arith) w i in
+          added last at p (λ x. namedBytes (classifyParts formula (lastKept last x) (at + length p) (parts r))) (6 * length p) (6 * length r + 2)
+          (omega arith) w i in
           omega (arith, ap (λ (qs : List (List ℕ)). length (namedBytes (classifyParts formula last at qs))) q)
 
   pub names : (f : List ℕ) → length f < 1000000 → length (namedBytes (salvaged formula f)) ≤ 6 * length f + 64

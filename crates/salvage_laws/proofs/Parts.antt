@@ -1,4 +1,5 @@
--- How a file is cut: the parts make the file, a card's bytes before `card=` or the end are one part, and what ends with a line end before those is cut as if it stood alone. Assumes nothing.
+-- How a file is cut: the parts make the file, a card's bytes before `card=` or the end are one part, and what ends with a line end before those is cut as
+-- if it stood alone. Assumes nothing.
 use mathlib.Core.Path.{_≡_, refl, sym, ap, subst, _∙_}
 use mathlib.Core.Bool.{Bool, true, false, _&&_, cond, and-false}
 use mathlib.Core.List.{List, [], _∷_, _++_, append-assoc}
@@ -77,7 +78,8 @@ module _ (formula : List ℕ → List ℕ → Verdict) (laws : JudgeLaws formula
   card-part r (good-card {n} {t} {e} h b a) w =
       let k : List ℕ = checkKey ++ checkText t e in
       ap parts (bytes-before (card n t e) r)
-      ∙ line-more (cardLine n) (ended (targetKey ++ t) (ended (exprKey ++ e) (ended k r))) (ended (targetKey ++ t) (ended (exprKey ++ e) (ended k []))) (parts r) (number-there n (omega arith) b .1) refl
+      ∙ line-more (cardLine n) (ended (targetKey ++ t) (ended (exprKey ++ e) (ended k r))) (ended (targetKey ++ t) (ended (exprKey ++ e) (ended k [])))
+      (parts r) (number-there n (omega arith) b .1) refl
       (line-more (targetKey ++ t) (ended (exprKey ++ e) (ended k r)) (ended (exprKey ++ e) (ended k [])) (parts r) (laws .target-line t e a) refl
       (line-more (exprKey ++ e) (ended k r) (ended k []) (parts r) (laws .expr-line t e a) refl (line-last k r (check-lacks t e) w)))
 
@@ -119,13 +121,15 @@ pub parts-append : (q : List ℕ) {r : List ℕ} → Follows r → parts (ended 
 parts-append [] nothing = refl
 parts-append [] (another {r = r} b) = ap (λ (x : Bool). cond x ((10 ∷ []) ∷ parts r) (ontoFirst 10 (parts r))) b
 parts-append (c ∷ q) {r} w =
-    ap (λ (x : Bool). cond x ((c ∷ []) ∷ parts (ended q [] ++ r)) (ontoFirst c (parts (ended q [] ++ r)))) same ∙ go (cardFollows c (ended q [])) (parts-append q w)
+    ap (λ (x : Bool). cond x ((c ∷ []) ∷ parts (ended q [] ++ r)) (ontoFirst c (parts (ended q [] ++ r)))) same
+    ∙ go (cardFollows c (ended q [])) (parts-append q w)
   where
     same : cardFollows c (ended q [] ++ r) ≡ cardFollows c (ended q [])
     same = ap (cardFollows c) (append-assoc q (10 ∷ []) r) ∙ ap (λ (b : Bool). eqb c 10 && b) (begins-within cardKey refl q r [])
 
     go : (x : Bool) → parts (ended q [] ++ r) ≡ parts (ended q []) ++ parts r
-        → cond x ((c ∷ []) ∷ parts (ended q [] ++ r)) (ontoFirst c (parts (ended q [] ++ r))) ≡ cond x ((c ∷ []) ∷ parts (ended q [])) (ontoFirst c (parts (ended q []))) ++ parts r
+        → cond x ((c ∷ []) ∷ parts (ended q [] ++ r)) (ontoFirst c (parts (ended q [] ++ r)))
+        ≡ cond x ((c ∷ []) ∷ parts (ended q [])) (ontoFirst c (parts (ended q []))) ++ parts r
     go true i = ap (λ (l : List (List ℕ)). (c ∷ []) ∷ l) i
     go false i = ap (ontoFirst c) i ∙ onto-append c (parts r) (ended-some q)
 

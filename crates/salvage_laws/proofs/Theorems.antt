@@ -19,7 +19,9 @@ use Rattle.card_laws.proofs.Cards.{form-is, form-card, judged-is, judged-there,
 use Rattle.card_laws.proofs.Reading.{sound, back}
 use Rattle.card_laws.proofs.Formulas.{judge-laws}
 use Rattle.salvage_laws.specs.Cut.{joined}
-use Rattle.salvage_laws.specs.Salvage.{cardFollows, parts, exactForm, PartAnswer, keeps, leaves, answerOf, lastKept, Part, part, partBytes, allBytes, keptBefore, keptBytes, cardBefore, keptCards, nameLines, namedBefore, namedBytes, fits, rescued, unfit, partAnswer, classifyParts, salvaged, salvage}
+use Rattle.salvage_laws.specs.Salvage.{cardFollows, parts, exactForm, PartAnswer, keeps, leaves, answerOf, lastKept, Part, part, partBytes}
+use Rattle.salvage_laws.specs.Salvage.{allBytes, keptBefore, keptBytes, cardBefore, keptCards, nameLines, namedBefore, namedBytes, fits}
+use Rattle.salvage_laws.specs.Salvage.{rescued, unfit, partAnswer, classifyParts, salvaged, salvage}
 use Rattle.salvage_laws.specs.Theorems.{Placed, over, then, Untouched, Spared, Among, no-more, kept-card, left-out, lastNumber, SalvageTheorems}
 use Rattle.salvage_laws.proofs.Names.{names}
 use Rattle.salvage_laws.proofs.Parts.{Follows, nothing, another, cut-joined, card-part, cards-follow, parts-append, begins-append}
@@ -48,7 +50,8 @@ module _ (formula : List ℕ → List ℕ → Verdict) (laws : JudgeLaws formula
   unfolding judged
   keeps-good last p c h = go (cardForm p) refl h
     where
-      judge-it : (n : ℕ) (t e k : List ℕ) → cardForm p ≡ formed n t e k [] → (x : CardRead) → judged formula last (formed n t e k []) ≡ x → answerOf x ≡ keeps c → GoodPart last p c
+      judge-it : (n : ℕ) (t e k : List ℕ) → cardForm p ≡ formed n t e k [] → (x : CardRead) → judged formula last (formed n t e k []) ≡ x
+          → answerOf x ≡ keeps c → GoodPart last p c
       judge-it n t e k q (refused a) u w = absurd (let z : _≡_ {A = ℕ} 0 1 = cc in omega arith)
       judge-it n t e k q (taken c′ r) u w =
           let ec : c′ ≡ c = cc in
@@ -77,16 +80,22 @@ module _ (formula : List ℕ → List ℕ → Verdict) (laws : JudgeLaws formula
   booked last at [] = record { bytes = refl; valid = none }
   booked last at (p ∷ ps) = go (partAnswer formula last p) refl (λ l. booked l (at + length p) ps)
     where
-      go : (a : PartAnswer) → partAnswer formula last p ≡ a → ((l : ℕ) → Booked l (classify l (at + length p) ps)) → Booked last (part at p a ∷ classify (lastKept last a) (at + length p) ps)
+      go : (a : PartAnswer) → partAnswer formula last p ≡ a → ((l : ℕ) → Booked l (classify l (at + length p) ps))
+          → Booked last (part at p a ∷ classify (lastKept last a) (at + length p) ps)
       go (leaves a) q r = record { bytes = r last .bytes; valid = r last .valid }
       go (keeps c) q r =
           let i = r (numberOf c) in
           let g : GoodPart last p c = keeps-good last p c q in
           let rest : List Part = classify (numberOf c) (at + length p) ps in
-          record { bytes = ap (λ (l : List ℕ). l ++ keptBytes rest) (g .bytes) ∙ ap (λ (l : List ℕ). cardBytes c ++ l) (i .bytes); valid = next (g .good) (i .valid) }
+          record {
+            bytes = ap (λ (l : List ℕ). l ++ keptBytes rest) (g .bytes) ∙ ap (λ (l : List ℕ). cardBytes c ++ l) (i .bytes);
+            valid =
+                next (g .good) (i .valid);
+          }
 
   whole : (f : List ℕ) → readCards formula (keptBytes (salvaged formula f)) ≡ good (keptCards (salvaged formula f))
-  whole f = let b : Booked 0 (salvaged formula f) = booked 0 0 (parts f) in ap (readCards formula) (b .bytes) ∙ back formula laws (keptCards (salvaged formula f)) (b .valid)
+  whole f = let b : Booked 0 (salvaged formula f) = booked 0 0 (parts f) in ap (readCards formula) (b .bytes)
+      ∙ back formula laws (keptCards (salvaged formula f)) (b .valid)
 
   -- ---- good cards before what follows
   record Before (ks : List Card) (ps qs : List Part) : Type 0 where
@@ -96,18 +105,28 @@ module _ (formula : List ℕ → List ℕ → Verdict) (laws : JudgeLaws formula
 
   through : {last : ℕ} {ks : List Card} (at : ℕ) (s : List ℕ) → Follows s → Valid formula last ks
       → Before ks (classify last at (parts (cardsBytes ks ++ s))) (classify (lastNumber last ks) (at + length (cardsBytes ks)) (parts s))
-  through {last} at s w none = let z : at ≡ at + 0 = omega arith in subst (λ (m : ℕ). Before [] (classify last at (parts s)) (classify last m (parts s))) z (record { bytes = refl; cards = refl; named = refl })
+  through {last} at s w none = let z : at ≡ at + 0 = omega arith in
+      subst (λ (m : ℕ). Before [] (classify last at (parts s)) (classify last m (parts s))) z (record { bytes = refl; cards = refl; named = refl })
   through {last} at s w (next {c = k} {cs = ks} c v) =
       let r : List ℕ = cardsBytes ks ++ s in
       let rest : List Part = classify (lastNumber (numberOf k) ks) (at + length (cardBytes k) + length (cardsBytes ks)) (parts s) in
-      let cuts : parts ((cardBytes k ++ cardsBytes ks) ++ s) ≡ cardBytes k ∷ parts r = ap parts (append-assoc (cardBytes k) (cardsBytes ks) s) ∙ card-part formula laws r c (cards-follow formula laws v w) in
-      let place : at + length (cardBytes k) + length (cardsBytes ks) ≡ at + length (cardBytes k ++ cardsBytes ks) = omega (arith, length-append (cardBytes k) (cardsBytes ks)) in
+      let cuts : parts ((cardBytes k ++ cardsBytes ks) ++ s) ≡ cardBytes k ∷ parts r = ap parts (append-assoc (cardBytes k) (cardsBytes ks) s)
+      ∙ card-part formula laws r c (cards-follow formula laws v w) in
+      let place : at + length (cardBytes k) + length (cardsBytes ks) ≡ at + length (cardBytes k ++ cardsBytes ks) =
+      omega (arith, length-append (cardBytes k) (cardsBytes ks)) in
       let i : Before ks (classify (numberOf k) (at + length (cardBytes k)) (parts r)) rest = through (at + length (cardBytes k)) s w v in
       let a : Before (k ∷ ks) (part at (cardBytes k) (keeps k) ∷ classify (lastKept last (keeps k)) (at + length (cardBytes k)) (parts r)) rest =
-      record { bytes = ap (λ (l : List ℕ). cardBytes k ++ l) (i .bytes) ∙ sym (append-assoc (cardBytes k) (cardsBytes ks) (keptBytes rest)); cards = ap (λ (l : List Card). k ∷ l) (i .cards); named = i .named } in
+      record {
+        bytes = ap (λ (l : List ℕ). cardBytes k ++ l) (i .bytes) ∙ sym (append-assoc (cardBytes k) (cardsBytes ks) (keptBytes rest));
+        cards =
+            ap (λ (l : List Card). k ∷ l) (i .cards);
+        named = i .named;
+      } in
       let b : Before (k ∷ ks) (classify last at (cardBytes k ∷ parts r)) rest =
-      subst (λ (x : PartAnswer). Before (k ∷ ks) (part at (cardBytes k) x ∷ classify (lastKept last x) (at + length (cardBytes k)) (parts r)) rest) (sym (good-keeps c)) a in
-      subst (λ (m : ℕ). Before (k ∷ ks) (classify last at (parts ((cardBytes k ++ cardsBytes ks) ++ s))) (classify (lastNumber (numberOf k) ks) m (parts s))) place
+      subst (λ (x : PartAnswer). Before (k ∷ ks) (part at (cardBytes k) x ∷ classify (lastKept last x) (at + length (cardBytes k)) (parts r)) rest)
+      (sym (good-keeps c)) a in
+      subst (λ (m : ℕ). Before (k ∷ ks) (classify last at (parts ((cardBytes k ++ cardsBytes ks) ++ s)))
+      (classify (lastNumber (numberOf k) ks) m (parts s))) place
       (subst (λ (ps : List (List ℕ)). Before (k ∷ ks) (classify last at ps) rest) (sym cuts) b)
 
   intact : (f : List ℕ) (cs : List Card) → readCards formula f ≡ good cs → Untouched formula f cs
@@ -127,11 +146,13 @@ module _ (formula : List ℕ → List ℕ → Verdict) (laws : JudgeLaws formula
       let place : at ≡ length (cardsBytes ks) = omega arith in
       let follow : Follows (cardsBytes bs) = subst Follows (append-nil (cardsBytes bs)) (cards-follow formula laws w nothing) in
       let cuts : parts s ≡ p ∷ parts (cardsBytes bs) = parts-append l follow ∙ ap (λ (y : List (List ℕ)). y ++ parts (cardsBytes bs)) one in
-      let i : Before ks (salvaged formula (cardsBytes ks ++ s)) (classify last at (parts s)) = through 0 s (another (begins-append cardKey p (cardsBytes bs) b)) v in
+      let i : Before ks (salvaged formula (cardsBytes ks ++ s)) (classify last at (parts s)) =
+      through 0 s (another (begins-append cardKey p (cardsBytes bs) b)) v in
       let rest : List Part = classify last (at + length p) (parts (cardsBytes bs)) in
       let mid : classify last at (parts s) ≡ part at p (leaves a) ∷ rest =
       ap (classify last at) cuts ∙ ap (λ (y : PartAnswer). part at p y ∷ classify (lastKept last y) (at + length p) (parts (cardsBytes bs))) x in
-      let k : Before bs rest [] = subst (λ (y : List ℕ). Before bs (classify last (at + length p) (parts y)) []) (append-nil (cardsBytes bs)) (through (at + length p) [] nothing w) in
+      let k : Before bs rest [] = subst (λ (y : List ℕ). Before bs (classify last (at + length p) (parts y)) []) (append-nil (cardsBytes bs))
+      (through (at + length p) [] nothing w) in
       record {
         bytes = i .bytes ∙ ap (λ (y : List ℕ). cardsBytes ks ++ y) (ap keptBytes mid ∙ k .bytes ∙ append-nil (cardsBytes bs));
         cards = i .cards ∙ ap (λ (y : List Card). ks ++ y) (ap keptCards mid ∙ k .cards ∙ append-nil bs);
@@ -148,7 +169,8 @@ module _ (formula : List ℕ → List ℕ → Verdict) (laws : JudgeLaws formula
 
   among-cuts : {last : ℕ} {cs : List Card} {ps : List (List ℕ)} → Among formula last cs ps → parts (joined ps) ≡ ps
   among-cuts no-more = refl
-  among-cuts (kept-card {c = c} {ps = ps} g m) = card-part formula laws (joined ps) g (among-follow m) ∙ ap (λ (qs : List (List ℕ)). cardBytes c ∷ qs) (among-cuts m)
+  among-cuts (kept-card {c = c} {ps = ps} g m) = card-part formula laws (joined ps) g (among-follow m)
+      ∙ ap (λ (qs : List (List ℕ)). cardBytes c ∷ qs) (among-cuts m)
   among-cuts (left-out l {ps = ps} b one x m) =
       parts-append l (among-follow m) ∙ ap (λ (qs : List (List ℕ)). qs ++ parts (joined ps)) one ∙ ap (λ (qs : List (List ℕ)). ended l [] ∷ qs) (among-cuts m)
 
@@ -164,10 +186,12 @@ module _ (formula : List ℕ → List ℕ → Verdict) (laws : JudgeLaws formula
       (record { bytes = ap (λ (l : List ℕ). cardBytes c ++ l) (i .bytes); cards = ap (λ (l : List Card). c ∷ l) (i .cards) })
   among-kept {last} at (left-out l {cs = cs} {ps = ps} b one x m) =
       let i : Keeping cs (classify last (at + length (ended l [])) ps) = among-kept (at + length (ended l [])) m in
-      subst (λ (y : PartAnswer). Keeping cs (part at (ended l []) y ∷ classify (lastKept last y) (at + length (ended l [])) ps)) (sym x) (record { bytes = i .bytes; cards = i .cards })
+      subst (λ (y : PartAnswer). Keeping cs (part at (ended l []) y ∷ classify (lastKept last y) (at + length (ended l [])) ps)) (sym x)
+      (record { bytes = i .bytes; cards = i .cards })
 
   spares : (cs : List Card) (ps : List (List ℕ)) → Among formula 0 cs ps
-      → (salvaged formula (joined ps) ≡ classifyParts formula 0 0 ps) × (keptBytes (salvaged formula (joined ps)) ≡ cardsBytes cs) × (keptCards (salvaged formula (joined ps)) ≡ cs)
+      → (salvaged formula (joined ps) ≡ classifyParts formula 0 0 ps) × (keptBytes (salvaged formula (joined ps)) ≡ cardsBytes cs)
+      × (keptCards (salvaged formula (joined ps)) ≡ cs)
   spares cs ps m =
       let e : salvaged formula (joined ps) ≡ classify 0 0 ps = ap (classify 0 0) (among-cuts m) in
       let k : Keeping cs (classify 0 0 ps) = among-kept 0 m in
@@ -182,7 +206,8 @@ module _ (formula : List ℕ → List ℕ → Verdict) (laws : JudgeLaws formula
     place : first ≡ at + length (allBytes before)
     bytes : p ≡ cardBytes c
 
-  found : (last at : ℕ) (ps : List (List ℕ)) (before after : List Part) (first : ℕ) (p : List ℕ) (c : Card) → classify last at ps ≡ before ++ part first p (keeps c) ∷ after → Found at first before p c
+  found : (last at : ℕ) (ps : List (List ℕ)) (before after : List Part) (first : ℕ) (p : List ℕ) (c : Card)
+      → classify last at ps ≡ before ++ part first p (keeps c) ∷ after → Found at first before p c
   found last at [] before after first p c e = absurd (never before after (part first p (keeps c)) e)
   found last at (q ∷ qs) [] after first p c e =
       let ef : at ≡ first = cc in
@@ -197,9 +222,11 @@ module _ (formula : List ℕ → List ℕ → Verdict) (laws : JudgeLaws formula
 
   bytes-append : (before after : List Part) → allBytes (before ++ after) ≡ allBytes before ++ allBytes after
   bytes-append [] after = refl
-  bytes-append (b ∷ before) after = ap (λ (l : List ℕ). partBytes b ++ l) (bytes-append before after) ∙ sym (append-assoc (partBytes b) (allBytes before) (allBytes after))
+  bytes-append (b ∷ before) after = ap (λ (l : List ℕ). partBytes b ++ l) (bytes-append before after)
+      ∙ sym (append-assoc (partBytes b) (allBytes before) (allBytes after))
 
-  kept : (f : List ℕ) (before after : List Part) (at : ℕ) (p : List ℕ) (c : Card) → salvaged formula f ≡ before ++ part at p (keeps c) ∷ after → (p ≡ cardBytes c) × (p ≡ take (length p) (drop at f))
+  kept : (f : List ℕ) (before after : List Part) (at : ℕ) (p : List ℕ) (c : Card) → salvaged formula f ≡ before ++ part at p (keeps c) ∷ after
+      → (p ≡ cardBytes c) × (p ≡ take (length p) (drop at f))
   kept f before after at p c e =
       let i : Found 0 at before p c = found 0 0 (parts f) before after at p c e in
       let b : List ℕ = allBytes before in
@@ -210,7 +237,8 @@ module _ (formula : List ℕ → List ℕ → Verdict) (laws : JudgeLaws formula
       (i .bytes, sym (ap (take (length p)) d ∙ take-append-seam p a))
 
   -- ---- what an answer depends on
-  answered : (last at : ℕ) (ps : List (List ℕ)) (before after : List Part) (first : ℕ) (p : List ℕ) (a : PartAnswer) → classify last at ps ≡ before ++ part first p a ∷ after
+  answered : (last at : ℕ) (ps : List (List ℕ)) (before after : List Part) (first : ℕ) (p : List ℕ) (a : PartAnswer)
+      → classify last at ps ≡ before ++ part first p a ∷ after
       → a ≡ partAnswer formula (lastNumber last (keptCards before)) p
   answered last at [] before after first p a e = absurd (never before after (part first p a) e)
   answered last at (q ∷ qs) [] after first p a e =
@@ -232,7 +260,8 @@ module _ (formula : List ℕ → List ℕ → Verdict) (laws : JudgeLaws formula
   kept-short (part at p (keeps c) ∷ ps) = omega (arith, length-append p (keptBytes ps), length-append p (allBytes ps), kept-short ps)
   kept-short (part at p (leaves a) ∷ ps) = omega (arith, length-append p (allBytes ps), kept-short ps)
 
-  refuses : (room room′ : ℕ) (f : List ℕ) → (room < length (keptBytes (salvaged formula f))) ⊎ (room′ < length (namedBytes (salvaged formula f))) → salvage formula room room′ f ≡ unfit
+  refuses : (room room′ : ℕ) (f : List ℕ) → (room < length (keptBytes (salvaged formula f))) ⊎ (room′ < length (namedBytes (salvaged formula f)))
+      → salvage formula room room′ f ≡ unfit
   refuses room room′ f h = ap (λ (t : Bool). cond t (rescued k n) unfit) (⊎-elim first second h)
     where
       k : List ℕ
@@ -252,7 +281,8 @@ module _ (formula : List ℕ → List ℕ → Verdict) (laws : JudgeLaws formula
   rescues room room′ f h h′ =
       let k : List ℕ = keptBytes (salvaged formula f) in
       let n : List ℕ = namedBytes (salvaged formula f) in
-      ap (λ (t : Bool). cond (t && leb (length n) room′) (rescued k n) unfit) (le-leb (length k) room h) ∙ ap (λ (t : Bool). cond t (rescued k n) unfit) (le-leb (length n) room′ h′)
+      ap (λ (t : Bool). cond (t && leb (length n) room′) (rescued k n) unfit) (le-leb (length k) room h)
+      ∙ ap (λ (t : Bool). cond t (rescued k n) unfit) (le-leb (length n) room′ h′)
 
   pub salvages : SalvageTheorems formula
   salvages =

@@ -1,5 +1,5 @@
--- Dawn salvage (paper 02, request 7): "A tool reads such a book, starts again at each line that begins `card=`, writes the cards that stand whole by Ask 6, and names each part left out, in a separate output, in
--- file order, by three lines each: `first=` (its first byte), `length=` and `answer=`."
+-- Dawn salvage (paper 02, request 7): "A tool reads such a book, starts again at each line that begins `card=`, writes the cards that stand whole by Ask 6,
+-- and names each part left out, in a separate output, in file order, by three lines each: `first=` (its first byte), `length=` and `answer=`."
 use mathlib.Core.Bool.{Bool, _&&_, cond}
 use mathlib.Core.List.{List, [], _∷_, _++_}
 use Prim.Native.Nat.{ℕ, _+_}

@@ -10,7 +10,8 @@ use Rattle.card_laws.specs.Lines.{ended, begins}
 use Rattle.card_laws.specs.Cards.{Card, numberOf, cardKey, cardBytes, cardsBytes}
 use Rattle.card_laws.specs.Reading.{good, readCards, GoodCard, Valid}
 use Rattle.salvage_laws.specs.Cut.{joined}
-use Rattle.salvage_laws.specs.Salvage.{parts, PartAnswer, keeps, leaves, Part, part, allBytes, keptBytes, keptCards, nameLines, namedBytes, rescued, unfit, partAnswer, classifyParts, salvaged, salvage}
+use Rattle.salvage_laws.specs.Salvage.{parts, PartAnswer, keeps, leaves, Part, part, allBytes, keptBytes, keptCards, nameLines, namedBytes}
+use Rattle.salvage_laws.specs.Salvage.{rescued, unfit, partAnswer, classifyParts, salvaged, salvage}
 
 -- each part begins where those before it end
 pub data Placed : ℕ → List Part → Type 0 where
@@ -35,7 +36,8 @@ pub data Among (formula : List ℕ → List ℕ → Verdict) : ℕ → List Card
   kept-card : {last : ℕ} {c : Card} {cs : List Card} {ps : List (List ℕ)} → GoodCard formula last c → Among formula (numberOf c) cs ps
       → Among formula last (c ∷ cs) (cardBytes c ∷ ps)
   left-out : {last : ℕ} (l : List ℕ) {a : ℕ} {cs : List Card} {ps : List (List ℕ)} → begins cardKey (ended l []) ≡ true
-      → parts (ended l []) ≡ ended l [] ∷ [] → partAnswer formula last (ended l []) ≡ leaves a → Among formula last cs ps → Among formula last cs (ended l [] ∷ ps)
+      → parts (ended l []) ≡ ended l [] ∷ [] → partAnswer formula last (ended l []) ≡ leaves a → Among formula last cs ps
+      → Among formula last cs (ended l [] ∷ ps)
 
 -- the number of the last card
 abbrev pub lastNumber : ℕ → List Card → ℕ

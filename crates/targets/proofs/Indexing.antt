@@ -53,7 +53,8 @@ module _ (reals : Bool) (s code : List ℕ) where
   abbrev Is : Found → List ℕ → Target → Type 0
   Is f code′ t = (f ≡ foundOf t) × (code′ ≡ indexBytes code t)
 
-  finds : {f : Found} {code′ : List ℕ} {l : Letter} {j : Judgement} → bankIn reals (enclosedBank s) ≡ l → judgeIn reals 1 (indexText s) ≡ j → Is f code′ (indexedBy l j) → Finds reals s code f code′
+  finds : {f : Found} {code′ : List ℕ} {l : Letter} {j : Judgement} → bankIn reals (enclosedBank s) ≡ l → judgeIn reals 1 (indexText s) ≡ j
+      → Is f code′ (indexedBy l j) → Finds reals s code f code′
   finds {l = l} {j = j} e q w = rw (indexed-in reals s, e, q) w
 
   pub no-bank : bankIn reals (enclosedBank s) ≡ L.Other → Finds reals s code Other code
@@ -65,7 +66,8 @@ module _ (reals : Bool) (s code : List ℕ) where
     an-index (accepted t) q d w = finds e q (cc, w)
     an-index (refused a p) q d w = let z : _≡_ {A = ℕ} 0 1 = cc in absurd (omega arith)
 
-    pub no-index : {a p : ℕ} {code′ : List ℕ} (j : Judgement) → judgeIn reals 1 (indexText s) ≡ j → Coded.Refused a p ≡ codedAnswer j → code′ ≡ codedBytes code j
+    pub no-index : {a p : ℕ} {code′ : List ℕ} (j : Judgement) → judgeIn reals 1 (indexText s) ≡ j → Coded.Refused a p ≡ codedAnswer j
+        → code′ ≡ codedBytes code j
         → Finds reals s code Other code′
     no-index (accepted t) q d w = let z : _≡_ {A = ℕ} 0 1 = cc in absurd (omega arith)
     no-index (refused a p) q d w = finds e q (refl, w)

@@ -1,5 +1,6 @@
--- What is found of a target, and its index's code (paper 02, request 1): "A run takes the bank and the index code, checked like the other; a plain cell has none
--- and keeps that buffer." "demand 3 holds for each code, the index within a good target being an accepted formula too". proofs/Theorems.antt proves `TargetTheorems`.
+-- What is found of a target, and its index's code (paper 02, request 1): "A run takes the bank and the index code, checked like the other; a plain cell has
+-- none and keeps that buffer." "demand 3 holds for each code, the index within a good target being an accepted formula too". proofs/Theorems.antt proves
+-- `TargetTheorems`.
 use mathlib.Core.Path.{_≡_}
 use mathlib.Core.Bool.{Bool, true, false, _&&_, cond}
 use mathlib.Core.List.{List, [], _∷_}

@@ -127,7 +127,8 @@ sorted (wrong-next p x ys h v n sh) = read (p ++ x ∷ ys) p (x ∷ ys) h (at-to
 sorted {d} (too-deep p x ys h v sh o le) =
     read (p ++ x ∷ ys) p (x ∷ ys) h (at-token p x ys (viable-front p (x ∷ []) v) sh (λ u k. let r = room d p x [] k o in omega arith)) (deep v)
 sorted (diagnosed w t h a sh e) = read w w [] h (whole w (formula-viable a) sh) (shown t a e)
-sorted (formula {t = t} h) = read (h .toks) (h .toks) [] (h .reads) (whole (h .toks) (formula-viable (h .formula)) (h .shallow)) (none t (h .formula) (h .faultless))
+sorted (formula {t = t} h) = read (h .toks) (h .toks) [] (h .reads) (whole (h .toks) (formula-viable (h .formula)) (h .shallow))
+    (none t (h .formula) (h .faultless))
 
 pub one-outcome : {d : ℕ} {s : List ℕ} {j k : Judgement} → HasJudgementFrom d s j → HasJudgementFrom d s k → j ≡ k
 one-outcome {d} {s} h i = go (sorted h) (sorted i)

@@ -15,7 +15,8 @@ use Rattle.totals.specs.Totals.{goodCount}
 use Rattle.tokens.specs.Scan.{Tok}
 use Rattle.tokens.proofs.Tests.{choose}
 use Rattle.tokens.proofs.Places.{Below, nothing, more, tokens-inside, wrong-inside}
-use Rattle.grammar.specs.Tree.{Tree, unary, binary, logic, choice, since, Diagnostic, clear, at, precedes, earlier, unless, wrongKindAt, wrongCountAt, treeKind, diagnosticOf}
+use Rattle.grammar.specs.Tree.{Tree, unary, binary, logic, choice, since, Diagnostic, clear, at, precedes, earlier, unless, wrongKindAt, wrongCountAt}
+use Rattle.grammar.specs.Tree.{treeKind, diagnosticOf}
 use Rattle.grammar.specs.Symbols.{infixTree, Callee, of-one, of-two, of-choice, of-since, Arguments, one, more as further, argument, callTree}
 use Rattle.grammar.specs.Grammar.{Range, range, Derives, number, name, index, parenthesis, call, clocked, totalled, tested, prefixed, up, infixed, last, next}
 use Rattle.text.specs.Judge.{refused}

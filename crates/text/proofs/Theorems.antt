@@ -14,7 +14,8 @@ use Rattle.grammar.specs.Theorems as G
 use Rattle.grammar.specs.Theorems.{HasParseFrom}
 use Rattle.grammar.proofs.Theorems.{grammar-from}
 use Rattle.text.specs.Judge.{Judgement, accepted, refused, judgeTree, judgeParse, judgeScan, judgeFrom}
-use Rattle.text.specs.Theorems.{Sized, ScansTo, AcceptedFrom, HasJudgementFrom, wrong-size, wrong-token, wrong-end, wrong-next, too-deep, diagnosed, formula, TextTheoremsFrom, TextTheorems, TextFrom}
+use Rattle.text.specs.Theorems.{Sized, ScansTo, AcceptedFrom, HasJudgementFrom, wrong-size, wrong-token, wrong-end, wrong-next, too-deep}
+use Rattle.text.specs.Theorems.{diagnosed, formula, TextTheoremsFrom, TextTheorems, TextFrom}
 use Rattle.text.proofs.Only.{one-outcome}
 use Rattle.text.proofs.Numbers.{numbered, three-nine}
 use Rattle.text.proofs.Places.{placed}

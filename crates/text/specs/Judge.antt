@@ -1,5 +1,6 @@
--- What becomes of a text (paper 01, "The list of answers" and their order): 3 for its length; then "4, 5, 6 over the whole text, the smallest place first; then 7 and 8, smallest place first, 7 on a tie; then 9,
--- smallest place", with which the 6 of a count is looked for (paper 02, Ask 2); else it is a formula, with its tree. What 7 and 8 say of the grammar is the crate grammar's `found`.
+-- What becomes of a text (paper 01, "The list of answers" and their order): 3 for its length; then "4, 5, 6 over the whole text, the smallest place first;
+-- then 7 and 8, smallest place first, 7 on a tie; then 9, smallest place", with which the 6 of a count is looked for (paper 02, Ask 2); else it is a
+-- formula, with its tree. What 7 and 8 say of the grammar is the crate grammar's `found`.
 use mathlib.Core.Bool.{_&&_, cond}
 use mathlib.Core.List.{List, [], _∷_}
 use Prim.Native.Nat.{ℕ}

@@ -1,5 +1,5 @@
--- Targets (paper 02, request 1): "A target becomes a cell or `bank[expression]`, its bank C, V, N, D or R, spaces inside the brackets only; that `[` counts as a level." "A target has its own 1,024 bytes,
--- eight levels"; "a bad target is 2 .. whatever is wrong inside".
+-- Targets (paper 02, request 1): "A target becomes a cell or `bank[expression]`, its bank C, V, N, D or R, spaces inside the brackets only; that `[` counts
+-- as a level." "A target has its own 1,024 bytes, eight levels"; "a bad target is 2 .. whatever is wrong inside".
 use mathlib.Core.Bool.{Bool, _&&_, cond}
 use mathlib.Core.List.{List}
 use Prim.Native.Nat.{ℕ, _-_}

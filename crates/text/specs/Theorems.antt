@@ -38,12 +38,14 @@ AcceptedFormula s t = AcceptedFrom 0 s t
 pub data HasJudgementFrom (d : ℕ) (s : List ℕ) : Judgement → Type 0 where
   wrong-size : (Sized s → ⊥) → HasJudgementFrom d s (refused 3 0)
   wrong-token : {a p : ℕ} → Sized s → scan s ≡ wrong a p → HasJudgementFrom d s (refused a p)
-  -- 7: "the first token such that no grammatical text begins with the tokens up to and including it, length, nesting and kinds ignored, or the text's length if there is none"
+  -- 7: "the first token such that no grammatical text begins with the tokens up to and including it, length, nesting and kinds ignored, or the text's
+  -- length if there is none"
   wrong-end : (w : List Tok) → ScansTo s w → Viable w → ((t : Tree) → Formula w t → ⊥) → Shallow d w → HasJudgementFrom d s (refused 7 (length s))
   wrong-next : (p : List Tok) (x : Tok) (ys : List Tok) → ScansTo s (p ++ x ∷ ys) → Viable p → (Viable (p ++ x ∷ []) → ⊥) → Shallow d p
       → HasJudgementFrom d s (refused 7 (x .place))
   -- 8: "the first opener met with eight still open"
-  too-deep : (p : List Tok) (x : Tok) (ys : List Tok) → ScansTo s (p ++ x ∷ ys) → Viable (p ++ x ∷ []) → Shallow d p → isOpener x ≡ true → mostOpen ≤ openAfter d p
+  too-deep : (p : List Tok) (x : Tok) (ys : List Tok) → ScansTo s (p ++ x ∷ ys) → Viable (p ++ x ∷ []) → Shallow d p → isOpener x ≡ true
+      → mostOpen ≤ openAfter d p
       → HasJudgementFrom d s (refused 8 (x .place))
   -- 9: "an operand of the wrong kind"; 6: "a count below 1 or a range past the bank"
   diagnosed : {p a : ℕ} (w : List Tok) (t : Tree) → ScansTo s w → Formula w t → Shallow d w → diagnosticOf t ≡ at p a → HasJudgementFrom d s (refused a p)

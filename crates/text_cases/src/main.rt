@@ -1,5 +1,5 @@
-// Whether each line of the standard input is a formula: its answer and place, and of a formula the kind, i or r, as the check finds it in the compiled code. A line ends at a byte 10 or at the input's end;
-// tests/host/expected/texts.rs has what is expected.
+// Whether each line of the standard input is a formula: its answer and place, and of a formula the kind, i or r, as the check finds it in the compiled
+// code. A line ends at a byte 10 or at the input's end; tests/host/expected/texts.rs has what is expected.
 ghost use Prim.Native.Nat.{_≤_};
 ghost use lib.ListN.{length};
 use compiler::Coded;

@@ -10,7 +10,8 @@ use lines::printing;
 // The place behind a line, its end included.
 fn after_line(table: &[u8], at: usize) -> usize
     requires { ⌜ at ≤ length (now table) ⌝ }
-    ensures { λ r. ⌜ (drop r (now (table .entry)) ≡ drop (suc (lineLength (drop at (now (table .entry))))) (drop at (now (table .entry)))) × (r ≤ length (now (table .entry))) ⌝ }
+    ensures { λ r. ⌜ (drop r (now (table .entry)) ≡ drop (suc (lineLength (drop at (now (table .entry))))) (drop at (now (table .entry))))
+        × (r ≤ length (now (table .entry))) ⌝ }
 {
     let end = at + lines::until(&table[at..], b'\n');
     if end < table.len() { end + 1 } else { end }

@@ -21,7 +21,8 @@ use Rattle.tokens.specs.declared.Function.the-variants.{Abs, ToReal, ToInt, Tru
 use Rattle.tokens.specs.declared.Token.{Token}
 use Rattle.tokens.specs.declared.Token.the-variants.{Number}
 use Rattle.tokens.proofs.Known.{Known}
-use Rattle.token_table.specs.private.Table.{Entry, FunctionOf, functionNumber, functionNumbered, packFields, wordClass, wordOperand, wordNumber, wordPlace, realEntry, Sound}
+use Rattle.token_table.specs.private.Table.{Entry, FunctionOf, functionNumber, functionNumbered, packFields, wordClass, wordOperand, wordNumber}
+use Rattle.token_table.specs.private.Table.{wordPlace, realEntry, Sound}
 
 -- ---- sound tokens
 -- a token of a text is sound
@@ -40,7 +41,8 @@ pub record Parts (w c o n p : ℕ) : Type 0 where
   pub number : wordNumber w ≡ n
   pub place : wordPlace w ≡ p
 
-pub parts : (class operand number place : ℕ) → class < 256 → operand < 256 → place < 65536 → Parts (packFields class operand number place) class operand number place
+pub parts : (class operand number place : ℕ) → class < 256 → operand < 256 → place < 65536
+    → Parts (packFields class operand number place) class operand number place
 parts class operand number place h k l = record { class = omega arith; operand = omega arith; number = omega arith; place = omega arith }
 
 -- ---- operands and their numbers

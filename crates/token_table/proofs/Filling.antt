@@ -17,12 +17,14 @@ use Rattle.tokens.proofs.Laws.{Lies, found as found-at, wrong-at, rest, no-blan
 use Rattle.tokens.proofs.Known.{known}
 use Rattle.token_table.specs.declared.Filled.{Filled}
 use Rattle.token_table.specs.declared.Filled.the-variants as Filled
-use Rattle.token_table.specs.private.Table.{Entry, packFields, packToken, wordClass, wordNumber, wordPlace, entryOf, Fills, filled, stopped, Sound, TokenWord, blank, TokenWords}
+use Rattle.token_table.specs.private.Table.{Entry, packFields, packToken, wordClass, wordNumber, wordPlace, entryOf, Fills, filled, stopped}
+use Rattle.token_table.specs.private.Table.{Sound, TokenWord, blank, TokenWords}
 use Rattle.token_table.specs.private.Lexing.{Lexes, found, wrong}
 use Rattle.token_table.proofs.Fields.{known-sound}
 use Rattle.token_table.proofs.Laws.{tok, some-class, place-packed, unpacked, blank-end, list-is, list-end}
 
-fills-more : {w : ℕ} {t : Token} {p : ℕ} → entryOf w ≡ Entry.Is t p → {z : Scan} {ws : List ℕ} {r : Filled} → Fills z ws r → Fills (consToken (tok t p) z) (w ∷ ws) r
+fills-more : {w : ℕ} {t : Token} {p : ℕ} → entryOf w ≡ Entry.Is t p → {z : Scan} {ws : List ℕ} {r : Filled} → Fills z ws r
+    → Fills (consToken (tok t p) z) (w ∷ ws) r
 fills-more {w} {t} {p} q (filled {s = ws} e) = filled (list-is w ws q ∙ ap (λ (us : List Tok). tok t p ∷ us) e)
 fills-more q stopped = stopped
 
@@ -89,8 +91,13 @@ module _ {s o table : List ℕ} {at n : ℕ} (h : Filling s o table at n) (short
       let free : n < length table = omega (arith, h .room, h .size, h .within) in
       let past : length s ≤ at + blanks s at = omega arith in
       let m : lexemeAt s at ≡ End = rw (drop-of-length-le s past) in
-      let last = filled (list-end 0 (drop (suc n) table) blank-end) in
-      (length-set table n 0 ∙ h .size, (rw (set-split table n 0 free) (h .goes (0 ∷ drop (suc n) table) Filled.Good (rw (at-end s at m) last)), λ b. one-more table n blank (h .all b)))
+      let last = filled (list-end 0 (drop (suc n) table) blank-end) in (
+        length-set table n 0 ∙ h .size,
+        (
+          rw (set-split table n 0 free) (h .goes (0 ∷ drop (suc n) table) Filled.Good (rw (at-end s at m) last)),
+          λ b. one-more table n blank (h .all b),
+        ),
+      )
 
   module _ (i : at < length s) where
     pub skips : isSpace (getD s at 0) ≡ true → Filling s o table (at + 1) n
@@ -144,6 +151,7 @@ module _ {s o table : List ℕ} {at n : ℕ} (h : Filling s o table at n) (short
               within = lies .inside;
               room = omega (arith, h .room, lies .some);
               size = length-set table n v ∙ h .size;
-              goes = λ u r g. rw (next, append-snoc (take n table) v u) (h .goes (v ∷ u) r (rw (at-found s at (token .is)) (fills-more (ap entryOf k ∙ unpacked sound at near) g)));
+              goes = λ u r g. rw (next, append-snoc (take n table) v u) (h .goes (v ∷ u) r
+                  (rw (at-found s at (token .is)) (fills-more (ap entryOf k ∙ unpacked sound at near) g)));
               all = λ b. rw k (one-more table n (TokenWord.token t at sound near) (h .all b));
             }

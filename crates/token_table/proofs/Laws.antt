@@ -18,7 +18,9 @@ use Rattle.tokens.specs.declared.Token.{Token}
 use Rattle.tokens.specs.declared.Token.the-variants.{Number, Cell, Letter, Name, Symbol}
 use Rattle.tokens.specs.Scan.{Tok, Scan, tokens, wrong}
 use Rattle.token_table.specs.declared.Filled.the-variants as Filled
-use Rattle.token_table.specs.private.Table.{Entry, Is, End, functionNumber, packToken, wordClass, wordOperand, wordNumber, wordPlace, realEntry, cellEntry, letterEntry, nameEntry, tokenOf, entryOf, entryAt, listed, tokensFrom, Fills, filled, stopped, Sound}
+use Rattle.token_table.specs.private.Table.{Entry, Is, End, functionNumber, packToken, wordClass, wordOperand, wordNumber, wordPlace, realEntry}
+use Rattle.token_table.specs.private.Table.{cellEntry, letterEntry, nameEntry, tokenOf, entryOf, entryAt, listed, tokensFrom, Fills, filled}
+use Rattle.token_table.specs.private.Table.{stopped, Sound}
 use Rattle.token_table.proofs.Fields.{Parts, parts, bank, function, finite-real}
 
 abbrev pub tok : Token → ℕ → Tok
@@ -116,7 +118,8 @@ from-end [] (suc i) q = refl
 from-end (w ∷ ws) zero q = list-end w ws q
 from-end (w ∷ ws) (suc i) q = from-end ws i q
 
-pub from-head : (s : List ℕ) (i : ℕ) {x : Tok} {xs : List Tok} → tokensFrom s i ≡ x ∷ xs → (entryAt s i ≡ Is (x .token) (x .place)) × (xs ≡ tokensFrom s (suc i))
+pub from-head : (s : List ℕ) (i : ℕ) {x : Tok} {xs : List Tok} → tokensFrom s i ≡ x ∷ xs
+    → (entryAt s i ≡ Is (x .token) (x .place)) × (xs ≡ tokensFrom s (suc i))
 from-head s i {x} {xs} q = by (entryAt s i) refl
   where
     by : (e : Entry) → entryAt s i ≡ e → (entryAt s i ≡ Is (x .token) (x .place)) × (xs ≡ tokensFrom s (suc i))

@@ -36,7 +36,8 @@ pub judged : (p n : ℕ) (r : Scanned) → Lexes (lexeme p n r) (scannedWord r) 
 judged p n (Good t) = found t p (p + n)
 judged p n (Bad a) = wrong a p (p + n)
 
-pub whole-run : (test : ℕ → Bool) (f : List ℕ → Scanned) (s : List ℕ) (p : ℕ) {w e : ℕ} {r : Scanned} → e ≡ p + runLen test (drop p s) → r ≡ f (take (e - p) (drop p s)) → w ≡ scannedWord r → Lexes (runLexeme test f (drop p s) p) w e
+pub whole-run : (test : ℕ → Bool) (f : List ℕ → Scanned) (s : List ℕ) (p : ℕ) {w e : ℕ} {r : Scanned} → e ≡ p + runLen test (drop p s)
+    → r ≡ f (take (e - p) (drop p s)) → w ≡ scannedWord r → Lexes (runLexeme test f (drop p s) p) w e
 whole-run test f s p {w} {e} {r} ends is k =
     let n : e - p ≡ runLen test (drop p s) = omega arith in
     let q : r ≡ f (take (runLen test (drop p s)) (drop p s)) = is ∙ ap (λ (m : ℕ). f (take m (drop p s))) n in

@@ -19,8 +19,8 @@ pub enum Filled {
     Wrong(u32, usize),
 }
 
-// A token's word, its place still 0, and where the token ends. Bytes that are no token have class 0 and their answer as the number. The functions that make one are
-// inlined, so that it stays in registers, where an enum would pass through memory.
+// A token's word, its place still 0, and where the token ends. Bytes that are no token have class 0 and their answer as the number. The functions that make
+// one are inlined, so that it stays in registers, where an enum would pass through memory.
 pub struct Lex {
     pub word: u64,
     pub end: usize,

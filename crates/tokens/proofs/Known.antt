@@ -28,7 +28,9 @@ use Rattle.tokens.specs.declared.Scanned.{Scanned}
 use Rattle.tokens.specs.declared.Scanned.the-variants.{Good, Bad}
 use Rattle.tokens.specs.Bytes.{all, isLetter, isWord, runLen, isHex}
 use Rattle.tokens.specs.Symbols.{equalBytes, symbolCount, longest}
-use Rattle.tokens.specs.Numerals.{nonEmpty, decimalDigits, isHexRun, hexFrom, hexOf, behindDigits, hasPart, partOf, fractionDigits, behindMantissa, mantissaDigits, isExponent, isNegative, exponentSize, realOf, decimalOf, numeralOf, numeralLen}
+use Rattle.tokens.specs.Numerals.{nonEmpty, decimalDigits, isHexRun, hexFrom, hexOf, behindDigits, hasPart, partOf, fractionDigits}
+use Rattle.tokens.specs.Numerals.{behindMantissa, mantissaDigits, isExponent, isNegative, exponentSize, realOf, decimalOf, numeralOf}
+use Rattle.tokens.specs.Numerals.{numeralLen}
 use Rattle.tokens.specs.Words.{nameOf, functionNamed, functions, letterWord, cellWord, otherWord, wordToken}
 use Rattle.tokens.specs.Scan.{Lexeme, Found, Wrong, End, lexeme, symbolLexeme, lexemeOf, blanks, lexemeAt}
 use Rattle.tokens.proofs.Tests.{by-test, choose, both, hex-small}
@@ -91,13 +93,15 @@ a-real c cs d =
     let n = leb-true (length (mantissaDigits s)) 9 (h .0) in
     let few : length (fractionDigits s) ≤ 8 = omega (arith, digits-first c cs d, length-append (digitsOf s) (fractionDigits s)) in
     let all = both-digits (digitsOf s) (fractionDigits s) (digits-only s) (part-digits (behindDigits s)) in
-    good _ (number _ (Proper.real _ (literal-single (isNegative x) (mantissaDigits s) (exponentSize x) (length (fractionDigits s)) all n (leb-true (exponentSize x) 20 (h .1)) few))))
+    good _ (number _ (Proper.real _ (literal-single (isNegative x) (mantissaDigits s) (exponentSize x)
+    (length (fractionDigits s)) all n (leb-true (exponentSize x) 20 (h .1)) few))))
     (λ _. bad 5))
     (λ _. bad 4)
 
 a-numeral : (c : ℕ) (cs : List ℕ) → isDigit c ≡ true → Judged (numeralOf (c ∷ cs))
 a-numeral c cs d =
-    choose Judged (decimalDigits (c ∷ cs)) _ _ (λ _. a-decimal (c ∷ cs)) (λ _. choose Judged (isHexRun (c ∷ cs)) _ _ (λ _. a-hex (drop 2 (c ∷ cs))) (λ _. a-real c cs d))
+    choose Judged (decimalDigits (c ∷ cs)) _ _ (λ _. a-decimal (c ∷ cs))
+    (λ _. choose Judged (isHexRun (c ∷ cs)) _ _ (λ _. a-hex (drop 2 (c ∷ cs))) (λ _. a-real c cs d))
 
 -- a part of at least one byte starts as the whole
 a-part : (c : ℕ) (cs : List ℕ) (n : ℕ) → isDigit c ≡ true → 0 < n → Judged (numeralOf (take n (c ∷ cs)))

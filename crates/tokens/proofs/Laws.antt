@@ -18,7 +18,8 @@ use Rattle.tokens.specs.Bytes.{isLetter, isSpace, isWord, runLen}
 use Rattle.tokens.specs.Symbols.{symbolCount, symbolBytes, longest}
 use Rattle.tokens.specs.Numerals.{numeralLen, numeralOf}
 use Rattle.tokens.specs.Words.{wordToken}
-use Rattle.tokens.specs.Scan.{Lexeme, Found, Wrong, End, lexeme, runLexeme, symbolLexeme, lexemeOf, blanks, lexemeAt, Scan, tokens, wrong, consToken, scanFrom}
+use Rattle.tokens.specs.Scan.{Lexeme, Found, Wrong, End, lexeme, runLexeme, symbolLexeme, lexemeOf, blanks, lexemeAt, Scan, tokens, wrong}
+use Rattle.tokens.specs.Scan.{consToken, scanFrom}
 use Rattle.tokens.proofs.Tests.{by-test, choose}
 use Rattle.tokens.proofs.Runs.{run-most}
 use Rattle.tokens.proofs.numerals.Runs.{numeral-size}
@@ -51,7 +52,8 @@ placed : (cs : List ℕ) (p : ℕ) → Placed cs p (lexemeOf cs p)
 unfolding lexemeOf
 placed [] p = none
 placed (c ∷ cs) p =
-    choose (Placed (c ∷ cs) p) (isDigit c) _ _ (λ d. let h = numeral-size c cs d in judged (c ∷ cs) p (numeralLen (c ∷ cs)) (numeralOf (take (numeralLen (c ∷ cs)) (c ∷ cs))) (h .0) (h .1))
+    choose (Placed (c ∷ cs) p) (isDigit c) _ _ (λ d. let h = numeral-size c cs d in
+    judged (c ∷ cs) p (numeralLen (c ∷ cs)) (numeralOf (take (numeralLen (c ∷ cs)) (c ∷ cs))) (h .0) (h .1))
     (λ _. choose (Placed (c ∷ cs) p) (isLetter c) _ _ (λ l. a-run isWord wordToken c cs p (rw l))
     (λ _. a-symbol c cs p (longest (c ∷ cs)) (front (c ∷ cs))))
 
@@ -95,7 +97,11 @@ onward rest (Found t p e) = consToken (record { token = t; place = p }) (rest e)
 onward rest (Wrong a p) = wrong a p
 onward rest End = tokens []
 
-look : (f : ℕ) (s : List ℕ) (l : Lexeme) → elim l as (λ _. Scan) [ Found t p e ↦ consToken (record { token = t; place = p }) (scanFrom f s e) | Wrong a p ↦ wrong a p | End ↦ tokens [] ] ≡ onward (λ e. scanFrom f s e) l
+look : (f : ℕ) (s : List ℕ) (l : Lexeme) → elim l as (λ _. Scan) [
+  | Found t p e ↦ consToken (record { token = t; place = p }) (scanFrom f s e)
+  | Wrong a p ↦ wrong a p
+  | End ↦ tokens []
+] ≡ onward (λ e. scanFrom f s e) l
 look f s (Found t p e) = refl
 look f s (Wrong a p) = refl
 look f s End = refl
@@ -113,7 +119,8 @@ same (suc f) (suc g) s at h k =
     ∙ go (lexemeAt s at) (λ e lt le. same f g s e (omega arith) (omega arith)) (λ t p e m. (found s at m .behind, found s at m .some, found s at m .inside))
     ∙ sym (step g s at)
   where
-    go : (l : Lexeme) → ((e : ℕ) → at < e → e ≤ length s → scanFrom f s e ≡ scanFrom g s e) → ((t : Token) (p e : ℕ) → l ≡ Found t p e → (at ≤ p) × (p < e) × (e ≤ length s)) → onward (λ e. scanFrom f s e) l ≡ onward (λ e. scanFrom g s e) l
+    go : (l : Lexeme) → ((e : ℕ) → at < e → e ≤ length s → scanFrom f s e ≡ scanFrom g s e)
+        → ((t : Token) (p e : ℕ) → l ≡ Found t p e → (at ≤ p) × (p < e) × (e ≤ length s)) → onward (λ e. scanFrom f s e) l ≡ onward (λ e. scanFrom g s e) l
     go (Found t p e) ih lies = let h = lies t p e refl in ap (consToken (record { token = t; place = p })) (ih e (omega arith) (omega arith))
     go (Wrong a p) ih lies = refl
     go End ih lies = refl

@@ -207,6 +207,7 @@ unfolding scanFrom lexemeOf
 minus-first = refl
 
 -- `1 +D0`
-sum : scan (49 ∷ 32 ∷ 43 ∷ 68 ∷ 48 ∷ []) ≡ tokens (record { token = Number (Int (pos 1)); place = 0 } ∷ record { token = Symbol 4; place = 2 } ∷ record { token = Cell D 0; place = 3 } ∷ [])
+sum : scan (49 ∷ 32 ∷ 43 ∷ 68 ∷ 48 ∷ []) ≡ tokens (record { token = Number (Int (pos 1)); place = 0 } ∷ record { token = Symbol 4; place = 2 }
+    ∷ record { token = Cell D 0; place = 3 } ∷ [])
 unfolding scanFrom lexemeOf wordToken otherWord namedRule letterBank
 sum = refl

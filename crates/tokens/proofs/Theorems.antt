@@ -20,7 +20,8 @@ use Rattle.tokens.specs.Symbols.{symbolCount, symbolBytes, symbolOf, lon
 use Rattle.tokens.specs.Numerals.{numeralLen, numeralOf}
 use Rattle.tokens.specs.Words.{wordToken}
 use Rattle.tokens.specs.Scan.{Lexeme, Found, Wrong, End, lexeme, runLexeme, numeralLexeme, symbolLexeme, lexemeOf, blanks, lexemeAt, Scan, consToken}
-use Rattle.tokens.specs.Theorems.{Starts, first, Stops, nothing, other, LongestRun, NumeralRun, Matches, LongestMatch, LongestLexeme, word, numeral, symbol, stray, Blank, Scans, end, token, stop, TokenTheorems}
+use Rattle.tokens.specs.Theorems.{Starts, first, Stops, nothing, other, LongestRun, NumeralRun, Matches, LongestMatch, LongestLexeme, word}
+use Rattle.tokens.specs.Theorems.{numeral, symbol, stray, Blank, Scans, end, token, stop, TokenTheorems}
 use Rattle.tokens.proofs.Tests.{no, by-test, choose, either, within}
 use Rattle.tokens.proofs.Runs.{run-most, run-every, run-stops, run-length}
 use Rattle.tokens.proofs.Laws.{found, rest, enough, at-found, at-wrong, at-end}
@@ -53,7 +54,8 @@ matched n r h = go (longest (symbolBytes n ++ r)) (front (symbolBytes n ++ r)) (
         let x = front-matches (symbolBytes n ++ r) m f s in
         let same : length (symbolBytes m) ≡ length (symbolBytes n) = omega (arith, h .most m (x .0) (x .1)) in
         let bytes : symbolBytes n ≡ symbolBytes m =
-        sym (take-append-seam (symbolBytes n) r) ∙ ap (take (length (symbolBytes n))) (x .1 .1) ∙ take-at (symbolBytes m) (x .1 .0) (length (symbolBytes n)) same in
+        sym (take-append-seam (symbolBytes n) r) ∙ ap (take (length (symbolBytes n))) (x .1 .1)
+        ∙ take-at (symbolBytes m) (x .1 .0) (length (symbolBytes n)) same in
         sym (in-table m (x .0) .own) ∙ ap symbolOf (sym bytes) ∙ in-table n (h .known) .own
 
 unmatched : (cs : List ℕ) → ((n : ℕ) → n < symbolCount → Matches n cs → ⊥) → longest cs ≡ symbolCount
@@ -85,7 +87,8 @@ a-numeral : (c : ℕ) (cs : List ℕ) (p : ℕ) → isDigit c ≡ true → Lexed
 a-numeral c cs p d =
     let n = numeralLen (c ∷ cs) in
     let w = take n (c ∷ cs) in
-    lexed-as (c ∷ cs) w (drop n (c ∷ cs)) p n (numeralOf w) (sym (take-append-drop n (c ∷ cs))) (length-take-le n (c ∷ cs) (numeral-size c cs d .1)) (numeral (numeral-run c cs d))
+    lexed-as (c ∷ cs) w (drop n (c ∷ cs)) p n (numeralOf w) (sym (take-append-drop n (c ∷ cs))) (length-take-le n (c ∷ cs) (numeral-size c cs d .1))
+    (numeral (numeral-run c cs d))
 
 no-match : (cs : List ℕ) → longest cs ≡ symbolCount → (n : ℕ) → n < symbolCount → Matches n cs → ⊥
 no-match cs e n h (r, q) = omega (arith, some-byte n h, most n h r, ap (λ (k : ℕ). length (symbolBytes k)) (ap longest (sym q) ∙ e))
@@ -157,7 +160,8 @@ scans-from (suc n) s at h le =
     (λ e lt in-text. scans-from n s e (omega arith) in-text)
 
 -- ---- from the relation to the scan
-run-lexeme : (class : ℕ → Bool) (f : List ℕ → Scanned) (w r : List ℕ) (p : ℕ) → all class w ≡ true → Stops class r → runLexeme class f (w ++ r) p ≡ lexeme p (length w) (f w)
+run-lexeme : (class : ℕ → Bool) (f : List ℕ → Scanned) (w r : List ℕ) (p : ℕ) → all class w ≡ true → Stops class r
+    → runLexeme class f (w ++ r) p ≡ lexeme p (length w) (f w)
 run-lexeme class f w r p e s = rw (run-length class w r e s, take-append-seam w r)
 
 letter-lexeme : (c : ℕ) (cs : List ℕ) (p : ℕ) → isLetter c ≡ true → lexemeOf (c ∷ cs) p ≡ runLexeme isWord wordToken (c ∷ cs) p
@@ -188,14 +192,16 @@ symbol-lexeme c cs p d l = rw (d, l)
 table-lexeme : (n : ℕ) (r : List ℕ) (p : ℕ) → n < symbolCount → lexemeOf (symbolBytes n ++ r) p ≡ symbolLexeme p (longest (symbolBytes n ++ r))
 table-lexeme n r p h =
     let t = in-table n h in
-    subst (λ (w : List ℕ). lexemeOf (w ++ r) p ≡ symbolLexeme p (longest (w ++ r))) (sym (t .is)) (symbol-lexeme (t .byte) (t .bytes ++ r) p (t .no-digit) (t .no-letter))
+    subst (λ (w : List ℕ). lexemeOf (w ++ r) p ≡ symbolLexeme p (longest (w ++ r))) (sym (t .is))
+    (symbol-lexeme (t .byte) (t .bytes ++ r) p (t .no-digit) (t .no-letter))
 
 lexeme-of : {w r : List ℕ} {j : Scanned} → LongestLexeme w r j → (p : ℕ) → lexemeOf (w ++ r) p ≡ lexeme p (length w) j
 lexeme-of {w} {r} (word h) p = word-lexeme w r p (h .starts) (h .every) (h .stops)
 lexeme-of (numeral h) p = numeral-lexeme p h
 lexeme-of {w} {r} (symbol n q h) p =
     let k : eqb n symbolCount ≡ false = ne-eqb n symbolCount (λ e. omega (arith, h .known)) in
-    subst (λ (v : List ℕ). lexemeOf (v ++ r) p ≡ lexeme p (length v) (Good (Symbol n))) (sym q) (table-lexeme n r p (h .known) ∙ ap (symbolLexeme p) (matched n r h) ∙ rw k)
+    subst (λ (v : List ℕ). lexemeOf (v ++ r) p ≡ lexeme p (length v) (Good (Symbol n))) (sym q)
+    (table-lexeme n r p (h .known) ∙ ap (symbolLexeme p) (matched n r h) ∙ rw k)
 lexeme-of {w} {r} (stray c q s l d no-symbol) p =
     subst (λ (v : List ℕ). lexemeOf (v ++ r) p ≡ Wrong 4 p) (sym q) (symbol-lexeme c r p d l ∙ ap (symbolLexeme p) (unmatched (c ∷ r) no-symbol))
 

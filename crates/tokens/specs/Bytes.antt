@@ -1,5 +1,5 @@
--- Classes of bytes and longest runs (paper 01): "Spaces and tabs separate." "A word is the longest run of letters and digits that starts with a letter"; "A numeral is the
--- longest run of letters, digits and dots that starts with a digit".
+-- Classes of bytes and longest runs (paper 01): "Spaces and tabs separate." "A word is the longest run of letters and digits that starts with a letter"; "A
+-- numeral is the longest run of letters, digits and dots that starts with a digit".
 use mathlib.Core.Bool.{Bool, true, _&&_, _||_, cond}
 use mathlib.Core.List.{List, [], _∷_}
 use Prim.Native.Nat.{ℕ, suc}

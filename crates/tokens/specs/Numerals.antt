@@ -1,7 +1,7 @@
--- Numerals (paper 01): "decimal digits up to 2147483647 (leading zeros allowed, never octal); `0x` and one to eight hex digits of either case, taken as a 32-bit pattern"; "A
--- larger decimal, nine or more hex digits .. is 5; a numeral run of any other form is 4." Paper 02, request 4: "A real literal may have up to nine digits and an exponent of -20 to
--- 20, written E, an optional sign directly after it, past which the run goes on, and digits. `1E5` is real. The answer is still the nearest single, ties to even .. E without digits
--- is 4; otherwise ten digits, or an exponent outside the range, is 5."
+-- Numerals (paper 01): "decimal digits up to 2147483647 (leading zeros allowed, never octal); `0x` and one to eight hex digits of either case, taken as a
+-- 32-bit pattern"; "A larger decimal, nine or more hex digits .. is 5; a numeral run of any other form is 4." Paper 02, request 4: "A real literal may have
+-- up to nine digits and an exponent of -20 to 20, written E, an optional sign directly after it, past which the run goes on, and digits. `1E5` is real. The
+-- answer is still the nearest single, ties to even .. E without digits is 4; otherwise ten digits, or an exponent outside the range, is 5."
 use mathlib.Core.Bool.{Bool, true, false, _&&_, _||_, cond}
 use mathlib.Core.List.{List, [], _∷_, _++_}
 use Prim.Native.Nat.{ℕ, suc, _+_, _-_, _*_}

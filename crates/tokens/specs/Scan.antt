@@ -1,5 +1,5 @@
--- The tokens of a text with their places, and the first bytes that are none: "4, 5, 6 over the whole text, the smallest place first"; "Place is the byte offset of the token, or for 4
--- of the bad byte or run."
+-- The tokens of a text with their places, and the first bytes that are none: "4, 5, 6 over the whole text, the smallest place first"; "Place is the byte
+-- offset of the token, or for 4 of the bad byte or run."
 use mathlib.Core.Bool.{Bool, cond}
 use mathlib.Core.List.{List, [], _∷_}
 use Prim.Native.Nat.{ℕ, zero, suc, _+_}
@@ -69,7 +69,11 @@ consToken t (wrong a p) = wrong a p
 unfoldable pub scanFrom : ℕ → List ℕ → ℕ → Scan
 unfolding lexemeOf
 scanFrom zero s at = tokens []
-scanFrom (suc f) s at = elim (lexemeAt s at) [ Found t p e ↦ consToken (record { token = t; place = p }) (scanFrom f s e) | Wrong a p ↦ wrong a p | End ↦ tokens [] ]
+scanFrom (suc f) s at = elim (lexemeAt s at) [
+  | Found t p e ↦ consToken (record { token = t; place = p }) (scanFrom f s e)
+  | Wrong a p ↦ wrong a p
+  | End ↦ tokens []
+]
 
 abbrev pub scan : List ℕ → Scan
 scan s = scanFrom (suc (length s)) s 0

@@ -41,8 +41,8 @@ pub data Mantissa : List ℕ → Type 0 where
   whole : (ds : List ℕ) → decimalDigits ds ≡ true → Mantissa ds
   dotted : (ds ps : List ℕ) → decimalDigits ds ≡ true → decimalDigits ps ≡ true → Mantissa (ds ++ (byte "." ∷ ps))
 
--- The numeral's run at the front of a text: the longest run of letters, digits and dots that starts with a digit. Where it is a mantissa and `E`, and a sign comes
--- next, it goes on past the sign.
+-- The numeral's run at the front of a text: the longest run of letters, digits and dots that starts with a digit. Where it is a mantissa and `E`, and a
+-- sign comes next, it goes on past the sign.
 pub data NumeralRun : List ℕ → List ℕ → Type 0 where
   plain : {w r : List ℕ} → LongestRun isDigit isRun w r → ((m : List ℕ) → Mantissa m → w ≡ m ++ (byte "E" ∷ []) → Stops isSign r) → NumeralRun w r
   past-sign : {r : List ℕ} (m : List ℕ) (c : ℕ) (v : List ℕ) → Mantissa m → isSign c ≡ true → all isRun v ≡ true → Stops isRun r → NumeralRun (m ++ (byte "E" ∷ c ∷ v)) r

@@ -1,4 +1,5 @@
--- Words (paper 01): "a function name, a bank letter, or a bank letter and a decimal number without a leading zero (`0` itself is good). Any other word is 6. Case counts."
+-- Words (paper 01): "a function name, a bank letter, or a bank letter and a decimal number without a leading zero (`0` itself is good). Any other word is
+-- 6. Case counts."
 use mathlib.Core.Bool.{cond}
 use mathlib.Core.List.{List, [], _∷_, _++_, map}
 use Prim.Native.Nat.{ℕ}
@@ -24,7 +25,8 @@ use Rattle.tokens.specs.declared.Scanned.the-variants.{Good, Bad}
 use Rattle.tokens.specs.Symbols.{equalBytes}
 use Rattle.words.specs.Ascii.{ascii}
 
--- totals over a run of cells (paper 02, Ask 2): "SUMR, AVGR, MAXR, MINR and the COUNTIF and SUMIF families of the page", each name of a family with its comparison
+-- totals over a run of cells (paper 02, Ask 2): "SUMR, AVGR, MAXR, MINR and the COUNTIF and SUMIF families of the page", each name of a family with its
+-- comparison
 abbrev pub compareName : CompareOp → List ℕ
 compareName Compare.Eq = ascii "EQ"
 compareName Compare.Ne = ascii "NE"

@@ -29,7 +29,8 @@ pub fn same_bytes(a: &[u8], b: &[u8]) -> bool
 // Which name of a row the word is; past the last where it is none of them.
 fn place_in(row: &[u8], run: &[u8]) -> usize
     requires { ⌜ 0 < length (now run) ⌝ }
-    ensures { λ r. ⌜ ((fs : List Func) (other : Judgement) → Row (length (now (run .entry))) (now (row .entry)) fs → functionNamed fs (now (run .entry)) other ≡ inRow r fs other) ⌝ }
+    ensures { λ r. ⌜ ((fs : List Func) (other : Judgement) → Row (length (now (run .entry))) (now (row .entry)) fs
+        → functionNamed fs (now (run .entry)) other ≡ inRow r fs other) ⌝ }
 {
     let mut place = 0;
     let mut at = 0;

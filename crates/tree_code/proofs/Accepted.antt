@@ -20,7 +20,8 @@ use Rattle.grammar.specs.Tree.{Tree, literal, cell, indexed, unary, binary, log
 use Rattle.verifier.specs.Typing.{Shape, Move, next, pushKind, moveOf}
 use Rattle.verifier.specs.Accepts.{Accepts}
 use Rattle.tree_code.specs.Code.{push, pushBool, truthTail, branchTail, branchTailSkip, codeOf}
-use Rattle.tree_code.proofs.Well.{Well, on-literal, on-cell, on-indexed, on-unary, on-binary, on-logic, on-choice, on-tick, on-since, on-total, on-matching}
+use Rattle.tree_code.proofs.Well.{Well, on-literal, on-cell, on-indexed, on-unary, on-binary, on-logic, on-choice, on-tick, on-since, on-total}
+use Rattle.tree_code.proofs.Well.{on-matching}
 use Rattle.tree_code.proofs.Need.{need, need-some}
 use Rattle.tree_code.proofs.Flow.{At, here, there, Fits, fits-next, fits-leap, fits-fork, Flow, none, some, flow-append, at-past, accepts}
 
@@ -87,7 +88,8 @@ tree-flow (on-literal {v = v}) s l h = goes (push-next s (omega arith) v) none
 tree-flow (on-cell {b = b}) s l h = goes (pushing-next s (omega arith) (bankKind b)) none
 tree-flow (on-indexed w) s l h = flow-append (tree-flow w s _ h) (goes refl none)
 tree-flow (on-unary q w) s l h = flow-append (tree-flow w s _ h) (goes (rw q) none)
-tree-flow (on-binary {t = t} q w x) s l h = flow-append (tree-flow w s _ (omega arith)) (flow-append (tree-flow x (treeKind t ∷ s) _ (omega arith)) (goes (rw q) none))
+tree-flow (on-binary {t = t} q w x) s l h = flow-append (tree-flow w s _ (omega arith))
+    (flow-append (tree-flow x (treeKind t ∷ s) _ (omega arith)) (goes (rw q) none))
 tree-flow (on-logic {d = d} {t = t} {u = u} w x) s l h =
     let f = tree-flow x s (s ∷ (K.Int ∷ s) ∷ s ∷ (K.Int ∷ s) ∷ l) (omega arith) in
     flow-append (tree-flow w s _ (omega arith))

@@ -24,7 +24,8 @@ use Rattle.grammar.specs.Tree.{Tree, treeKind}
 use Rattle.grammar.specs.Eval.{shortCircuit, eval}
 use Rattle.verifier.specs.Safety.{Kinded}
 use Rattle.tree_code.specs.Code.{push, pushBool, truthTail, branchTail, branchTailSkip, codeOf}
-use Rattle.tree_code.proofs.Well.{Well, on-literal, on-cell, on-indexed, on-unary, on-binary, on-logic, on-choice, on-tick, on-since, on-total, on-matching, worth-kind, done-kind}
+use Rattle.tree_code.proofs.Well.{Well, on-literal, on-cell, on-indexed, on-unary, on-binary, on-logic, on-choice, on-tick, on-since, on-total}
+use Rattle.tree_code.proofs.Well.{on-matching, worth-kind, done-kind}
 use Rattle.tree_code.proofs.Need.{need, need-some}
 use Rattle.tree_code.proofs.Gives.{ends, into, Gives, acts, seq, past, held, jumps, forks}
 
@@ -50,7 +51,8 @@ module _ (E : Environment) (st : List Value) (room : length st < maxHeight) wher
   settles false true = other false
   settles false false = past (pushBool true ∷ Jump 1 ∷ []) (pushes-bool false)
 
-  sides : (d : Bool) (v : Value) {a : List Instr} {r : Outcome} → Gives E a 0 st r st → Gives E (JumpIf d (length a + 3) ∷ (a ++ truthTail d)) 0 (v ∷ st) (shortCircuit d (truthRule v) r) st
+  sides : (d : Bool) (v : Value) {a : List Instr} {r : Outcome} → Gives E a 0 st r st
+      → Gives E (JumpIf d (length a + 3) ∷ (a ++ truthTail d)) 0 (v ∷ st) (shortCircuit d (truthRule v) r) st
   sides d v {a} {r} g = forks d (length a + 3) v (go (Bool·beq (truthRule v) d))
     where
       go : (x : Bool) → Gives E (a ++ truthTail d) (cond x (length a + 3) 0) st (cond x (Done (fromBool d)) (then r (λ w. Done (fromBool (truthRule w))))) st
@@ -85,8 +87,10 @@ module _ (E : Environment) (st : List Value) (room : length st < maxHeight) wher
     where
       go : (x : Bool) → Gives E (a ++ Jump (length b + branchTailSkip j k) ∷ (b ++ branchTail j k)) (cond (Bool·beq x false) (length a + 1) 0) st
           (cond x (then r (λ w. Done (branchRule w k))) (then s (λ w. Done (branchRule w j)))) st
-      go true = seq (Jump (length b + branchTailSkip j k) ∷ (b ++ branchTail j k)) (λ w. Done (branchRule w k)) g (λ w e. jumps (past b (first j k w (done-kind w rk e))))
-      go false = past a (past (Jump (length b + branchTailSkip j k) ∷ []) (seq (branchTail j k) (λ w. Done (branchRule w j)) h (λ w e. second j k w (done-kind w sk e))))
+      go true = seq (Jump (length b + branchTailSkip j k) ∷ (b ++ branchTail j k))
+          (λ w. Done (branchRule w k)) g (λ w e. jumps (past b (first j k w (done-kind w rk e))))
+      go false = past a (past (Jump (length b + branchTailSkip j k) ∷ [])
+          (seq (branchTail j k) (λ w. Done (branchRule w j)) h (λ w e. second j k w (done-kind w sk e))))
 
 module _ (E : Environment) (kinded : Kinded E) where
   -- whatever is held below, and whatever code follows
@@ -94,7 +98,8 @@ module _ (E : Environment) (kinded : Kinded E) where
   unfolding eval codeOf need act
   correct (on-literal {v = v}) st h = pushes E st (omega arith) v
   correct on-cell st h = acts refl (omega arith)
-  correct (on-indexed {b = b} {t = t} w) st h = seq (LoadIndexed b ∷ []) (λ v. indexedCell E b v) (correct w st h) (λ v e. acts refl (omega (arith, need-some t)))
+  correct (on-indexed {b = b} {t = t} w) st h = seq (LoadIndexed b ∷ []) (λ v. indexedCell E b v) (correct w st h)
+      (λ v e. acts refl (omega (arith, need-some t)))
   correct (on-unary {o = o} {t = t} q w) st h = seq (Unary o ∷ []) (λ v. unaryRule o v) (correct w st h) (λ v e. acts refl (omega (arith, need-some t)))
   correct (on-binary {o = o} {t = t} {u = u} q w x) st h =
       seq (codeOf u ++ Binary o ∷ []) (λ v. then (eval E u) (λ y. binaryRule o v y)) (correct w st (omega arith))
@@ -104,7 +109,8 @@ module _ (E : Environment) (kinded : Kinded E) where
       (λ v e. sides E st (omega (arith, need-some t)) d v (correct x st (omega arith)))
   correct (on-choice {c = c} {t = t} {u = u} w x y) st h =
       seq _ _ (correct w st (omega arith))
-      (λ v e. chosen E st (omega (arith, need-some c)) (treeKind t) (treeKind u) v (correct x st (omega arith)) (correct y st (omega arith)) (worth-kind E kinded x) (worth-kind E kinded y))
+      (λ v e. chosen E st (omega (arith, need-some c)) (treeKind t) (treeKind u) v (correct x st (omega arith)) (correct y st (omega arith))
+      (worth-kind E kinded x) (worth-kind E kinded y))
   correct on-tick st h = acts refl (omega arith)
   correct (on-since {t = t} q w) st h = seq (Since ∷ []) (λ v. sinceRule (E .tick) v) (correct w st h) (λ v e. acts refl (omega (arith, need-some t)))
   correct on-total st h = acts refl (omega arith)

@@ -138,7 +138,8 @@ module _ {c : List Instr} {l : List Shape} {k : Kind} (f : Flow c ([] ∷ l) ((k
   finally zero p s h d = (s, subst (λ (x : ℕ). Reached c x s) (omega (arith, inside d)) d)
   finally (suc n) p s h d = go (ltb p (length c)) refl (finally n)
     where
-      go : (b : Bool) → ltb p (length c) ≡ b → ((p : ℕ) (s : Shape) → length c ≤ p + n → Reached c p s → (r : Shape) × Reached c (length c) r) → (r : Shape) × Reached c (length c) r
+      go : (b : Bool) → ltb p (length c) ≡ b → ((p : ℕ) (s : Shape) → length c ≤ p + n → Reached c p s → (r : Shape) × Reached c (length c) r)
+          → (r : Shape) × Reached c (length c) r
       go true e ih =
           let lt = ltb-true p (length c) e in
           let x = leaves p (fits-at f (reached-at d) lt) in

@@ -69,7 +69,8 @@ module _ {E : Environment} where
   jumps g = record { on = g .on }
 
   -- a jump on a value
-  pub forks : {a : List Instr} {st st′ : List Value} {r : Outcome} (d : Bool) (k : ℕ) (v : Value) → Gives E a (cond (Bool·beq (truthRule v) d) k 0) st r st′ → Gives E (JumpIf d k ∷ a) 0 (v ∷ st) r st′
+  pub forks : {a : List Instr} {st st′ : List Value} {r : Outcome} (d : Bool) (k : ℕ) (v : Value) → Gives E a (cond (Bool·beq (truthRule v) d) k 0) st r st′
+      → Gives E (JumpIf d k ∷ a) 0 (v ∷ st) r st′
   unfolding act after
   forks {a} {st} d k v g = record { on = λ c. step E (JumpIf d k) (a ++ c) (v ∷ st) ∙ go (Bool·beq (truthRule v) d) (a ++ c) ∙ g .on c }
     where
@@ -81,7 +82,8 @@ module _ {E : Environment} where
   pub held : {v : Value} {st : List Value} → Gives E [] 0 (v ∷ st) (Done v) st
   held = record { on = λ c. refl }
 
-  pub seq : {a : List Instr} {k : ℕ} {st st₁ st₂ : List Value} {r : Outcome} (b : List Instr) (f : Value → Outcome) → Gives E a k st r st₁ → ((v : Value) → r ≡ Done v → Gives E b 0 (v ∷ st₁) (f v) st₂) → Gives E (a ++ b) k st (then r f) st₂
+  pub seq : {a : List Instr} {k : ℕ} {st st₁ st₂ : List Value} {r : Outcome} (b : List Instr) (f : Value → Outcome) → Gives E a k st r st₁
+      → ((v : Value) → r ≡ Done v → Gives E b 0 (v ∷ st₁) (f v) st₂) → Gives E (a ++ b) k st (then r f) st₂
   seq {a} {k} {st} {st₁} {st₂} {r} b f g h = record { on = λ c. ap (λ (l : List Instr). ends E l k st) (append-assoc a b c) ∙ g .on (b ++ c) ∙ go c r h }
     where
       go : (c : List Instr) (r : Outcome) → ((v : Value) → r ≡ Done v → Gives E b 0 (v ∷ st₁) (f v) st₂) → into E r (b ++ c) st₁ ≡ into E (then r f) c st₂
@@ -90,4 +92,7 @@ module _ {E : Environment} where
       go c WrongKind h = refl
 
   pub past : (a : List Instr) {b : List Instr} {k : ℕ} {st st′ : List Value} {r : Outcome} → Gives E b k st r st′ → Gives E (a ++ b) (length a + k) st r st′
-  past a {b} {k} {st} g = record { on = λ c. ap (λ (l : List Instr). ends E l (length a + k) st) (append-assoc a b c) ∙ skips E a (b ++ c) k (length a + k) st refl ∙ g .on c }
+  past a {b} {k} {st} g = record {
+    on = λ c. ap (λ (l : List Instr). ends E l (length a + k) st) (append-assoc a b c)
+        ∙ skips E a (b ++ c) k (length a + k) st refl ∙ g .on c;
+  }

@@ -11,8 +11,10 @@ use Rattle.memory.specs.declared.Bank.{Bank}
 use Rattle.tokens.specs.declared.Token.the-variants.{Symbol}
 use Rattle.tokens.specs.Scan.{Tok}
 use Rattle.grammar.specs.Tree.{Tree}
-use Rattle.grammar.specs.Symbols.{openParen, closeParen, openIndex, closeIndex, loosest, Callee, of-one, of-two, of-choice, of-since, moreArguments, callTree, Arguments, argument}
-use Rattle.grammar.specs.Grammar.{tok, Range, range, Derives, number, name, index, parenthesis, call, clocked, totalled, tested, prefixed, up, infixed, last, next, Formula}
+use Rattle.grammar.specs.Symbols.{openParen, closeParen, openIndex, closeIndex, loosest, Callee, of-one, of-two, of-choice, of-since, moreArguments}
+use Rattle.grammar.specs.Symbols.{callTree, Arguments, argument}
+use Rattle.grammar.specs.Grammar.{tok, Range, range, Derives, number, name, index, parenthesis, call, clocked, totalled, tested, prefixed, up}
+use Rattle.grammar.specs.Grammar.{infixed, last, next, Formula}
 use Rattle.grammar.specs.Parse.{mostOpen}
 use Rattle.grammar.specs.Theorems.{isOpener, isCloser, Shallow, opens, goes-on}
 use Rattle.tree_code.proofs.Need.{need}
@@ -48,7 +50,8 @@ abbrev Lows : ℕ → List Tok → Arguments → Type 0
 Lows m w ts = (o : ℕ) (v : List Tok) → o < mostOpen → Shallow (suc o) (w ++ v) → ((k : ℕ) → k ≤ m → need (argument k ts) ≤ 12 * (mostOpen - o)) × Shallow o v
 
 -- in a bracket, up to the token x that ends it
-within : (w : List Tok) (t : Tree) → Low loosest w t → (o : ℕ) (x : Tok) (y v : List Tok) → o < mostOpen → Shallow (suc o) ((w ++ x ∷ y) ++ v) → (need t ≤ 12 * (mostOpen - o)) × Shallow (suc o) (x ∷ (y ++ v))
+within : (w : List Tok) (t : Tree) → Low loosest w t → (o : ℕ) (x : Tok) (y v : List Tok) → o < mostOpen → Shallow (suc o) ((w ++ x ∷ y) ++ v)
+    → (need t ≤ 12 * (mostOpen - o)) × Shallow (suc o) (x ∷ (y ++ v))
 within w t h o x y v lt s = let r = h (suc o) (x ∷ (y ++ v)) (rw append-assoc at s) in (omega (arith, r .0), r .1)
 
 call-need : (n : ℕ) (c : Callee) (p : ℕ) (ts : Arguments) → ((k : ℕ) → k ≤ moreArguments c → need (argument k ts) ≤ n) → need (callTree c p ts) ≤ n + 1

@@ -45,7 +45,8 @@ pub length-logic : (p : ℕ) (d : Bool) (t u : Tree) → length (codeOf (logic p
 unfolding codeOf
 length-logic p d t u = simp length-append (omega arith)
 
-pub length-choice : (p : ℕ) (c t u : Tree) → length (codeOf (choice p c t u)) ≡ length (codeOf c) + length (codeOf t) + length (codeOf u) + length (branchTail (treeKind t) (treeKind u)) + 2
+pub length-choice : (p : ℕ) (c t u : Tree) → length (codeOf (choice p c t u))
+    ≡ length (codeOf c) + length (codeOf t) + length (codeOf u) + length (branchTail (treeKind t) (treeKind u)) + 2
 unfolding codeOf
 length-choice p c t u = simp length-append (omega arith)
 

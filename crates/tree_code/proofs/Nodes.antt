@@ -67,7 +67,8 @@ prefix-plain n o e = go (eqb n minus) (eqb n tilde) (eqb n bang) refl refl refl 
     is-plain : (m : ℕ) → Plain m 1 → eqb n m ≡ true → Plain n 1
     is-plain m h q = let z : n ≡ m = eqb-true n m q in rw z h
 
-    go : (x y z : Bool) → eqb n minus ≡ x → eqb n tilde ≡ y → eqb n bang ≡ z → cond x (is U.Neg) (cond y (is U.Complement) (cond z (is U.Not) none)) ≡ is o → Plain n 1
+    go : (x y z : Bool) → eqb n minus ≡ x → eqb n tilde ≡ y → eqb n bang ≡ z → cond x (is U.Neg) (cond y (is U.Complement) (cond z (is U.Not) none)) ≡ is o
+        → Plain n 1
     go true y z p q r e = is-plain minus (record { low = omega arith; long = omega arith }) p
     go false true z p q r e = is-plain tilde (record { low = omega arith; long = omega arith }) q
     go false false true p q r e = is-plain bang (record { low = omega arith; long = omega arith }) r

@@ -12,7 +12,8 @@ use Rattle.grammar.specs.Symbols.{Callee, of-one, of-two, of-choice, of-since, 
 use Rattle.grammar.specs.Grammar.{Range, range, Derives, number, name, index, parenthesis, call, clocked, totalled, tested, prefixed, up, infixed, last, next}
 use Rattle.tree_code.specs.Code.{codeOf}
 use Rattle.tree_code.specs.Demand.{leastBytes}
-use Rattle.tree_code.proofs.Laws.{length-literal, length-cell, length-indexed, length-unary, length-binary, length-logic, length-choice, length-tick, length-since, length-total, length-matching, tail-short}
+use Rattle.tree_code.proofs.Laws.{length-literal, length-cell, length-indexed, length-unary, length-binary, length-logic, length-choice}
+use Rattle.tree_code.proofs.Laws.{length-tick, length-since, length-total, length-matching, tail-short}
 use Rattle.tree_code.proofs.Nodes.{Infix, of-values, of-truths, infix-node, infix-plain, prefix-plain}
 
 least-append : (w v : List Tok) → leastBytes (w ++ v) ≡ leastBytes w + leastBytes v

@@ -22,7 +22,8 @@ use Rattle.totals.specs.declared.TotalOp.{TotalOp}
 use Rattle.totals.specs.declared.MatchOp.{MatchOp}
 use Rattle.totals.specs.Totals.{then, goodCount, spanOf}
 use Rattle.totals.proofs.Laws.{total-laws}
-use Rattle.grammar.specs.Tree.{Tree, literal, cell, indexed, unary, binary, logic, choice, tick, since, total, matching, treeKind, Diagnostic, clear, at, precedes, earlier, unless, wrongKindAt, wrongCountAt, diagnosticOf}
+use Rattle.grammar.specs.Tree.{Tree, literal, cell, indexed, unary, binary, logic, choice, tick, since, total, matching, treeKind, Diagnostic, clear}
+use Rattle.grammar.specs.Tree.{at, precedes, earlier, unless, wrongKindAt, wrongCountAt, diagnosticOf}
 use Rattle.grammar.specs.Eval.{shortCircuit, eval}
 use Rattle.verifier.specs.Safety.{Kinded}
 use Rattle.verifier.proofs.Safe.{indexed-kind}
@@ -107,15 +108,18 @@ module _ (E : Environment) (kinded : Kinded E) where
   worth-kind (on-cell {b = b} {i = i}) = kinded .cell b i
   worth-kind (on-indexed {b = b} w) = then-kind _ (worth-kind w) (λ v e. indexed-kind kinded b v)
   worth-kind (on-unary {o = o} q w) = then-kind _ (worth-kind w) (λ v e. rw (← e) (rule-laws .unary-kind o v (rw (e, q) tt)))
-  worth-kind (on-binary {o = o} q w x) = then-kind _ (worth-kind w) (λ v e. then-kind _ (worth-kind x) (λ y f. rw (← e, ← f) (rule-laws .binary-kind o v y (rw (e, f, q) tt))))
+  worth-kind (on-binary {o = o} q w x) = then-kind _ (worth-kind w)
+      (λ v e. then-kind _ (worth-kind x) (λ y f. rw (← e, ← f) (rule-laws .binary-kind o v y (rw (e, f, q) tt))))
   worth-kind (on-logic {d = d} w x) = then-kind _ (worth-kind w) (λ v e. decided-kind d (truthRule v) (worth-kind x))
   worth-kind (on-choice {t = t} {u = u} w x y) =
       then-kind _ (worth-kind w)
-      (λ v e. cond-kind (truthRule v) (branch-of (treeKind u) (worth-kind x)) (rw (join-comm (treeKind t) (treeKind u)) (branch-of (treeKind t) (worth-kind y))))
+      (λ v e. cond-kind (truthRule v) (branch-of (treeKind u) (worth-kind x))
+      (rw (join-comm (treeKind t) (treeKind u)) (branch-of (treeKind t) (worth-kind y))))
   worth-kind on-tick = done _ refl
   worth-kind (on-since q w) = then-kind _ (worth-kind w) (λ v e. rule-laws .since-kind (E .tick) v (rw (e, q) tt))
   worth-kind (on-total {o = o} {b = b} {i = i} {n = n}) = total-laws .total-kind E o b i (spanOf b i n) (kinded .cell b)
-  worth-kind (on-matching {o = o} {b = b} {i = i} {n = n} w) = then-kind _ (worth-kind w) (λ v e. total-laws .match-kind E o v b i (spanOf b i n) (kinded .cell b))
+  worth-kind (on-matching {o = o} {b = b} {i = i} {n = n} w) = then-kind _ (worth-kind w)
+      (λ v e. total-laws .match-kind E o v b i (spanOf b i n) (kinded .cell b))
 
 pub done-kind : {k : Kind} {r : Outcome} (v : Value) → OfKind k r → r ≡ Done v → kindOf v ≡ k
 done-kind v (done w e) q = let h : w ≡ v = cc in ap kindOf (sym h) ∙ e

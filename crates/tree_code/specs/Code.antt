@@ -48,7 +48,8 @@ codeOf (unary p o t) = codeOf t ++ Unary o ∷ []
 codeOf (binary p o t u) = codeOf t ++ (codeOf u ++ Binary o ∷ [])
 codeOf (logic p d t u) = codeOf t ++ JumpIf d (length (codeOf u) + 3) ∷ (codeOf u ++ truthTail d)
 codeOf (choice p c t u) =
-    codeOf c ++ JumpIf false (length (codeOf t) + 1) ∷ (codeOf t ++ Jump (length (codeOf u) + branchTailSkip (treeKind t) (treeKind u)) ∷ (codeOf u ++ branchTail (treeKind t) (treeKind u)))
+    codeOf c ++ JumpIf false (length (codeOf t) + 1) ∷ (codeOf t ++ Jump (length (codeOf u) + branchTailSkip (treeKind t) (treeKind u))
+    ∷ (codeOf u ++ branchTail (treeKind t) (treeKind u)))
 codeOf tick = Tick ∷ []
 codeOf (since p t) = codeOf t ++ Since ∷ []
 codeOf (total p o b i n) = Total o b i (spanOf b i n) ∷ []

@@ -1,6 +1,7 @@
--- Demand 3, on trees: "its compiled code gives what the written rules give for the formula's tree on that memory: a value of the same kind, the same bit for bit, or a fault exactly when the rules give one, and then the
--- same fault. The code check accepts that code, which executes at most two instructions for each character and never holds more than 128 values." proofs/Demand.antt proves `Demand`.
--- Paper 02, Ask 2: "The count is now one for each instruction and each cell visited, a faulting one included; the bound is two a byte, .. plus 256 for each such call."
+-- Demand 3, on trees: "its compiled code gives what the written rules give for the formula's tree on that memory: a value of the same kind, the same bit
+-- for bit, or a fault exactly when the rules give one, and then the same fault. The code check accepts that code, which executes at most two instructions
+-- for each character and never holds more than 128 values." proofs/Demand.antt proves `Demand`. Paper 02, Ask 2: "The count is now one for each instruction
+-- and each cell visited, a faulting one included; the bound is two a byte, .. plus 256 for each such call."
 use mathlib.Core.Path.{_≡_}
 use mathlib.Core.List.{List, [], _∷_}
 use Prim.Native.Nat.{ℕ, _+_, _*_, _≤_}

@@ -4,6 +4,7 @@
 mod cards;
 mod codes;
 mod listings;
+mod formats;
 mod lists;
 mod literals;
 mod memory;
@@ -65,6 +66,7 @@ fn all() -> Result<Vec<Expected>, String> {
     let (listings_in, listings_out) = listings::files();
     let (lists_in, lists_out) = lists::files();
     let (replay_in, replay_out) = replay::files();
+    let (formats_in, formats_out) = formats::files();
     Ok(vec![
         ("value_cases/stdout", values::lines().into()),
         ("literal_cases/stdout", literals::lines().into()),
@@ -86,9 +88,12 @@ fn all() -> Result<Vec<Expected>, String> {
         ("cards/stdout", replies::of_cards("cards/stdin")?.into()),
         ("salvage_cases/stdin", salvage_in),
         ("salvage_cases/stdout", salvage_out),
+        ("format_cases/stdin", formats_in.into()),
+        ("format_cases/stdout", formats_out.into()),
         ("replay_cases/stdin", replay_in),
         ("replay_cases/stdout", replay_out),
         ("salvage/stdout", replies::of_salvage("salvage/stdin")?),
+        ("format/stdout", replies::of_format("format/stdin")?.into()),
         ("cells/stdout", replies::of_cells("cells/stdin")?.into()),
     ])
 }

@@ -1,5 +1,6 @@
-//! crates/formula, crates/vector_cases, crates/cards and crates/cells: what the programs reply to stored cases.
+//! crates/formula, crates/vector_cases, crates/cards, crates/cells and crates/format: what the programs reply to stored cases.
 
+use crate::formats;
 use crate::reads;
 use crate::reference::cards::{form, read};
 use crate::reference::operations::compile_and_run;
@@ -16,6 +17,11 @@ pub fn of_one(name: &str) -> Result<String, String> {
 /// The reply of the program `cells` to one case.
 pub fn of_cells(name: &str) -> Result<String, String> {
     Ok(reads::output(&read_input(&stored(name)?)))
+}
+
+/// The text of one case as it is saved.
+pub fn of_format(name: &str) -> Result<String, String> {
+    Ok(formats::output(&read_input(&stored(name)?).expr))
 }
 
 /// A list of cases, each followed by an empty line, and so each reply.

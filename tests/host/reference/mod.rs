@@ -5,6 +5,7 @@ pub mod cards;
 pub mod check;
 pub mod code;
 pub mod compile;
+pub mod format;
 pub mod grammar;
 pub mod literal;
 pub mod machine;

@@ -10,7 +10,14 @@ slice-aggregate-put-row : tie.Need-slice-aggregate-put-row
 slice-aggregate-put-row c = search needs
 
 returns : tie.Need-returns
-returns c = (c .before .before .put-row .ensures, omega (arith, c .before .before .put-row .ensures .end, row-length mostWords (c .before .before .before .before .before .before .args .answer) answerTable tt))
+returns c = (
+  c .before .before .put-row .ensures,
+  omega (
+    arith,
+    c .before .before .put-row .ensures .end,
+    row-length mostWords (c .before .before .before .before .before .before .args .answer) answerTable tt,
+  ),
+)
 
 put-row-requires : tie.Need-put-row-requires
 put-row-requires c κs = omega (arith, c .before .before .before .pre, row-length mostWords (c .before .before .before .args .answer) answerTable tt)

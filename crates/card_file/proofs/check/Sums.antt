@@ -15,7 +15,14 @@ use Rattle.card_laws.proofs.Theorems.{digit-bytes}
 reduced : (p c : ℕ) → p % 65521 * c + 65521 * (p / 65521 * c) ≡ p * c
 reduced p c =
     let e : p ≡ p % 65521 + 65521 * (p / 65521) = omega arith in
-    omega (arith, ap (λ (n : ℕ). c * n) e ∙ mul-add c (p % 65521) (65521 * (p / 65521)), mul-comm c p, mul-comm c (p % 65521), mul-comm c (65521 * (p / 65521)), mul-assoc 65521 (p / 65521) c)
+    omega (
+      arith,
+      ap (λ (n : ℕ). c * n) e ∙ mul-add c (p % 65521) (65521 * (p / 65521)),
+      mul-comm c p,
+      mul-comm c (p % 65521),
+      mul-comm c (65521 * (p / 65521)),
+      mul-assoc 65521 (p / 65521) c,
+    )
 
 pub record Summed (s : List ℕ) (sum position i : ℕ) : Type 0 where
   pub small : sum < 65521
@@ -29,7 +36,8 @@ start s = record { small = omega arith; low = omega arith; place = refl; left = 
     z : 0 + weigh 1 s ≡ weigh 1 s
     z = omega arith
 
-pub next : {s : List ℕ} {sum position i : ℕ} → Summed s sum position i → i < length s → (c : ℕ) → c ≡ getD s i 0 → Summed s ((sum + position * c) % 65521) ((position + 1) % 65521) (i + 1)
+pub next : {s : List ℕ} {sum position i : ℕ} → Summed s sum position i → i < length s → (c : ℕ) → c ≡ getD s i 0
+    → Summed s ((sum + position * c) % 65521) ((position + 1) % 65521) (i + 1)
 next {s} {sum} {position} {i} g h c e =
     let w : ℕ = weigh (suc (suc i)) (drop (suc i) s) in
     let cons : drop i s ≡ c ∷ drop (suc i) s = drop-cons s i 0 h ∙ ap (λ (b : ℕ). b ∷ drop (suc i) s) (sym e) in
@@ -51,6 +59,7 @@ end {s} {sum} {position} {i} g h =
 pub bound : (p c : ℕ) → p < 65521 → c < 256 → p * c ≤ 16707600
 bound p c h b = let a : p ≤ 65520 = omega arith in let d : c ≤ 255 = omega arith in mul-le-mul a d
 
-pub five : (n a b c d e : ℕ) → a ≡ 48 + n / 10 / 10 / 10 / 10 % 10 → b ≡ 48 + n / 10 / 10 / 10 % 10 → c ≡ 48 + n / 10 / 10 % 10 → d ≡ 48 + n / 10 % 10 → e ≡ 48 + n % 10
+pub five : (n a b c d e : ℕ) → a ≡ 48 + n / 10 / 10 / 10 / 10 % 10 → b ≡ 48 + n / 10 / 10 / 10 % 10 → c ≡ 48 + n / 10 / 10 % 10 → d ≡ 48 + n / 10 % 10
+    → e ≡ 48 + n % 10
     → a ∷ b ∷ c ∷ d ∷ e ∷ [] ≡ lowDigits 10 5 n
 five n a b c d e p q r s t = rw (p, q, r, s, t) (sym (digit-bytes n))

@@ -35,7 +35,8 @@ module _ (s : List ℕ) (at : ℕ) (key : List ℕ) where
   pub short : length s - at < length key → Wrong ≡ lengthIn (fieldOf key (drop at s))
   short h =
       let size : length (drop at s) ≡ length s - at = length-drop at s in
-      let t : begins key (drop at s) ≡ false = ap (equalBytes key) (take-all (length key) (drop at s) (omega arith)) ∙ unlike key (drop at s) (λ e. omega arith) in
+      let t : begins key (drop at s) ≡ false = ap (equalBytes key) (take-all (length key) (drop at s) (omega arith))
+      ∙ unlike key (drop at s) (λ e. omega arith) in
       rw t
 
   part : take (at + length key - at) (drop at s) ≡ take (length key) (drop at s)
@@ -48,7 +49,8 @@ module _ (s : List ℕ) (at : ℕ) (key : List ℕ) where
   other e = let t : begins key (drop at s) ≡ false = sym (e ∙ ap (equalBytes key) part) in rw t
 
   module _ (e : true ≡ equalBytes key (take (at + length key - at) (drop at s))) {n : ℕ}
-      (u : (n ≡ runLen (except 10) (take (length s - (at + length key)) (drop (at + length key) s))) × (n ≤ length (take (length s - (at + length key)) (drop (at + length key) s)))) where
+      (u : (n ≡ runLen (except 10) (take (length s - (at + length key)) (drop (at + length key) s)))
+      × (n ≤ length (take (length s - (at + length key)) (drop (at + length key) s)))) where
     here : fieldOf key (drop at s) ≡ restOfLine (drop (length key) (drop at s))
     here = let t : begins key (drop at s) ≡ true = sym (e ∙ ap (equalBytes key) part) in rw t
 
@@ -60,7 +62,8 @@ module _ (s : List ℕ) (at : ℕ) (key : List ℕ) where
 
     pub unended : n ≡ length s - (at + length key) → Wrong ≡ lengthIn (fieldOf key (drop at s))
     unended q =
-        let f : ltb (toEnd (drop (length key) (drop at s))) (length (drop (length key) (drop at s))) ≡ false = le-ltb (toEnd (drop (length key) (drop at s))) (length (drop (length key) (drop at s))) (omega (arith, run, size)) in
+        let f : ltb (toEnd (drop (length key) (drop at s))) (length (drop (length key) (drop at s))) ≡ false =
+        le-ltb (toEnd (drop (length key) (drop at s))) (length (drop (length key) (drop at s))) (omega (arith, run, size)) in
         let g : restOfLine (drop (length key) (drop at s)) ≡ wrong = rw f in
         sym (ap lengthIn (here ∙ g))
 
@@ -69,7 +72,8 @@ module _ (s : List ℕ) (at : ℕ) (key : List ℕ) where
         let x : List ℕ = drop (length key) (drop at s) in
         let most : n ≤ length x = subst (λ (l : List ℕ). n ≤ length l) rest (u .1) in
         let f : ltb (toEnd x) (length x) ≡ true = lt-ltb (toEnd x) (length x) (omega (arith, run, size, q)) in
-        let g : restOfLine x ≡ field (take (toEnd x) x) (drop (suc (toEnd x)) x) = ap (λ (t : Bool). cond t (field (take (toEnd x) x) (drop (suc (toEnd x)) x)) wrong) f in
+        let g : restOfLine x ≡ field (take (toEnd x) x) (drop (suc (toEnd x)) x) =
+        ap (λ (t : Bool). cond t (field (take (toEnd x) x) (drop (suc (toEnd x)) x)) wrong) f in
         sym (ap lengthIn (here ∙ g) ∙ ap Value (length-take-le (toEnd x) x (omega (arith, run)) ∙ run))
 
 -- ---- a line that was found: its value of n bytes, and what follows its end

@@ -11,7 +11,8 @@ use borrow.Author.Tests.{lt-ltb, le-ltb}
 use Rattle.lines.specs.Printing.{widthOf, decimalText}
 use Rattle.lines.proofs.printing.Digits.{length-digits}
 use Rattle.card_laws.specs.Lines.{Field, field, wrong, fieldOf}
-use Rattle.card_laws.specs.Cards.{cardKey, targetKey, exprKey, checkKey, Form, formed, out, cardNumber, isCheck, numbered, withCheck, withExpr, withTarget, withNumber, cardForm}
+use Rattle.card_laws.specs.Cards.{cardKey, targetKey, exprKey, checkKey, Form, formed, out, cardNumber, isCheck, numbered, withCheck, withExpr}
+use Rattle.card_laws.specs.Cards.{withTarget, withNumber, cardForm}
 use Rattle.card_laws.proofs.Cards.{number-is, five}
 use Rattle.card_file.specs.declared.form.Field.the-variants.{Value, Wrong}
 use Rattle.card_file.specs.declared.form.FourLines.{FourLines}
@@ -26,7 +27,8 @@ record LineAt (s key : List ℕ) (at end : ℕ) (value after : List ℕ) : Type 
   text : take (length value) (drop (at + length key) s) ≡ value
   rest : drop (end + 1) s ≡ after
 
-line-at : (s key : List ℕ) (at n end : ℕ) → at ≤ length s → end ≡ at + length key + n → (f : FieldIn key (drop at s) n) → LineAt s key at end (f .value) (f .after)
+line-at : (s key : List ℕ) (at n end : ℕ) → at ≤ length s → end ≡ at + length key + n → (f : FieldIn key (drop at s) n)
+    → LineAt s key at end (f .value) (f .after)
 line-at s key at n end h e f =
     let o : end + 1 ≡ at + (length key + n + 1) = omega arith in
     record {
@@ -78,7 +80,8 @@ pub record Two (s : List ℕ) (a b : ℕ) : Type 0 where
   pub rest : drop (b + 1) s ≡ r
 
 pub none-2 : (s : List ℕ) (a : ℕ) → One s a → Wrong ≡ lengthIn (fieldOf targetKey (drop (a + 1) s)) → spans out ≡ spans (cardForm s)
-none-2 s a o e = ap spans (sym (o .form ∙ ap (λ (l : List ℕ). withTarget (o .v) (fieldOf targetKey l)) (sym (o .rest)) ∙ ap (withTarget (o .v)) (no-field targetKey (drop (a + 1) s) e)))
+none-2 s a o e = ap spans (sym (o .form ∙ ap (λ (l : List ℕ). withTarget (o .v) (fieldOf targetKey l)) (sym (o .rest))
+    ∙ ap (withTarget (o .v)) (no-field targetKey (drop (a + 1) s) e)))
 
 pub two : (s : List ℕ) (a n : ℕ) → One s a → Value n ≡ lengthIn (fieldOf targetKey (drop (a + 1) s)) → Two s a (a + 8 + n)
 two s a n o e =
@@ -106,7 +109,8 @@ pub record Three (s : List ℕ) (a b c : ℕ) : Type 0 where
 
 pub none-3 : (s : List ℕ) (a b : ℕ) → Two s a b → Wrong ≡ lengthIn (fieldOf exprKey (drop (b + 1) s)) → spans out ≡ spans (cardForm s)
 none-3 s a b o e =
-    ap spans (sym (o .form ∙ ap (λ (l : List ℕ). withExpr (o .one .v) (o .t) (fieldOf exprKey l)) (sym (o .rest)) ∙ ap (withExpr (o .one .v) (o .t)) (no-field exprKey (drop (b + 1) s) e)))
+    ap spans (sym (o .form ∙ ap (λ (l : List ℕ). withExpr (o .one .v) (o .t) (fieldOf exprKey l)) (sym (o .rest))
+    ∙ ap (withExpr (o .one .v) (o .t)) (no-field exprKey (drop (b + 1) s) e)))
 
 pub three : (s : List ℕ) (a b n : ℕ) → Two s a b → Value n ≡ lengthIn (fieldOf exprKey (drop (b + 1) s)) → Three s a b (b + 6 + n)
 three s a b n o e =
@@ -134,7 +138,8 @@ pub record Four (s : List ℕ) (a b c d : ℕ) : Type 0 where
 
 pub none-4 : (s : List ℕ) (a b c : ℕ) → Three s a b c → Wrong ≡ lengthIn (fieldOf checkKey (drop (c + 1) s)) → spans out ≡ spans (cardForm s)
 none-4 s a b c o e =
-    ap spans (sym (o .form ∙ ap (λ (l : List ℕ). withCheck (o .two .one .v) (o .two .t) (o .e) (fieldOf checkKey l)) (sym (o .rest)) ∙ ap (withCheck (o .two .one .v) (o .two .t) (o .e)) (no-field checkKey (drop (c + 1) s) e)))
+    ap spans (sym (o .form ∙ ap (λ (l : List ℕ). withCheck (o .two .one .v) (o .two .t) (o .e) (fieldOf checkKey l)) (sym (o .rest))
+    ∙ ap (withCheck (o .two .one .v) (o .two .t) (o .e)) (no-field checkKey (drop (c + 1) s) e)))
 
 pub four : (s : List ℕ) (a b c n : ℕ) → Three s a b c → Value n ≡ lengthIn (fieldOf checkKey (drop (c + 1) s)) → Four s a b c (c + 7 + n)
 four s a b c n o e =
@@ -146,7 +151,8 @@ four s a b c n o e =
       three = o;
       k = f .value;
       r = f .after;
-      form = o .form ∙ ap (λ (l : List ℕ). withCheck (o .two .one .v) (o .two .t) (o .e) (fieldOf checkKey l)) (sym (o .rest)) ∙ ap (withCheck (o .two .one .v) (o .two .t) (o .e)) (f .is);
+      form = o .form ∙ ap (λ (l : List ℕ). withCheck (o .two .one .v) (o .two .t) (o .e) (fieldOf checkKey l)) (sym (o .rest))
+          ∙ ap (withCheck (o .two .one .v) (o .two .t) (o .e)) (f .is);
       end = omega (arith, f .size);
       inside = l .inside;
       text = ap (λ (m : ℕ). take m (drop (c + 7) s)) i ∙ ap (λ (m : ℕ). take (length (f .value)) (drop m s)) j ∙ l .text;
@@ -171,18 +177,22 @@ module _ (s : List ℕ) (a b c d n : ℕ) (o : Four s a b c d) (u : n ≡ cardNu
     check = sym (v ∙ ap isCheck (o .text))
 
     pub no-check : t ≡ false → spans out ≡ spans (cardForm s)
-    no-check z = ap spans (sym (form ∙ ap (λ (x : Bool). cond (ltb 0 n && x) Whole out) (check ∙ z) ∙ ap (λ (x : Bool). cond x Whole out) (and-false (ltb 0 n))))
+    no-check z = ap spans (sym (form ∙ ap (λ (x : Bool). cond (ltb 0 n && x) Whole out) (check ∙ z)
+        ∙ ap (λ (x : Bool). cond x Whole out) (and-false (ltb 0 n))))
 
     pub whole : (n ≡ 0 → ⊥) → t ≡ true
         → record { good = true; number = n; target = a + 8; expr = b + 6; check = c + 7; end = d + 1 } ≡ spans (cardForm s)
     unfolding spans
     whole p z =
         let positive : 0 < n = omega (arith, p) in
-        let f : cardForm s ≡ Whole = form ∙ ap (λ (x : Bool). cond (x && isCheck (o .k)) Whole out) (lt-ltb 0 n positive) ∙ ap (λ (x : Bool). cond x Whole out) (check ∙ z) in
-        let w : length (o .three .two .one .v) ≡ widthOf n = ap length (number-is (o .three .two .one .v) n number positive .0) ∙ length-digits 10 (widthOf n) n in
+        let f : cardForm s ≡ Whole = form ∙ ap (λ (x : Bool). cond (x && isCheck (o .k)) Whole out) (lt-ltb 0 n positive)
+        ∙ ap (λ (x : Bool). cond x Whole out) (check ∙ z) in
+        let w : length (o .three .two .one .v) ≡ widthOf n = ap length (number-is (o .three .two .one .v) n number positive .0)
+        ∙ length-digits 10 (widthOf n) n in
         let e1 : a + 8 ≡ targetAt (widthOf n) = omega (arith, o .three .two .one .end, w) in
         let e2 : b + 6 ≡ exprAt (widthOf n) (length (o .three .two .t)) = omega (arith, o .three .two .one .end, o .three .two .end, w) in
-        let e3 : c + 7 ≡ checkAt (widthOf n) (length (o .three .two .t)) (length (o .three .e)) = omega (arith, o .three .two .one .end, o .three .two .end, o .three .end, w) in
+        let e3 : c + 7 ≡ checkAt (widthOf n) (length (o .three .two .t)) (length (o .three .e)) =
+        omega (arith, o .three .two .one .end, o .three .two .end, o .three .end, w) in
         let e4 : d + 1 ≡ cardEnd (widthOf n) (length (o .three .two .t)) (length (o .three .e)) =
         omega (arith, o .three .two .one .end, o .three .two .end, o .three .end, o .end, w, five (o .k) (check ∙ z) .0) in
         rw (e1, e2, e3, e4) (sym (ap spans f))

@@ -96,23 +96,35 @@ parts s f h g = go (cardForm s) refl h
         let five-long : length k ≡ 5 = five k (i .digits) .0 in
         let rest : List ℕ = ended (checkKey ++ k) r in
         let b0 : s ≡ ended (cardLine n) [] ++ (checkedLines t e ++ rest) =
-        i .bytes ∙ sym (ended-append (cardLine n) [] (checkedLines t e ++ rest) ∙ ap (ended (cardLine n)) (ended-append (targetKey ++ t) (ended (exprKey ++ e) []) rest ∙ ap (ended (targetKey ++ t)) (ended-append (exprKey ++ e) [] rest))) in
-        let b1 : s ≡ ended (cardLine n) targetKey ++ (t ++ 10 ∷ ended (exprKey ++ e) rest) = i .bytes ∙ sym (ended-append (cardLine n) targetKey (t ++ 10 ∷ ended (exprKey ++ e) rest)) in
+        i .bytes ∙ sym (ended-append (cardLine n) [] (checkedLines t e ++ rest)
+        ∙ ap (ended (cardLine n)) (ended-append (targetKey ++ t) (ended (exprKey ++ e) []) rest
+        ∙ ap (ended (targetKey ++ t)) (ended-append (exprKey ++ e) [] rest))) in
+        let b1 : s ≡ ended (cardLine n) targetKey ++ (t ++ 10 ∷ ended (exprKey ++ e) rest) = i .bytes
+        ∙ sym (ended-append (cardLine n) targetKey (t ++ 10 ∷ ended (exprKey ++ e) rest)) in
         let b2 : s ≡ ended (cardLine n) (ended (targetKey ++ t) exprKey) ++ (e ++ 10 ∷ rest) =
-        i .bytes ∙ sym (ended-append (cardLine n) (ended (targetKey ++ t) exprKey) (e ++ 10 ∷ rest) ∙ ap (ended (cardLine n)) (ended-append (targetKey ++ t) exprKey (e ++ 10 ∷ rest))) in
+        i .bytes ∙ sym (ended-append (cardLine n) (ended (targetKey ++ t) exprKey) (e ++ 10 ∷ rest)
+        ∙ ap (ended (cardLine n)) (ended-append (targetKey ++ t) exprKey (e ++ 10 ∷ rest))) in
         let b3 : s ≡ ended (cardLine n) (ended (targetKey ++ t) (ended (exprKey ++ e) checkKey)) ++ (k ++ 10 ∷ r) =
         i .bytes ∙ sym (ended-append (cardLine n) (ended (targetKey ++ t) (ended (exprKey ++ e) checkKey)) (k ++ 10 ∷ r)
-        ∙ ap (ended (cardLine n)) (ended-append (targetKey ++ t) (ended (exprKey ++ e) checkKey) (k ++ 10 ∷ r) ∙ ap (ended (targetKey ++ t)) (ended-append (exprKey ++ e) checkKey (k ++ 10 ∷ r)))) in
+        ∙ ap (ended (cardLine n)) (ended-append (targetKey ++ t) (ended (exprKey ++ e) checkKey) (k ++ 10 ∷ r)
+        ∙ ap (ended (targetKey ++ t)) (ended-append (exprKey ++ e) checkKey (k ++ 10 ∷ r)))) in
         let f1 : f .target ≡ 13 + widthOf n = ap (λ (l : FourLines). l .target) w ∙ omega arith in
         let f2 : f .expr ≡ 19 + widthOf n + length t = ap (λ (l : FourLines). l .expr) w ∙ omega arith in
         let f3 : f .check ≡ 26 + widthOf n + length t + length e = ap (λ (l : FourLines). l .check) w ∙ omega arith in
         let f4 : f .end ≡ 32 + widthOf n + length t + length e = ap (λ (l : FourLines). l .end) w ∙ omega arith in
         let l0 : length (ended (cardLine n) []) ≡ 6 + widthOf n = length-append (cardLine n) (10 ∷ []) ∙ omega arith in
         let l1 : length (ended (cardLine n) targetKey) ≡ 13 + widthOf n = length-append (cardLine n) (10 ∷ targetKey) ∙ omega arith in
-        let l2 : length (ended (cardLine n) (ended (targetKey ++ t) exprKey)) ≡ 19 + widthOf n + length t = omega (arith, length-append (cardLine n) (10 ∷ ended (targetKey ++ t) exprKey), length-append t (10 ∷ exprKey)) in
+        let l2 : length (ended (cardLine n) (ended (targetKey ++ t) exprKey)) ≡ 19 + widthOf n + length t =
+        omega (arith, length-append (cardLine n) (10 ∷ ended (targetKey ++ t) exprKey), length-append t (10 ∷ exprKey)) in
         let l3 : length (ended (cardLine n) (ended (targetKey ++ t) (ended (exprKey ++ e) checkKey))) ≡ 26 + widthOf n + length t + length e =
-        omega (arith, length-append (cardLine n) (10 ∷ ended (targetKey ++ t) (ended (exprKey ++ e) checkKey)), length-append t (10 ∷ ended (exprKey ++ e) checkKey), length-append e (10 ∷ checkKey)) in
-        let l4 : length (checkedLines t e) ≡ 14 + length t + length e = omega (arith, length-append t (10 ∷ ended (exprKey ++ e) []), length-append e (10 ∷ [])) in
+        omega (
+          arith,
+          length-append (cardLine n) (10 ∷ ended (targetKey ++ t) (ended (exprKey ++ e) checkKey)),
+          length-append t (10 ∷ ended (exprKey ++ e) checkKey),
+          length-append e (10 ∷ checkKey),
+        ) in
+        let l4 : length (checkedLines t e) ≡ 14 + length t + length e = omega
+        (arith, length-append t (10 ∷ ended (exprKey ++ e) []), length-append e (10 ∷ [])) in
         record {
           n = n;
           t = t;
@@ -125,15 +137,24 @@ parts s f h g = go (cardForm s) refl h
           expr-at = f2;
           check-at = f3;
           end-at = f4;
-          inside = omega (arith, ap length b3, length-append (ended (cardLine n) (ended (targetKey ++ t) (ended (exprKey ++ e) checkKey))) (k ++ 10 ∷ r), l3, length-append k (10 ∷ r));
+          inside = omega (
+            arith,
+            ap length b3,
+            length-append (ended (cardLine n) (ended (targetKey ++ t) (ended (exprKey ++ e) checkKey))) (k ++ 10 ∷ r),
+            l3,
+            length-append k (10 ∷ r),
+          );
           lines = part s (ended (cardLine n) []) (checkedLines t e) rest (f .target - 7) (f .check - 7 + 1 - (f .target - 7)) b0 (omega arith) (omega arith);
-          target = part s (ended (cardLine n) targetKey) t (10 ∷ ended (exprKey ++ e) rest) (f .target) (f .expr - 6 - f .target) b1 (omega arith) (omega arith);
+          target = part s (ended (cardLine n) targetKey) t (10 ∷ ended (exprKey ++ e) rest) (f .target) (f .expr - 6 - f .target) b1 (omega arith)
+              (omega arith);
           expr = part s (ended (cardLine n) (ended (targetKey ++ t) exprKey)) e (10 ∷ rest) (f .expr) (f .check - 7 - f .expr) b2 (omega arith) (omega arith);
-          check = part s (ended (cardLine n) (ended (targetKey ++ t) (ended (exprKey ++ e) checkKey))) k (10 ∷ r) (f .check) (f .check + 5 - f .check) b3 (omega arith) (omega arith);
+          check = part s (ended (cardLine n) (ended (targetKey ++ t) (ended (exprKey ++ e) checkKey))) k (10 ∷ r) (f .check)
+              (f .check + 5 - f .check) b3 (omega arith) (omega arith);
         }
 
 -- ---- the judgement
-pub out-of-form : (s : List ℕ) (last : ℕ) (f : FourLines) → f ≡ spans (cardForm s) → f .good ≡ false → Refusal 16 ≡ verdictIn (judged formulaAnswer last (cardForm s))
+pub out-of-form : (s : List ℕ) (last : ℕ) (f : FourLines) → f ≡ spans (cardForm s) → f .good ≡ false
+    → Refusal 16 ≡ verdictIn (judged formulaAnswer last (cardForm s))
 unfolding spans judged
 out-of-form s last f h g = go (cardForm s) h
   where

@@ -28,7 +28,15 @@ same-length : tie.Need-same-length
 same-length c = search needs
 
 returns : tie.Need-returns
-returns c = (as-text (refused-lines (c .before .before .before .before .before .before .before .before .before .before .before .before .before .before .before .before .before .before .before .before .args .card .now) (c .before .before .before .before .before .before .before .before .before .before .before .before .before .before .before .before .before .before .before .before .args .answer)) (then (then (then (c .before .before .before .before .before .before .before .before .before .before .before .before .before .before .before .before .put-number .ensures .0) (c .before .before .before .before .before .before .before .before .before .before .before .put-all .ensures)) (c .before .before .before .before .before .before .before .put .ensures .0)) (c .before .before .put-all2 .ensures)), omega arith)
+returns c = (
+  as-text (refused-lines (c .before .before .before .before .before .before .before .before .before .before .before .before .before .before
+      .before .before .before .before .before .before .args .card .now)
+      (c .before .before .before .before .before .before .before .before .before .before .before .before .before .before .before .before .before .before
+      .before .before .args .answer)) (then (then (then (c .before .before .before .before .before .before .before .before .before .before .before .before
+      .before .before .before .before .put-number .ensures .0) (c .before .before .before .before .before .before .before .before .before .before .before
+      .put-all .ensures)) (c .before .before .before .before .before .before .before .put .ensures .0)) (c .before .before .put-all2 .ensures)),
+  omega arith,
+)
 
 pub put-refused-spec : {M : Type 1} → statement M
 put-refused-spec =

@@ -34,7 +34,11 @@ same-length : tie.Need-same-length
 same-length c = search needs
 
 returns : tie.Need-returns
-returns c = (as-text (good-reply (c .before .before .before .before .before .before .before .before .before .before .before .args .file .now) (c .before .before .before .before .before .before .read .ensures) (c .if1 .taken)) (c .before .before .before .put-result .ensures .0), omega (arith, c .before .before .before .put-result .ensures .1))
+returns c = (
+  as-text (good-reply (c .before .before .before .before .before .before .before .before .before .before .before .args .file .now)
+      (c .before .before .before .before .before .before .read .ensures) (c .if1 .taken)) (c .before .before .before .put-result .ensures .0),
+  omega (arith, c .before .before .before .put-result .ensures .1),
+)
 
 slice-aggregate-put-refused : tie.Need-slice-aggregate-put-refused
 slice-aggregate-put-refused c = search needs
@@ -46,7 +50,19 @@ same-length-2 : tie.Need-same-length-2
 same-length-2 c = search needs
 
 returns-2 : tie.Need-returns-2
-returns-2 c = (as-text (far-reply (c .before .before .before .before .before .before .before .before .before .before .before .before .before .before .before .before .before .args .file .now) (c .before .before .before .before .before .before .before .before .before .before .before .before .read .ensures) (c .before .before .before .before .before .before .if1 .left) (c .before .before .before .before .before .before .before .before .before .before .before .wide .ensures) (c .before .before .before .before .before .if2 .taken)) (then (c .before .before .before .before .before .before .before .before .before .put-result .ensures .0) (c .before .before .put-refused .ensures .0)), omega (arith, c .before .before .before .before .before .before .before .before .before .put-result .ensures .1, c .before .before .put-refused .ensures .1))
+returns-2 c = (
+  as-text (far-reply (c .before .before .before .before .before .before .before .before .before .before .before .before .before .before .before
+      .before .before .args .file .now) (c .before .before .before .before .before .before .before .before .before .before .before .before .read .ensures)
+      (c .before .before .before .before .before .before .if1 .left)
+      (c .before .before .before .before .before .before .before .before .before .before .before .wide .ensures)
+      (c .before .before .before .before .before .if2 .taken)) (then
+      (c .before .before .before .before .before .before .before .before .before .put-result .ensures .0) (c .before .before .put-refused .ensures .0)),
+  omega (
+    arith,
+    c .before .before .before .before .before .before .before .before .before .put-result .ensures .1,
+    c .before .before .put-refused .ensures .1,
+  ),
+)
 
 sub-put-refused : tie.Need-sub-put-refused
 sub-put-refused c = search needs
@@ -64,7 +80,19 @@ same-length-3 : tie.Need-same-length-3
 same-length-3 c = search needs
 
 returns-3 : tie.Need-returns-3
-returns-3 c = (as-text (bad-reply (c .before .before .before .before .before .before .before .before .before .before .before .before .before .before .before .before .before .args .file .now) (c .before .before .before .before .before .before .before .before .before .before .before .before .read .ensures) (c .before .before .before .before .before .before .if1 .left) (c .before .before .before .before .before .before .before .before .before .before .before .wide .ensures)) (then (c .before .before .before .before .before .before .before .before .before .put-result .ensures .0) (c .before .before .put-refused2 .ensures .0)), omega (arith, c .before .before .before .before .before .before .before .before .before .put-result .ensures .1, c .before .before .put-refused2 .ensures .1))
+returns-3 c = (
+  as-text (bad-reply (c .before .before .before .before .before .before .before .before .before .before .before .before .before .before .before
+      .before .before .args .file .now) (c .before .before .before .before .before .before .before .before .before .before .before .before .read .ensures)
+      (c .before .before .before .before .before .before .if1 .left)
+      (c .before .before .before .before .before .before .before .before .before .before .before .wide .ensures))
+      (then (c .before .before .before .before .before .before .before .before .before .put-result .ensures .0)
+      (c .before .before .put-refused2 .ensures .0)),
+  omega (
+    arith,
+    c .before .before .before .before .before .before .before .before .before .put-result .ensures .1,
+    c .before .before .put-refused2 .ensures .1,
+  ),
+)
 
 pub reply-spec : {M : Type 1} → statement M
 reply-spec =

@@ -27,7 +27,16 @@ form-size p n t e k r q =
     let a : List ℕ = ended (checkKey ++ k) r in
     let b : List ℕ = ended (exprKey ++ e) a in
     let c : List ℕ = ended (targetKey ++ t) b in
-    omega (arith, ap length (i .bytes), length-append (decimalText n) (10 ∷ c), length-digits 10 (widthOf n) n, length-append t (10 ∷ b), length-append e (10 ∷ a), length-append k (10 ∷ r), five k (i .digits) .0)
+    omega (
+      arith,
+      ap length (i .bytes),
+      length-append (decimalText n) (10 ∷ c),
+      length-digits 10 (widthOf n) n,
+      length-append t (10 ∷ b),
+      length-append e (10 ∷ a),
+      length-append k (10 ∷ r),
+      five k (i .digits) .0,
+    )
 
 module _ (p : List ℕ) (last : ℕ) (f : FourLines) (h : f ≡ spans (cardForm p)) where
   abbrev Goal : Answer

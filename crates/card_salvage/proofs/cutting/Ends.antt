@@ -60,7 +60,8 @@ module _ (f : List ℕ) (at i : ℕ) (w : Within f at i) where
       let n : i + 1 - at ≡ suc (i - at) = omega (arith, w .order) in
       let k : at + (i - at) ≡ i = omega (arith, w .order) in
       let c : getD (drop at f) (i - at) 0 ≡ getD f i 0 = getD-drop at f (i - at) 0 ∙ ap (λ (j : ℕ). getD f j 0) k in
-      sym (ap (λ (j : ℕ). take j (drop at f)) n ∙ take-suc (drop at f) (i - at) 0 (omega (arith, length-drop at f, w .order, w .inside)) ∙ ap (λ (b : ℕ). take (i - at) (drop at f) ++ (b ∷ [])) c)
+      sym (ap (λ (j : ℕ). take j (drop at f)) n ∙ take-suc (drop at f) (i - at) 0 (omega (arith, length-drop at f, w .order, w .inside))
+      ∙ ap (λ (b : ℕ). take (i - at) (drop at f) ++ (b ∷ [])) c)
 
   pub next : i + 1 < length f → false ≡ cardFollows (getD f i 0) (drop (i + 1) f) → Within f at (i + 1)
   next h e =
@@ -88,6 +89,7 @@ module _ (f : List ℕ) (at i : ℕ) (w : Within f at i) where
       none : drop (i + 1) f ≡ []
       none = drop-of-length-le f {i = i + 1} h
 
-      by : (t : Bool) → cond t ((getD f i 0 ∷ []) ∷ parts (drop (i + 1) f)) (ontoFirst (getD f i 0) (parts (drop (i + 1) f))) ≡ (getD f i 0 ∷ []) ∷ parts (drop (i + 1) f)
+      by : (t : Bool) → cond t ((getD f i 0 ∷ []) ∷ parts (drop (i + 1) f)) (ontoFirst (getD f i 0) (parts (drop (i + 1) f))) ≡ (getD f i 0 ∷ [])
+          ∷ parts (drop (i + 1) f)
       by true = refl
       by false = ap (λ (l : List ℕ). ontoFirst (getD f i 0) (parts l)) none ∙ sym (ap (λ (l : List ℕ). (getD f i 0 ∷ []) ∷ parts l) none)

@@ -54,9 +54,11 @@ module _ {f : List ℕ} {room other left named-left at last : ℕ} (r : Rooms f 
   no-room t e h =
       sym (ap (λ (b : Bool). b && leb (length named-bytes) other) (lt-leb (length kept-bytes) room (omega (arith, r .kept, kept-next t, e))))
 
-  pub no-room-named : {end n : ℕ} {a : Answer} → Taken f last at end a → n ≡ length (nameOf a at (end - at)) → named-left < n → false ≡ fits room other (salvaged formulaAnswer f)
+  pub no-room-named : {end n : ℕ} {a : Answer} → Taken f last at end a → n ≡ length (nameOf a at (end - at)) → named-left < n
+      → false ≡ fits room other (salvaged formulaAnswer f)
   no-room-named t e h =
-      sym (ap (λ (b : Bool). leb (length kept-bytes) room && b) (lt-leb (length named-bytes) other (omega (arith, r .named, named-next t, e))) ∙ and-false (leb (length kept-bytes) room))
+      sym (ap (λ (b : Bool). leb (length kept-bytes) room && b) (lt-leb (length named-bytes) other (omega (arith, r .named, named-next t, e)))
+      ∙ and-false (leb (length kept-bytes) room))
 
   pub next : {end n m : ℕ} {a : Answer} → Taken f last at end a → n ≡ keptSize a (end - at) → m ≡ length (nameOf a at (end - at)) → n ≤ left → m ≤ named-left
       → {last′ : ℕ} → last′ ≡ lastIn last a → Rooms f room other (left - n) (named-left - m) end last′

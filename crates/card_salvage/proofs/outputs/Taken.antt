@@ -7,7 +7,8 @@ use lib.ListN.{length, take, drop, length-drop, drop-of-length-le}
 use lib.Seq.{length-take-le}
 use Rattle.lines.specs.Printing.{widthOf}
 use Rattle.card_laws.specs.Formulas.{formulaAnswer}
-use Rattle.salvage_laws.specs.Salvage.{parts, PartAnswer, keeps, leaves, lastKept, Part, part, keptBefore, keptBytes, nameLines, namedBefore, namedBytes, partAnswer, classifyParts}
+use Rattle.salvage_laws.specs.Salvage.{parts, PartAnswer, keeps, leaves, lastKept, Part, part, keptBefore, keptBytes, nameLines, namedBefore}
+use Rattle.salvage_laws.specs.Salvage.{namedBytes, partAnswer, classifyParts}
 use Rattle.lines.specs.private.Steps.{Puts}
 use Rattle.salvage_laws.proofs.Names.{name-size}
 use Rattle.card_salvage.specs.declared.answers.Answer.{Answer}
@@ -29,7 +30,8 @@ pub record Taken (f : List ℕ) (last at end : ℕ) (a : Answer) : Type 0 where
   pub named : namedBytes (partsLeft f last at) ≡ nameOf a at (end - at) ++ namedBytes (partsLeft f (lastIn last a) end)
   pub size : keptSize a (end - at) ≡ length (keptOf a (take (end - at) (drop at f)))
 
-pub taken : {f : List ℕ} (last : ℕ) {at end : ℕ} {a : Answer} → PartTo f at end → a ≡ answerIn (partAnswer formulaAnswer last (take (end - at) (drop at f))) → Taken f last at end a
+pub taken : {f : List ℕ} (last : ℕ) {at end : ℕ} {a : Answer} → PartTo f at end → a ≡ answerIn (partAnswer formulaAnswer last (take (end - at) (drop at f)))
+    → Taken f last at end a
 taken {f} last {at} {end} {a} p e =
     record {
       order = p .order;
@@ -52,16 +54,19 @@ taken {f} last {at} {end} {a} p e =
     place = omega (arith, long, p .order)
 
     whole : partsLeft f last at ≡ part at q x ∷ partsLeft f (lastKept last x) end
-    whole = ap (classifyParts formulaAnswer last at) (p .cuts) ∙ ap (λ (n : ℕ). part at q x ∷ classifyParts formulaAnswer (lastKept last x) n (parts (drop end f))) place
+    whole = ap (classifyParts formulaAnswer last at) (p .cuts) ∙ ap (λ (n : ℕ). part at q x
+        ∷ classifyParts formulaAnswer (lastKept last x) n (parts (drop end f))) place
 
     back : {B : Type 0} (g : Answer → B) → g (answerIn x) ≡ g a
     back g = ap g (sym e)
 
-    kept-by : (y : PartAnswer) → keptBefore (part at q y) (keptBytes (partsLeft f (lastKept last y) end)) ≡ keptOf (answerIn y) q ++ keptBytes (partsLeft f (lastIn last (answerIn y)) end)
+    kept-by : (y : PartAnswer) → keptBefore (part at q y) (keptBytes (partsLeft f (lastKept last y) end)) ≡ keptOf (answerIn y) q
+        ++ keptBytes (partsLeft f (lastIn last (answerIn y)) end)
     kept-by (keeps c) = refl
     kept-by (leaves b) = refl
 
-    named-by : (y : PartAnswer) → namedBefore (part at q y) (namedBytes (partsLeft f (lastKept last y) end)) ≡ nameOf (answerIn y) at (end - at) ++ namedBytes (partsLeft f (lastIn last (answerIn y)) end)
+    named-by : (y : PartAnswer) → namedBefore (part at q y) (namedBytes (partsLeft f (lastKept last y) end)) ≡ nameOf (answerIn y) at (end - at)
+        ++ namedBytes (partsLeft f (lastIn last (answerIn y)) end)
     named-by (keeps c) = refl
     named-by (leaves b) = ap (λ (n : ℕ). nameLines at n b ++ namedBytes (partsLeft f last end)) long
 

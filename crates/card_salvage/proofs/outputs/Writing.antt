@@ -28,10 +28,12 @@ put-start old whole = record { done = []; put = record { bytes = refl; end = ref
 put-long : {old now whole rest : List ℕ} {at : ℕ} → Put old now at whole rest → length now ≡ length old
 put-long {old} p = ap length (p .put .bytes) ∙ length-sets old 0 (p .done)
 
-put-room : {old now whole rest : List ℕ} {at : ℕ} (p : Put old now at whole rest) (s r : List ℕ) → rest ≡ s ++ r → length whole ≤ length old → at + length s ≤ length now
+put-room : {old now whole rest : List ℕ} {at : ℕ} (p : Put old now at whole rest) (s r : List ℕ) → rest ≡ s ++ r → length whole ≤ length old
+    → at + length s ≤ length now
 put-room {rest = rest} p s r e h = omega (arith, put-long p, p .put .end, ap length (p .is), length-append (p .done) rest, ap length e, length-append s r)
 
-put-next : {old now new whole rest : List ℕ} {at at′ : ℕ} (p : Put old now at whole rest) (s r : List ℕ) → rest ≡ s ++ r → Puts now at new at′ s → Put old new at′ whole r
+put-next : {old now new whole rest : List ℕ} {at at′ : ℕ} (p : Put old now at whole rest) (s r : List ℕ) → rest ≡ s ++ r → Puts now at new at′ s
+    → Put old new at′ whole r
 put-next p s r e q = record { done = p .done ++ s; put = then (p .put) q; is = p .is ∙ ap (λ (l : List ℕ). p .done ++ l) e ∙ sym (append-assoc (p .done) s r) }
 
 put-end : {old now whole rest : List ℕ} {at : ℕ} → Put old now at whole rest → rest ≡ [] → Puts old 0 now at whole
@@ -59,7 +61,8 @@ module _ {f old old′ now now′ : List ℕ} {kept-at named-at at last : ℕ} (
     pub named-room : length (namedBytes (salvaged formulaAnswer f)) ≤ length old′ → named-at + length (nameOf a at (end - at)) ≤ length now′
     named-room h = put-room (w .named) (nameOf a at (end - at)) (namedBytes (partsLeft f (lastIn last a) end)) (t .named) h
 
-    pub next : {new new′ : List ℕ} {kept-at′ named-at′ last′ : ℕ} → Puts now kept-at new kept-at′ (keptOf a (take (end - at) (drop at f))) → Puts now′ named-at new′ named-at′ (nameOf a at (end - at))
+    pub next : {new new′ : List ℕ} {kept-at′ named-at′ last′ : ℕ} → Puts now kept-at new kept-at′ (keptOf a (take (end - at) (drop at f)))
+        → Puts now′ named-at new′ named-at′ (nameOf a at (end - at))
         → last′ ≡ lastIn last a → Writing f old old′ new new′ kept-at′ named-at′ end last′
     next {new} {new′} {kept-at′} {named-at′} {last′} p q l =
         subst (Writing f old old′ new new′ kept-at′ named-at′ end) (sym l)

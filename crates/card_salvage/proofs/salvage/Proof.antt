@@ -10,10 +10,14 @@ fit-requires : tie.Need-fit-requires
 fit-requires c κs = search needs
 
 returns : tie.Need-returns
-returns c = too-long (c .before .before .before .before .before .args .file .now) (c .before .before .before .before .before .args .kept .now) (c .before .before .before .before .before .args .named .now) (sym (not-true _ (c .if1 .taken)) ∙ c .before .fit .ensures)
+returns c = too-long (c .before .before .before .before .before .args .file .now) (c .before .before .before .before .before .args .kept .now)
+    (c .before .before .before .before .before .args .named .now) (sym (not-true _ (c .if1 .taken)) ∙ c .before .fit .ensures)
 
 write-requires : tie.Need-write-requires
-write-requires c κs = rooms (c .before .before .before .before .before .before .before .args .file .now) (c .before .before .before .before .before .before .before .args .kept .now) (c .before .before .before .before .before .before .before .args .named .now) (sym (not-false _ (c .before .before .if1 .left)) ∙ c .before .before .before .fit .ensures)
+write-requires c κs = rooms (c .before .before .before .before .before .before .before .args .file .now)
+    (c .before .before .before .before .before .before .before .args .kept .now)
+    (c .before .before .before .before .before .before .before .args .named .now)
+    (sym (not-false _ (c .before .before .if1 .left)) ∙ c .before .before .before .fit .ensures)
 
 same-length : tie.Need-same-length
 same-length c = search needs
@@ -22,7 +26,12 @@ same-length-2 : tie.Need-same-length-2
 same-length-2 c = search needs
 
 returns-2 : tie.Need-returns-2
-returns-2 c = written (c .before .before .before .before .before .before .before .before .before .before .before .before .args .file .now) (c .before .before .before .before .before .before .before .before .before .before .before .before .args .kept .now) (c .before .before .before .before .before .before .before .before .before .before .before .before .args .named .now) (sym (not-false _ (c .before .before .before .before .before .before .before .if1 .left)) ∙ c .before .before .before .before .before .before .before .before .fit .ensures) (c .before .before .before .before .write .result) (c .before .before .before .before .write .ensures)
+returns-2 c = written (c .before .before .before .before .before .before .before .before .before .before .before .before .args .file .now)
+    (c .before .before .before .before .before .before .before .before .before .before .before .before .args .kept .now)
+    (c .before .before .before .before .before .before .before .before .before .before .before .before .args .named .now)
+    (sym (not-false _ (c .before .before .before .before .before .before .before .if1 .left))
+    ∙ c .before .before .before .before .before .before .before .before .fit .ensures) (c .before .before .before .before .write .result)
+    (c .before .before .before .before .write .ensures)
 
 pub salvage-spec : {M : Type 1} → statement M
 salvage-spec =

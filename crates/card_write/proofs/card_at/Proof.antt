@@ -55,7 +55,11 @@ shared-slice-read-least-3 : tie.Need-shared-slice-read-least-3
 shared-slice-read-least-3 c = search needs
 
 cast-least-3 : tie.Need-cast-least-3
-cast-least-3 c = omega (arith, c .before .before .before .before .before .before .shared-slice-known2 .given (5 * (c .before .before .before .before .before .before .before .before .args .k) + 2))
+cast-least-3 c = omega (
+  arith,
+  c .before .before .before .before .before .before .shared-slice-known2 .given
+      (5 * (c .before .before .before .before .before .before .before .before .args .k) + 2),
+)
 
 sub-least : tie.Need-sub-least
 sub-least c = search needs
@@ -76,7 +80,11 @@ shared-slice-read-least-4 : tie.Need-shared-slice-read-least-4
 shared-slice-read-least-4 c = search needs
 
 cast-least-4 : tie.Need-cast-least-4
-cast-least-4 c = omega (arith, c .before .before .before .before .before .before .before .before .shared-slice-known2 .given (5 * (c .before .before .before .before .before .before .before .before .before .before .args .k) + 4))
+cast-least-4 c = omega (
+  arith,
+  c .before .before .before .before .before .before .before .before .shared-slice-known2 .given
+      (5 * (c .before .before .before .before .before .before .before .before .before .before .args .k) + 4),
+)
 
 sub-least-2 : tie.Need-sub-least-2
 sub-least-2 c = search needs
@@ -88,7 +96,13 @@ add-t29 : tie.Need-add-t29
 add-t29 c = search needs
 
 returns : tie.Need-returns
-returns c = given (c .before .before .before .before .before .before .before .before .before .before .before .args .texts .now) (c .before .before .before .before .before .before .before .before .before .before .before .args .cards .now) (c .before .before .before .before .before .before .before .before .before .before .before .args .k) _ _ _ _ (clip (c .before .before .before .before .before .before .before .before .before .before .before .args .texts .now) _ _ _ _ (c .before .before .before .before .before .before .before .least .ensures) (c .before .before .least3 .ensures)) (clip (c .before .before .before .before .before .before .before .before .before .before .before .args .texts .now) _ _ _ _ (c .before .before .before .before .before .least2 .ensures) (c .least4 .ensures))
+returns c = given (c .before .before .before .before .before .before .before .before .before .before .before .args .texts .now)
+    (c .before .before .before .before .before .before .before .before .before .before .before .args .cards .now)
+    (c .before .before .before .before .before .before .before .before .before .before .before .args .k) _ _ _ _
+    (clip (c .before .before .before .before .before .before .before .before .before .before .before .args .texts .now) _ _ _ _
+    (c .before .before .before .before .before .before .before .least .ensures) (c .before .before .least3 .ensures))
+    (clip (c .before .before .before .before .before .before .before .before .before .before .before .args .texts .now) _ _ _ _
+    (c .before .before .before .before .before .least2 .ensures) (c .least4 .ensures))
 
 pub card-at-spec : {M : Type 1} → statement M
 card-at-spec =

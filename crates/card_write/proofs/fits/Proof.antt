@@ -35,16 +35,33 @@ sub-expr : tie.Need-sub-expr Inv-loop μ-loop
 sub-expr c = omega (arith, c .before .before .before .before .card-at .ensures .expr-order)
 
 returns : tie.Need-returns Inv-loop μ-loop
-returns c = no-room (c .before .before .before .before .before .before .before .loop .inv) (left (c .before .before .before .before .before .before .before .before .before .before .args .texts .now) (c .before .before .before .before .before .before .before .before .before .before .args .cards .now) _ (c .before .before .before .before .before .before .before .loop .k) (c .before .before .before .before .before .card-at .result) (c .before .before .before .before .before .before .loop-test .taken) (c .before .before .before .before .before .card-at .ensures)) (omega (arith, c .before .before .before .width-of .ensures, c .if1 .taken))
+returns c = no-room (c .before .before .before .before .before .before .before .loop .inv)
+    (left (c .before .before .before .before .before .before .before .before .before .before .args .texts .now)
+    (c .before .before .before .before .before .before .before .before .before .before .args .cards .now) _
+    (c .before .before .before .before .before .before .before .loop .k) (c .before .before .before .before .before .card-at .result)
+    (c .before .before .before .before .before .before .loop-test .taken) (c .before .before .before .before .before .card-at .ensures))
+    (omega (arith, c .before .before .before .width-of .ensures, c .if1 .taken))
 
 returns-2 : tie.Need-returns-2 Inv-loop μ-loop
-returns-2 c = no-room (c .before .before .before .before .before .before .before .before .loop .inv) (left (c .before .before .before .before .before .before .before .before .before .before .before .args .texts .now) (c .before .before .before .before .before .before .before .before .before .before .before .args .cards .now) _ (c .before .before .before .before .before .before .before .before .loop .k) (c .before .before .before .before .before .before .card-at .result) (c .before .before .before .before .before .before .before .loop-test .taken) (c .before .before .before .before .before .before .card-at .ensures)) (omega (arith, c .before .before .before .before .width-of .ensures, c .before .if1 .left, c .if2 .taken))
+returns-2 c = no-room (c .before .before .before .before .before .before .before .before .loop .inv)
+    (left (c .before .before .before .before .before .before .before .before .before .before .before .args .texts .now)
+    (c .before .before .before .before .before .before .before .before .before .before .before .args .cards .now) _
+    (c .before .before .before .before .before .before .before .before .loop .k) (c .before .before .before .before .before .before .card-at .result)
+    (c .before .before .before .before .before .before .before .loop-test .taken) (c .before .before .before .before .before .before .card-at .ensures))
+    (omega (arith, c .before .before .before .before .width-of .ensures, c .before .if1 .left, c .if2 .taken))
 
 sub-if3 : tie.Need-sub-if3 Inv-loop μ-loop
 sub-if3 c = search needs
 
 returns-3 : tie.Need-returns-3 Inv-loop μ-loop
-returns-3 c = no-room (c .before .before .before .before .before .before .before .before .before .loop .inv) (left (c .before .before .before .before .before .before .before .before .before .before .before .before .args .texts .now) (c .before .before .before .before .before .before .before .before .before .before .before .before .args .cards .now) _ (c .before .before .before .before .before .before .before .before .before .loop .k) (c .before .before .before .before .before .before .before .card-at .result) (c .before .before .before .before .before .before .before .before .loop-test .taken) (c .before .before .before .before .before .before .before .card-at .ensures)) (omega (arith, c .before .before .before .before .before .width-of .ensures, c .before .before .if1 .left, c .before .if2 .left, c .if3 .taken))
+returns-3 c = no-room (c .before .before .before .before .before .before .before .before .before .loop .inv)
+    (left (c .before .before .before .before .before .before .before .before .before .before .before .before .args .texts .now)
+    (c .before .before .before .before .before .before .before .before .before .before .before .before .args .cards .now) _
+    (c .before .before .before .before .before .before .before .before .before .loop .k)
+    (c .before .before .before .before .before .before .before .card-at .result)
+    (c .before .before .before .before .before .before .before .before .loop-test .taken)
+    (c .before .before .before .before .before .before .before .card-at .ensures))
+    (omega (arith, c .before .before .before .before .before .width-of .ensures, c .before .before .if1 .left, c .before .if2 .left, c .if3 .taken))
 
 sub-left : tie.Need-sub-left Inv-loop μ-loop
 sub-left c = search needs
@@ -59,7 +76,14 @@ loop-less : tie.Need-loop-less Inv-loop μ-loop
 loop-less c = search needs
 
 loop-again : tie.Need-loop-again Inv-loop μ-loop
-loop-again c = room-next (c .before .before .before .before .before .before .before .before .before .loop .inv) (left (c .before .before .before .before .before .before .before .before .before .before .before .before .args .texts .now) (c .before .before .before .before .before .before .before .before .before .before .before .before .args .cards .now) _ (c .before .before .before .before .before .before .before .before .before .loop .k) (c .before .before .before .before .before .before .before .card-at .result) (c .before .before .before .before .before .before .before .before .loop-test .taken) (c .before .before .before .before .before .before .before .card-at .ensures)) (omega (arith, c .before .before .before .before .before .width-of .ensures, c .before .before .if1 .left, c .before .if2 .left, c .if3 .left))
+loop-again c = room-next (c .before .before .before .before .before .before .before .before .before .loop .inv)
+    (left (c .before .before .before .before .before .before .before .before .before .before .before .before .args .texts .now)
+    (c .before .before .before .before .before .before .before .before .before .before .before .before .args .cards .now) _
+    (c .before .before .before .before .before .before .before .before .before .loop .k)
+    (c .before .before .before .before .before .before .before .card-at .result)
+    (c .before .before .before .before .before .before .before .before .loop-test .taken)
+    (c .before .before .before .before .before .before .before .card-at .ensures))
+    (omega (arith, c .before .before .before .before .before .width-of .ensures, c .before .before .if1 .left, c .before .if2 .left, c .if3 .left))
 
 returns-4 : tie.Need-returns-4 Inv-loop μ-loop
 returns-4 c = room-end (c .before .loop .inv) (c .loop-test .left)

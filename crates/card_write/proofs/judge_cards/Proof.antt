@@ -47,13 +47,26 @@ cast-t24 : tie.Need-cast-t24 Inv-loop μ-loop
 cast-t24 c = omega (arith, judging-low (c .before .before .before .before .before .before .before .before .loop .inv))
 
 returns : tie.Need-returns Inv-loop μ-loop
-returns c = refused-at (omega arith) (c .before .before .before .before .before .before .before .before .loop .inv) (left (c .before .before .before .before .before .before .before .before .before .before .before .args .texts .now) (c .before .before .before .before .before .before .before .before .before .before .before .args .cards .now) _ (c .before .before .before .before .before .before .before .before .loop .k) (c .before .before .before .before .before .before .card-at .result) (c .before .before .before .before .before .before .before .loop-test .taken) (c .before .before .before .before .before .before .card-at .ensures)) (sym (c .before .answer .given .1) ∙ c .before .before .before .card-verdict .ensures)
+returns c = refused-at (omega arith) (c .before .before .before .before .before .before .before .before .loop .inv)
+    (left (c .before .before .before .before .before .before .before .before .before .before .before .args .texts .now)
+    (c .before .before .before .before .before .before .before .before .before .before .before .args .cards .now) _
+    (c .before .before .before .before .before .before .before .before .loop .k) (c .before .before .before .before .before .before .card-at .result)
+    (c .before .before .before .before .before .before .before .loop-test .taken) (c .before .before .before .before .before .before .card-at .ensures))
+    (sym (c .before .answer .given .1) ∙ c .before .before .before .card-verdict .ensures)
 
 enum-told : tie.Need-enum-told Inv-loop μ-loop
 enum-told c = search needs
 
 add-at : tie.Need-add-at Inv-loop μ-loop
-add-at c = omega (arith, judging-low (judging-next (c .before .before .before .before .before .before .before .loop .inv) (left (c .before .before .before .before .before .before .before .before .before .before .args .texts .now) (c .before .before .before .before .before .before .before .before .before .before .args .cards .now) _ (c .before .before .before .before .before .before .before .loop .k) (c .before .before .before .before .before .card-at .result) (c .before .before .before .before .before .before .loop-test .taken) (c .before .before .before .before .before .card-at .ensures)) (sym (c .enum-told .given .1) ∙ c .before .before .card-verdict .ensures) refl))
+add-at c = omega (
+  arith,
+  judging-low (judging-next (c .before .before .before .before .before .before .before .loop .inv)
+      (left (c .before .before .before .before .before .before .before .before .before .before .args .texts .now)
+      (c .before .before .before .before .before .before .before .before .before .before .args .cards .now) _
+      (c .before .before .before .before .before .before .before .loop .k) (c .before .before .before .before .before .card-at .result)
+      (c .before .before .before .before .before .before .loop-test .taken) (c .before .before .before .before .before .card-at .ensures))
+      (sym (c .enum-told .given .1) ∙ c .before .before .card-verdict .ensures) refl),
+)
 
 cast-width-of : tie.Need-cast-width-of Inv-loop μ-loop
 cast-width-of c = search needs
@@ -62,19 +75,60 @@ width-of-requires : tie.Need-width-of-requires Inv-loop μ-loop
 width-of-requires c κs = search needs
 
 add-at-2 : tie.Need-add-at-2 Inv-loop μ-loop
-add-at-2 c = omega (arith, judging-low (judging-next (c .before .before .before .before .before .before .before .before .before .loop .inv) (left (c .before .before .before .before .before .before .before .before .before .before .before .before .args .texts .now) (c .before .before .before .before .before .before .before .before .before .before .before .before .args .cards .now) _ (c .before .before .before .before .before .before .before .before .before .loop .k) (c .before .before .before .before .before .before .before .card-at .result) (c .before .before .before .before .before .before .before .before .loop-test .taken) (c .before .before .before .before .before .before .before .card-at .ensures)) (sym (c .before .before .enum-told .given .1) ∙ c .before .before .before .before .card-verdict .ensures) refl), c .width-of .ensures)
+add-at-2 c = omega (
+  arith,
+  judging-low (judging-next (c .before .before .before .before .before .before .before .before .before .loop .inv)
+      (left (c .before .before .before .before .before .before .before .before .before .before .before .before .args .texts .now)
+      (c .before .before .before .before .before .before .before .before .before .before .before .before .args .cards .now) _
+      (c .before .before .before .before .before .before .before .before .before .loop .k)
+      (c .before .before .before .before .before .before .before .card-at .result)
+      (c .before .before .before .before .before .before .before .before .loop-test .taken)
+      (c .before .before .before .before .before .before .before .card-at .ensures))
+      (sym (c .before .before .enum-told .given .1) ∙ c .before .before .before .before .card-verdict .ensures) refl),
+  c .width-of .ensures,
+)
 
 sub-at : tie.Need-sub-at Inv-loop μ-loop
-sub-at c = omega (arith, c .before .before .before .before .before .before .before .card-at .ensures .target-order, c .before .before .before .before .before .before .before .card-at .ensures .target-inside)
+sub-at c = omega (
+  arith,
+  c .before .before .before .before .before .before .before .card-at .ensures .target-order,
+  c .before .before .before .before .before .before .before .card-at .ensures .target-inside,
+)
 
 add-at-3 : tie.Need-add-at-3 Inv-loop μ-loop
-add-at-3 c = omega (arith, judging-low (judging-next (c .before .before .before .before .before .before .before .before .before .loop .inv) (left (c .before .before .before .before .before .before .before .before .before .before .before .before .args .texts .now) (c .before .before .before .before .before .before .before .before .before .before .before .before .args .cards .now) _ (c .before .before .before .before .before .before .before .before .before .loop .k) (c .before .before .before .before .before .before .before .card-at .result) (c .before .before .before .before .before .before .before .before .loop-test .taken) (c .before .before .before .before .before .before .before .card-at .ensures)) (sym (c .before .before .enum-told .given .1) ∙ c .before .before .before .before .card-verdict .ensures) refl), c .width-of .ensures)
+add-at-3 c = omega (
+  arith,
+  judging-low (judging-next (c .before .before .before .before .before .before .before .before .before .loop .inv)
+      (left (c .before .before .before .before .before .before .before .before .before .before .before .before .args .texts .now)
+      (c .before .before .before .before .before .before .before .before .before .before .before .before .args .cards .now) _
+      (c .before .before .before .before .before .before .before .before .before .loop .k)
+      (c .before .before .before .before .before .before .before .card-at .result)
+      (c .before .before .before .before .before .before .before .before .loop-test .taken)
+      (c .before .before .before .before .before .before .before .card-at .ensures))
+      (sym (c .before .before .enum-told .given .1) ∙ c .before .before .before .before .card-verdict .ensures) refl),
+  c .width-of .ensures,
+)
 
 sub-at-2 : tie.Need-sub-at-2 Inv-loop μ-loop
-sub-at-2 c = omega (arith, c .before .before .before .before .before .before .before .card-at .ensures .expr-order, c .before .before .before .before .before .before .before .card-at .ensures .expr-inside)
+sub-at-2 c = omega (
+  arith,
+  c .before .before .before .before .before .before .before .card-at .ensures .expr-order,
+  c .before .before .before .before .before .before .before .card-at .ensures .expr-inside,
+)
 
 add-at-4 : tie.Need-add-at-4 Inv-loop μ-loop
-add-at-4 c = omega (arith, judging-low (judging-next (c .before .before .before .before .before .before .before .before .before .loop .inv) (left (c .before .before .before .before .before .before .before .before .before .before .before .before .args .texts .now) (c .before .before .before .before .before .before .before .before .before .before .before .before .args .cards .now) _ (c .before .before .before .before .before .before .before .before .before .loop .k) (c .before .before .before .before .before .before .before .card-at .result) (c .before .before .before .before .before .before .before .before .loop-test .taken) (c .before .before .before .before .before .before .before .card-at .ensures)) (sym (c .before .before .enum-told .given .1) ∙ c .before .before .before .before .card-verdict .ensures) refl), c .width-of .ensures)
+add-at-4 c = omega (
+  arith,
+  judging-low (judging-next (c .before .before .before .before .before .before .before .before .before .loop .inv)
+      (left (c .before .before .before .before .before .before .before .before .before .before .before .before .args .texts .now)
+      (c .before .before .before .before .before .before .before .before .before .before .before .before .args .cards .now) _
+      (c .before .before .before .before .before .before .before .before .before .loop .k)
+      (c .before .before .before .before .before .before .before .card-at .result)
+      (c .before .before .before .before .before .before .before .before .loop-test .taken)
+      (c .before .before .before .before .before .before .before .card-at .ensures))
+      (sym (c .before .before .enum-told .given .1) ∙ c .before .before .before .before .card-verdict .ensures) refl),
+  c .width-of .ensures,
+)
 
 add-k : tie.Need-add-k Inv-loop μ-loop
 add-k c = search needs
@@ -83,7 +137,14 @@ loop-less : tie.Need-loop-less Inv-loop μ-loop
 loop-less c = search needs
 
 loop-again : tie.Need-loop-again Inv-loop μ-loop
-loop-again c = judging-next (c .before .before .before .before .before .before .before .before .before .loop .inv) (left (c .before .before .before .before .before .before .before .before .before .before .before .before .args .texts .now) (c .before .before .before .before .before .before .before .before .before .before .before .before .args .cards .now) _ (c .before .before .before .before .before .before .before .before .before .loop .k) (c .before .before .before .before .before .before .before .card-at .result) (c .before .before .before .before .before .before .before .before .loop-test .taken) (c .before .before .before .before .before .before .before .card-at .ensures)) (sym (c .before .before .enum-told .given .1) ∙ c .before .before .before .before .card-verdict .ensures) (omega (arith, c .width-of .ensures))
+loop-again c = judging-next (c .before .before .before .before .before .before .before .before .before .loop .inv)
+    (left (c .before .before .before .before .before .before .before .before .before .before .before .before .args .texts .now)
+    (c .before .before .before .before .before .before .before .before .before .before .before .before .args .cards .now) _
+    (c .before .before .before .before .before .before .before .before .before .loop .k)
+    (c .before .before .before .before .before .before .before .card-at .result)
+    (c .before .before .before .before .before .before .before .before .loop-test .taken)
+    (c .before .before .before .before .before .before .before .card-at .ensures))
+    (sym (c .before .before .enum-told .given .1) ∙ c .before .before .before .before .card-verdict .ensures) (omega (arith, c .width-of .ensures))
 
 cast-t30 : tie.Need-cast-t30 Inv-loop μ-loop
 cast-t30 c = omega (arith, judging-low (c .before .loop .inv))

@@ -38,7 +38,15 @@ part-put-card-end-2 : tie.Need-part-put-card-end-2 Inv-loop μ-loop
 part-put-card-end-2 c = omega (arith, c .before .before .card-at .ensures .expr-order, c .before .before .card-at .ensures .expr-inside)
 
 put-card-requires : tie.Need-put-card-requires Inv-loop μ-loop
-put-card-requires c κs = omega (arith, room (c .before .before .before .before .before .loop .inv) (left (c .before .before .before .before .before .before .before .before .before .args .texts .now) (c .before .before .before .before .before .before .before .before .before .args .cards .now) _ (c .before .before .before .before .before .loop .k) (c .before .before .before .card-at .result) (c .before .before .before .before .loop-test .taken) (c .before .before .before .card-at .ensures)) (c .before .before .before .before .before .before .before .before .before .pre .1), long (c .before .before .before .before .before .loop .inv))
+put-card-requires c κs = omega (
+  arith,
+  room (c .before .before .before .before .before .loop .inv)
+      (left (c .before .before .before .before .before .before .before .before .before .args .texts .now)
+      (c .before .before .before .before .before .before .before .before .before .args .cards .now) _ (c .before .before .before .before .before .loop .k)
+      (c .before .before .before .card-at .result) (c .before .before .before .before .loop-test .taken) (c .before .before .before .card-at .ensures))
+      (c .before .before .before .before .before .before .before .before .before .pre .1),
+  long (c .before .before .before .before .before .loop .inv),
+)
 
 add-k : tie.Need-add-k Inv-loop μ-loop
 add-k c = search needs
@@ -47,7 +55,12 @@ loop-less : tie.Need-loop-less Inv-loop μ-loop
 loop-less c = search needs
 
 loop-again : tie.Need-loop-again Inv-loop μ-loop
-loop-again c = next (c .before .before .before .before .before .before .before .before .loop .inv) (left (c .before .before .before .before .before .before .before .before .before .before .before .before .args .texts .now) (c .before .before .before .before .before .before .before .before .before .before .before .before .args .cards .now) _ (c .before .before .before .before .before .before .before .before .loop .k) (c .before .before .before .before .before .before .card-at .result) (c .before .before .before .before .before .before .before .loop-test .taken) (c .before .before .before .before .before .before .card-at .ensures)) (c .before .before .put-card .ensures)
+loop-again c = next (c .before .before .before .before .before .before .before .before .loop .inv)
+    (left (c .before .before .before .before .before .before .before .before .before .before .before .before .args .texts .now)
+    (c .before .before .before .before .before .before .before .before .before .before .before .before .args .cards .now) _
+    (c .before .before .before .before .before .before .before .before .loop .k) (c .before .before .before .before .before .before .card-at .result)
+    (c .before .before .before .before .before .before .before .loop-test .taken) (c .before .before .before .before .before .before .card-at .ensures))
+    (c .before .before .put-card .ensures)
 
 same-length : tie.Need-same-length Inv-loop μ-loop
 same-length c = long (c .before .loop .inv)

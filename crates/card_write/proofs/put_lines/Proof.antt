@@ -33,7 +33,14 @@ same-length : tie.Need-same-length
 same-length c = search needs
 
 returns : tie.Need-returns
-returns c = as-text (lines-of (c .before .before .before .before .before .before .before .before .before .before .before .before .before .before .before .before .before .before .before .before .before .before .before .before .before .before .args .target .now) (c .before .before .before .before .before .before .before .before .before .before .before .before .before .before .before .before .before .before .before .before .before .before .before .before .before .before .args .expr .now)) (then (then (then (then (c .before .before .before .before .before .before .before .before .before .before .before .before .before .before .before .before .before .before .before .before .put-all .ensures) (c .before .before .before .before .before .before .before .before .before .before .before .before .before .before .before .before .put-all2 .ensures)) (c .before .before .before .before .before .before .before .before .before .before .before .put-all3 .ensures)) (c .before .before .before .before .before .before .before .put-all4 .ensures)) (c .before .before .put-all5 .ensures))
+returns c = as-text (lines-of (c .before .before .before .before .before .before .before .before .before .before .before .before .before .before .before
+    .before .before .before .before .before .before .before .before .before .before .before .args .target .now)
+    (c .before .before .before .before .before .before .before .before .before .before .before .before .before .before .before .before .before .before
+    .before .before .before .before .before .before .before .before .args .expr .now))
+    (then (then (then (then (c .before .before .before .before .before .before .before .before .before .before .before .before .before .before .before
+    .before .before .before .before .before .put-all .ensures) (c .before .before .before .before .before .before .before .before .before .before .before
+    .before .before .before .before .before .put-all2 .ensures)) (c .before .before .before .before .before .before .before .before .before .before .before
+    .put-all3 .ensures)) (c .before .before .before .before .before .before .before .put-all4 .ensures)) (c .before .before .put-all5 .ensures))
 
 pub put-lines-spec : {M : Type 1} → statement M
 put-lines-spec =

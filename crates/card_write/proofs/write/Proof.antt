@@ -10,19 +10,33 @@ fits-requires : tie.Need-fits-requires
 fits-requires c κs = search needs
 
 returns : tie.Need-returns
-returns c = too-long (c .before .before .before .before .before .args .out .now) (c .before .before .before .before .before .args .texts .now) (c .before .before .before .before .before .args .cards .now) (sym (not-true _ (c .if1 .taken)) ∙ c .before .fits2 .ensures)
+returns c = too-long (c .before .before .before .before .before .args .out .now) (c .before .before .before .before .before .args .texts .now)
+    (c .before .before .before .before .before .args .cards .now) (sym (not-true _ (c .if1 .taken)) ∙ c .before .fits2 .ensures)
 
 judge-cards-requires : tie.Need-judge-cards-requires
 judge-cards-requires c κs = search needs
 
 put-cards-requires : tie.Need-put-cards-requires
-put-cards-requires c κs = (few (c .before .before .before .before .before .before .before .args .out .now) (c .before .before .before .before .before .before .before .args .texts .now) (c .before .before .before .before .before .before .before .args .cards .now) (sym (not-false _ (c .before .before .if1 .left)) ∙ c .before .before .before .fits2 .ensures) (c .before .judge-cards .ensures), small (c .before .before .before .before .before .before .before .args .out .now) (c .before .before .before .before .before .before .before .args .texts .now) (c .before .before .before .before .before .before .before .args .cards .now) (sym (not-false _ (c .before .before .if1 .left)) ∙ c .before .before .before .fits2 .ensures) (c .before .judge-cards .ensures))
+put-cards-requires c κs = (
+  few (c .before .before .before .before .before .before .before .args .out .now)
+      (c .before .before .before .before .before .before .before .args .texts .now)
+      (c .before .before .before .before .before .before .before .args .cards .now)
+      (sym (not-false _ (c .before .before .if1 .left)) ∙ c .before .before .before .fits2 .ensures) (c .before .judge-cards .ensures),
+  small (c .before .before .before .before .before .before .before .args .out .now)
+      (c .before .before .before .before .before .before .before .args .texts .now)
+      (c .before .before .before .before .before .before .before .args .cards .now)
+      (sym (not-false _ (c .before .before .if1 .left)) ∙ c .before .before .before .fits2 .ensures) (c .before .judge-cards .ensures),
+)
 
 same-length : tie.Need-same-length
 same-length c = search needs
 
 returns-2 : tie.Need-returns-2
-returns-2 c = judged-so (c .before .before .before .before .before .before .before .before .before .before .args .out .now) (c .before .before .before .before .before .before .before .before .before .before .args .texts .now) (c .before .before .before .before .before .before .before .before .before .before .args .cards .now) (sym (not-false _ (c .before .before .before .before .before .if1 .left)) ∙ c .before .before .before .before .before .before .fits2 .ensures) (c .before .before .before .before .judge-cards .ensures) (c .before .before .put-cards .ensures)
+returns-2 c = judged-so (c .before .before .before .before .before .before .before .before .before .before .args .out .now)
+    (c .before .before .before .before .before .before .before .before .before .before .args .texts .now)
+    (c .before .before .before .before .before .before .before .before .before .before .args .cards .now)
+    (sym (not-false _ (c .before .before .before .before .before .if1 .left)) ∙ c .before .before .before .before .before .before .fits2 .ensures)
+    (c .before .before .before .before .judge-cards .ensures) (c .before .before .put-cards .ensures)
 
 pub write-spec : {M : Type 1} → statement M
 write-spec =

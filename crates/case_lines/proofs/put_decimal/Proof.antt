@@ -23,7 +23,8 @@ array-share-prefix-text c = omega (arith, c .before .before .put-decimal .ensure
 
 slice-aggregate-put-all : tie.Need-slice-aggregate-put-all
 slice-aggregate-put-all c =
-    let few : c .before .before .before .put-decimal .result ≤ 20 = omega (arith, c .before .before .before .put-decimal .ensures .1, twenty (c .before .before .before .before .before .args .n) (search needs)) in
+    let few : c .before .before .before .put-decimal .result ≤ 20 = omega
+    (arith, c .before .before .before .put-decimal .ensures .1, twenty (c .before .before .before .before .before .args .n) (search needs)) in
     sym (length-take-le _ _ (search needs))
 
 put-all-requires : tie.Need-put-all-requires

@@ -28,7 +28,8 @@ join-requires c κs = search needs
 returns-2 : tie.Need-returns-2
 returns-2 c =
     let a = c .before .before .before .before .before .args in
-    c .join .ensures ∙ rw (c .before .before .four .ensures, c .before .four2 .ensures) (fetch-halves (now (a .code)) (a .place) (c .before .before .before .if1 .left))
+    c .join .ensures ∙ rw (c .before .before .four .ensures, c .before .four2 .ensures)
+    (fetch-halves (now (a .code)) (a .place) (c .before .before .before .if1 .left))
 
 pub fetch-spec : {M : Type 1} → statement M
 fetch-spec =

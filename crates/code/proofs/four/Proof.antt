@@ -53,7 +53,12 @@ returns : tie.Need-returns
 returns c =
     let a = c .before .before .before .before .before .before .before .before .before .args in
     let bytes : Bytes (now (a .code)) = λ j. omega (arith, c .before .before .before .before .before .before .before .before .shared-slice-known .given j) in
-    rw (c .before .before .before .before .before .before .wide .ensures .0, c .before .before .before .before .wide2 .ensures .0, c .before .before .wide3 .ensures .0, c .wide4 .ensures .0)
+    rw (
+      c .before .before .before .before .before .before .wide .ensures .0,
+      c .before .before .before .before .wide2 .ensures .0,
+      c .before .before .wide3 .ensures .0,
+      c .wide4 .ensures .0,
+    )
     (four-joined (now (a .code)) (a .at) bytes (c .before .before .before .before .before .before .before .before .before .pre))
 
 pub four-spec : {M : Type 1} → statement M

@@ -20,9 +20,11 @@ use Rattle.totals.specs.Numbers.{totalOf, matchOf}
 use Rattle.code.specs.declared.Instr.{Instr}
 use Rattle.code.specs.declared.Instr.the-variants as Instr
 use Rattle.code.specs.declared.Class.{Class}
-use Rattle.code.specs.declared.Class.the-variants.{PushInt, PushReal, Jump, JumpIfFalse, JumpIfTrue, Tick, Since, Load, LoadIndexed, Unary, Binary, Total, Match, Unknown}
+use Rattle.code.specs.declared.Class.the-variants.{PushInt, PushReal, Jump, JumpIfFalse, JumpIfTrue, Tick, Since, Load, LoadIndexed, Unary}
+use Rattle.code.specs.declared.Class.the-variants.{Binary, Total, Match, Unknown}
 use Rattle.code.specs.Instructions.{PUSH-INT, PUSH-REAL, JUMP, JUMP-IF-FALSE, JUMP-IF-TRUE, TICK, SINCE, LOAD, LOAD-INDEXED, UNARY, BINARY, TOTAL, MATCH}
-use Rattle.code.specs.Instructions.{pushInt, pushReal, loadElement, loadIndexed, applyUnary, applyBinary, applyTotal, applyMatch, pushTick, applySince, opcodeOf, wordOf}
+use Rattle.code.specs.Instructions.{pushInt, pushReal, loadElement, loadIndexed, applyUnary, applyBinary, applyTotal, applyMatch, pushTick}
+use Rattle.code.specs.Instructions.{applySince, opcodeOf, wordOf}
 
 -- from the first opcode of a class to that of the next
 abbrev pub classSize : ℕ

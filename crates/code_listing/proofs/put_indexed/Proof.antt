@@ -49,7 +49,12 @@ same-length-2 : tie.Need-same-length-2
 same-length-2 c = search needs
 
 returns-2 : tie.Need-returns-2
-returns-2 c = (as-text (letter-none (c .before .before .before .before .before .before .before .before .before .before .args .w) (c .before .before .before .number-of .ensures) (c .before .before .bank-numbered .ensures) (c .enum-told .given .1)) (behind-none (c .before .before .before .before .before .before .put-all .ensures)), omega (arith, c .before .before .before .before .before .before .put-all .ensures .end))
+returns-2 c = (
+  as-text (letter-none (c .before .before .before .before .before .before .before .before .before .before .args .w)
+      (c .before .before .before .number-of .ensures) (c .before .before .bank-numbered .ensures) (c .enum-told .given .1))
+      (behind-none (c .before .before .before .before .before .before .put-all .ensures)),
+  omega (arith, c .before .before .before .before .before .before .put-all .ensures .end),
+)
 
 pub put-indexed-spec : {M : Type 1} → statement M
 put-indexed-spec =

@@ -22,12 +22,28 @@ add-put-decimal-2 : tie.Need-add-put-decimal-2
 add-put-decimal-2 c = search needs
 
 returns : tie.Need-returns
-returns c =
-    (as-text (ap (λ (k : ℕ). c .before .before .before .before .before .before .before .before .before .before .args .name .now ++ decimalText (k + c .before .before .before .before .before .before .before .before .before .before .args .word)) (add-comm 1 (c .before .before .before .before .before .before .before .before .before .before .args .place) ∙ add-one (c .before .before .before .before .before .before .before .before .before .before .args .place))) (then (c .before .before .before .before .before .before .put-all .ensures) (c .before .before .put-decimal .ensures .0)), omega (arith, at-most 9 (1 + c .before .before .before .before .before .before .before .before .before .before .args .place + c .before .before .before .before .before .before .before .before .before .before .args .word) (omega (arith, c .before .before .before .before .before .before .before .before .before .before .pre .0 .1))))
+returns c = (
+  as-text (ap (λ (k : ℕ). c .before .before .before .before .before .before .before .before .before .before .args .name .now
+      ++ decimalText (k + c .before .before .before .before .before .before .before .before .before .before .args .word))
+      (add-comm 1 (c .before .before .before .before .before .before .before .before .before .before .args .place)
+      ∙ add-one (c .before .before .before .before .before .before .before .before .before .before .args .place)))
+      (then (c .before .before .before .before .before .before .put-all .ensures) (c .before .before .put-decimal .ensures .0)),
+  omega (
+    arith,
+    at-most 9 (1 + c .before .before .before .before .before .before .before .before .before .before .args .place +
+        c .before .before .before .before .before .before .before .before .before .before .args .word)
+        (omega (arith, c .before .before .before .before .before .before .before .before .before .before .pre .0 .1)),
+  ),
+)
 
 put-decimal-requires : tie.Need-put-decimal-requires
 put-decimal-requires c κs =
-    omega (arith, at-most 9 (1 + c .before .before .before .before .before .before .before .args .place + c .before .before .before .before .before .before .before .args .word) (omega (arith, c .before .before .before .before .before .before .before .pre .0 .1)))
+    omega (
+      arith,
+      at-most 9 (1 + c .before .before .before .before .before .before .before .args .place +
+          c .before .before .before .before .before .before .before .args .word)
+          (omega (arith, c .before .before .before .before .before .before .before .pre .0 .1)),
+    )
 
 same-length : tie.Need-same-length
 same-length c = search needs

@@ -19,8 +19,19 @@ fetch-requires : tie.Need-fetch-requires Inv-loop μ-loop
 fetch-requires c κs = search needs
 
 put-line-requires : tie.Need-put-line-requires Inv-loop μ-loop
-put-line-requires c κs =
-    ((known-there (c .before .before .before .before .before .before .pre .0 .0) (c .before .before .loop-test .taken) (c .fetch .ensures), omega (arith, c .before .before .before .before .before .before .pre .0 .1)), omega (arith, c .before .before .before .loop .inv .short, long (c .before .before .before .loop .inv), c .before .before .before .before .before .before .pre .0 .1, c .before .before .before .before .before .before .pre .1))
+put-line-requires c κs = (
+  (
+    known-there (c .before .before .before .before .before .before .pre .0 .0) (c .before .before .loop-test .taken) (c .fetch .ensures),
+    omega (arith, c .before .before .before .before .before .before .pre .0 .1),
+  ),
+  omega (
+    arith,
+    c .before .before .before .loop .inv .short,
+    long (c .before .before .before .loop .inv),
+    c .before .before .before .before .before .before .pre .0 .1,
+    c .before .before .before .before .before .before .pre .1,
+  ),
+)
 
 add-place : tie.Need-add-place Inv-loop μ-loop
 add-place c = search needs
@@ -29,7 +40,8 @@ loop-less : tie.Need-loop-less Inv-loop μ-loop
 loop-less c = search needs
 
 loop-again : tie.Need-loop-again Inv-loop μ-loop
-loop-again c = next (c .before .before .before .before .before .before .loop .inv) (c .before .before .before .before .before .loop-test .taken) (c .before .before .before .fetch .ensures) (c .before .before .put-line .ensures .0) (c .before .before .put-line .ensures .1)
+loop-again c = next (c .before .before .before .before .before .before .loop .inv) (c .before .before .before .before .before .loop-test .taken)
+    (c .before .before .before .fetch .ensures) (c .before .before .put-line .ensures .0) (c .before .before .put-line .ensures .1)
 
 same-length : tie.Need-same-length Inv-loop μ-loop
 same-length c = long (c .before .loop .inv)

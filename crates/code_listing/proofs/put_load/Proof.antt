@@ -34,14 +34,30 @@ same-length : tie.Need-same-length
 same-length c = search needs
 
 returns : tie.Need-returns
-returns c =
-    (as-text (cell-known (c .before .before .before .before .before .before .before .before .before .before .before .before .before .before .before .before .args .w) (c .before .before .before .before .before .before .before .before .before .number-of .ensures) (c .before .before .before .before .before .before .before .before .bank-numbered .ensures) (c .before .before .before .before .before .before .bank .given .1) (c .before .before .before .word-of .ensures)) (then (c .before .before .before .before .before .before .before .before .before .before .before .before .put-all .ensures) (c .before .before .put-name .ensures .0)), omega (arith, c .before .before .put-name .ensures .1, c .before .before .before .before .before .before .before .before .before .before .before .before .put-all .ensures .end))
+returns c = (
+  as-text (cell-known (c .before .before .before .before .before .before .before .before .before .before .before .before .before .before .before .before
+      .args .w) (c .before .before .before .before .before .before .before .before .before .number-of .ensures)
+      (c .before .before .before .before .before .before .before .before .bank-numbered .ensures)
+      (c .before .before .before .before .before .before .bank .given .1) (c .before .before .before .word-of .ensures))
+      (then (c .before .before .before .before .before .before .before .before .before .before .before .before .put-all .ensures)
+      (c .before .before .put-name .ensures .0)),
+  omega (
+    arith,
+    c .before .before .put-name .ensures .1,
+    c .before .before .before .before .before .before .before .before .before .before .before .before .put-all .ensures .end,
+  ),
+)
 
 same-length-2 : tie.Need-same-length-2
 same-length-2 c = search needs
 
 returns-2 : tie.Need-returns-2
-returns-2 c = (as-text (cell-none (c .before .before .before .before .before .before .before .before .before .before .args .w) (c .before .before .before .number-of .ensures) (c .before .before .bank-numbered .ensures) (c .enum-told .given .1)) (behind-none (c .before .before .before .before .before .before .put-all .ensures)), omega (arith, c .before .before .before .before .before .before .put-all .ensures .end))
+returns-2 c = (
+  as-text (cell-none (c .before .before .before .before .before .before .before .before .before .before .args .w)
+      (c .before .before .before .number-of .ensures) (c .before .before .bank-numbered .ensures) (c .enum-told .given .1))
+      (behind-none (c .before .before .before .before .before .before .put-all .ensures)),
+  omega (arith, c .before .before .before .before .before .before .put-all .ensures .end),
+)
 
 pub put-load-spec : {M : Type 1} → statement M
 put-load-spec =

@@ -50,11 +50,36 @@ same-length : tie.Need-same-length
 same-length c = search needs
 
 returns : tie.Need-returns
-returns c =
-    (as-text (range-known (c .before .before .before .before .before .before .before .before .before .before .before .before .before .before .before .before .before .before .before .before .before .before .before .before .before .before .args .word) (c .before .before .before .before .before .before .before .before .before .before .before .before .before .before .before .before .before .before .before .before .before .before .before .before .range-bank .ensures) (c .before .before .before .before .before .before .before .before .before .before .before .before .before .before .before .before .before .before .before .before .before .before .before .bank-numbered .ensures) (c .before .before .before .before .before .before .before .before .before .before .before .before .before .before .before .before .before .before .before .before .before .bank .given .1) (c .before .before .before .before .before .before .before .before .before .before .before .before .before .range-first .ensures) (c .before .before .before .range-count .ensures)) (then (then (then (c .before .before .before .before .before .before .before .before .before .before .before .before .before .before .before .before .before .put-all .ensures) (c .before .before .before .before .before .before .before .before .before .before .before .before .put-name .ensures .0)) (c .before .before .before .before .before .before .before .put-all2 .ensures)) (c .before .before .put-decimal .ensures .0)), omega (arith, c .before .before .put-decimal .ensures .1, c .before .before .before .before .before .before .before .put-all2 .ensures .end, c .before .before .before .before .before .before .before .before .before .before .before .before .put-name .ensures .1, c .before .before .before .before .before .before .before .before .before .before .before .before .before .before .before .before .before .put-all .ensures .end, at-most 4 (c .before .before .before .range-count .result) (omega (arith, c .before .before .before .range-count .ensures))))
+returns c = (
+  as-text (range-known (c .before .before .before .before .before .before .before .before .before .before .before .before .before .before .before .before
+      .before .before .before .before .before .before .before .before .before .before .args .word)
+      (c .before .before .before .before .before .before .before .before .before .before .before .before .before .before .before .before .before .before
+      .before .before .before .before .before .before .range-bank .ensures)
+      (c .before .before .before .before .before .before .before .before .before .before .before .before .before .before .before .before .before .before
+      .before .before .before .before .before .bank-numbered .ensures)
+      (c .before .before .before .before .before .before .before .before .before .before .before .before .before .before .before .before .before .before
+      .before .before .before .bank .given .1) (c .before .before .before .before .before .before .before .before .before .before .before .before .before
+      .range-first .ensures) (c .before .before .before .range-count .ensures))
+      (then (then (then (c .before .before .before .before .before .before .before .before .before .before .before .before .before .before .before .before
+      .before .put-all .ensures) (c .before .before .before .before .before .before .before .before .before .before .before .before .put-name .ensures
+      .0)) (c .before .before .before .before .before .before .before .put-all2 .ensures)) (c .before .before .put-decimal .ensures .0)),
+  omega (
+    arith,
+    c .before .before .put-decimal .ensures .1,
+    c .before .before .before .before .before .before .before .put-all2 .ensures .end,
+    c .before .before .before .before .before .before .before .before .before .before .before .before .put-name .ensures .1,
+    c .before .before .before .before .before .before .before .before .before .before .before .before .before .before .before .before .before .put-all
+        .ensures .end,
+    at-most 4 (c .before .before .before .range-count .result) (omega (arith, c .before .before .before .range-count .ensures)),
+  ),
+)
 
 returns-2 : tie.Need-returns-2
-returns-2 c = (as-text (range-none (c .before .before .before .before .before .args .word) (c .before .before .before .range-bank .ensures) (c .before .before .bank-numbered .ensures) (c .enum-told .given .1)) (none-put _ _), omega arith)
+returns-2 c = (
+  as-text (range-none (c .before .before .before .before .before .args .word) (c .before .before .before .range-bank .ensures)
+      (c .before .before .bank-numbered .ensures) (c .enum-told .given .1)) (none-put _ _),
+  omega arith,
+)
 
 pub put-range-spec : {M : Type 1} → statement M
 put-range-spec =

@@ -11,7 +11,8 @@ same-length : tie.Need-same-length
 same-length c = search needs
 
 returns : tie.Need-returns
-returns c = told-full (c .before .before .before .before .before .before .args .text .now) (c .before .before .before .before .before .before .args .code .now) (c .before .before .compile-in .ensures)
+returns c = told-full (c .before .before .before .before .before .before .args .text .now)
+    (c .before .before .before .before .before .before .args .code .now) (c .before .before .compile-in .ensures)
 
 pub compile-spec : {M : Type 1} → statement M
 compile-spec = tie.close (tie.spec compile-in-requires same-length returns)

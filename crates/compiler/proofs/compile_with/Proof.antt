@@ -16,7 +16,8 @@ enum-known-n c = search needs
 copy-requires : tie.Need-copy-requires
 copy-requires c κs =
     let s = c .before .before .before .before .before .before .before .before .before .before .before .before .before .before .before .before in
-    let h = held (s .args .reals) (s .args .opened) (s .pre .0 .0) (subst (Judged _ _ _) (c .before .before .before .n .given .1) (c .before .before .before .before .before .before .before .before .before .read .ensures)) (s .pre .1 .1 .0) in
+    let h = held (s .args .reals) (s .args .opened) (s .pre .0 .0) (subst (Judged _ _ _) (c .before .before .before .n .given .1)
+    (c .before .before .before .before .before .before .before .before .before .read .ensures)) (s .pre .1 .1 .0) in
     (omega (arith, h .0, c .before .before .before .before .before .before .before .before .before .read .kept), omega (arith, h .1, s .pre .1 .1 .1))
 
 enum-known-a : tie.Need-enum-known-a
@@ -32,7 +33,15 @@ same-length-3 : tie.Need-same-length-3
 same-length-3 c = search needs
 
 returns : tie.Need-returns
-returns c = copied (c .before .before .before .before .before .before .before .before .before .before .before .before .before .before .before .before .before .before .before .args .reals) (c .before .before .before .before .before .before .before .before .before .before .before .before .before .before .before .before .before .before .before .args .opened) (c .before .before .before .before .before .before .before .before .before .before .before .before .before .before .before .before .before .before .before .pre .0 .0) (subst (Judged _ _ _) (c .before .before .before .before .before .before .n .given .1) (c .before .before .before .before .before .before .before .before .before .before .before .before .read .ensures)) (c .before .before .before .before .before .before .before .before .before .before .before .before .before .before .before .before .before .before .before .pre .1 .1 .0) (c .before .before .before .before .before .before .before .before .before .before .before .before .before .before .before .before .before .before .before .args .code .now) (c .before .before .copy .ensures)
+returns c = copied (c .before .before .before .before .before .before .before .before .before .before .before .before .before .before .before .before
+    .before .before .before .args .reals) (c .before .before .before .before .before .before .before .before .before .before .before .before .before .before
+    .before .before .before .before .before .args .opened) (c .before .before .before .before .before .before .before .before .before .before .before
+    .before .before .before .before .before .before .before .before .pre .0 .0)
+    (subst (Judged _ _ _) (c .before .before .before .before .before .before .n .given .1)
+    (c .before .before .before .before .before .before .before .before .before .before .before .before .read .ensures))
+    (c .before .before .before .before .before .before .before .before .before .before .before .before .before .before .before .before .before .before
+    .before .pre .1 .1 .0) (c .before .before .before .before .before .before .before .before .before .before .before .before .before .before .before
+    .before .before .before .before .args .code .now) (c .before .before .copy .ensures)
 
 same-length-4 : tie.Need-same-length-4
 same-length-4 c = search needs
@@ -41,7 +50,11 @@ same-length-5 : tie.Need-same-length-5
 same-length-5 c = search needs
 
 returns-2 : tie.Need-returns-2
-returns-2 c = not-written (c .before .before .before .before .before .before .before .before .before .before .before .before .before .before .args .reals) (c .before .before .before .before .before .before .before .before .before .before .before .before .before .before .args .opened) (c .before .before .before .before .before .before .before .before .before .before .before .before .before .before .pre .0 .0) (c .before .before .before .before .before .before .before .before .before .before .before .before .before .before .args .code .now) (subst (Judged _ _ _) (c .before .a .given .1) (c .before .before .before .before .before .before .before .read .ensures))
+returns-2 c = not-written (c .before .before .before .before .before .before .before .before .before .before .before .before .before .before .args .reals)
+    (c .before .before .before .before .before .before .before .before .before .before .before .before .before .before .args .opened)
+    (c .before .before .before .before .before .before .before .before .before .before .before .before .before .before .pre .0 .0)
+    (c .before .before .before .before .before .before .before .before .before .before .before .before .before .before .args .code .now)
+    (subst (Judged _ _ _) (c .before .a .given .1) (c .before .before .before .before .before .before .before .read .ensures))
 
 pub compile-with-spec : {M : Type 1} → statement M
 compile-with-spec =

@@ -28,7 +28,8 @@ bytes-count (w ∷ a) = length-append (bytesOf 8 w) (wordBytes a) ∙ rw (bytes-
 
 -- the bytes of a word by one division each
 bytes-by : (w : ℕ)
-    → w % 256 ∷ w / 256 % 256 ∷ w / 65536 % 256 ∷ w / 16777216 % 256 ∷ w / 4294967296 % 256 ∷ w / 1099511627776 % 256 ∷ w / 281474976710656 % 256 ∷ w / 72057594037927936 % 256 ∷ []
+    → w % 256 ∷ w / 256 % 256 ∷ w / 65536 % 256 ∷ w / 16777216 % 256 ∷ w / 4294967296 % 256 ∷ w / 1099511627776 % 256 ∷ w / 281474976710656 % 256
+    ∷ w / 72057594037927936 % 256 ∷ []
     ≡ bytesOf 8 w
 bytes-by w =
     let two : w / 65536 ≡ w / 256 / 256 = omega arith in
@@ -50,13 +51,21 @@ module _ (d s : List ℕ) (i : ℕ) (h : i < length d) where
   unfolding wordBytes
   one-more =
       let n : 0 + length (wordBytes (take i d)) ≡ 8 * i = zero-add _ ∙ bytes-count (take i d) ∙ ap (λ k. 8 * k) (length-take-le i d (omega arith)) in
-      rw (take-suc d i 0 h, bytes-append (take i d) (getD d i 0 ∷ []), append-nil (bytesOf 8 (getD d i 0)), sets-append s 0 (wordBytes (take i d)) (bytesOf 8 (getD d i 0)), n)
+      rw (
+        take-suc d i 0 h,
+        bytes-append (take i d) (getD d i 0 ∷ []),
+        append-nil (bytesOf 8 (getD d i 0)),
+        sets-append s 0 (wordBytes (take i d)) (bytesOf 8 (getD d i 0)),
+        n,
+      )
 
   -- the first i words are there as bytes, and now the next
   pub copied-more : {t : List ℕ} {b₀ b₁ b₂ b₃ b₄ b₅ b₆ b₇ : ℕ} → t ≡ sets s 0 (wordBytes (take i d))
       → b₀ ≡ getD d i 0 % 256 → b₁ ≡ getD d i 0 / 256 % 256 → b₂ ≡ getD d i 0 / 65536 % 256 → b₃ ≡ getD d i 0 / 16777216 % 256
-      → b₄ ≡ getD d i 0 / 4294967296 % 256 → b₅ ≡ getD d i 0 / 1099511627776 % 256 → b₆ ≡ getD d i 0 / 281474976710656 % 256 → b₇ ≡ getD d i 0 / 72057594037927936 % 256
-      → set (set (set (set (set (set (set (set t (8 * i) b₀) (8 * i + 1) b₁) (8 * i + 2) b₂) (8 * i + 3) b₃) (8 * i + 4) b₄) (8 * i + 5) b₅) (8 * i + 6) b₆) (8 * i + 7) b₇
+      → b₄ ≡ getD d i 0 / 4294967296 % 256 → b₅ ≡ getD d i 0 / 1099511627776 % 256 → b₆ ≡ getD d i 0 / 281474976710656 % 256
+      → b₇ ≡ getD d i 0 / 72057594037927936 % 256
+      → set (set (set (set (set (set (set (set t (8 * i) b₀) (8 * i + 1) b₁) (8 * i + 2) b₂) (8 * i + 3) b₃) (8 * i + 4) b₄) (8 * i + 5) b₅) (8 * i + 6) b₆)
+      (8 * i + 7) b₇
       ≡ sets s 0 (wordBytes (take (i + 1) d))
   copied-more {t} {b₀} {b₁} {b₂} {b₃} {b₄} {b₅} {b₆} {b₇} q e₀ e₁ e₂ e₃ e₄ e₅ e₆ e₇ =
       let bs : b₀ ∷ b₁ ∷ b₂ ∷ b₃ ∷ b₄ ∷ b₅ ∷ b₆ ∷ b₇ ∷ [] ≡ bytesOf 8 (getD d i 0) = cc (bytes-by (getD d i 0)) in

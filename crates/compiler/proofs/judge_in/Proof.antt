@@ -13,7 +13,10 @@ returns : tie.Need-returns
 returns c = let a = c .before .before .before .args in rw (not-sized (a .text .now) (c .before .is-sized .ensures) (c .if1 .taken) (a .reals) (a .opened)) refl
 
 judge-short-requires : tie.Need-judge-short-requires
-judge-short-requires c κs = (sized (c .before .before .before .before .args .text .now) (c .before .before .is-sized .ensures) (c .before .if1 .left), omega arith)
+judge-short-requires c κs = (
+  sized (c .before .before .before .before .args .text .now) (c .before .before .is-sized .ensures) (c .before .if1 .left),
+  omega arith,
+)
 
 returns-2 : tie.Need-returns-2
 returns-2 c = c .judge-short .ensures

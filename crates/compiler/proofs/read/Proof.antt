@@ -14,7 +14,8 @@ enum-told : tie.Need-enum-told
 enum-told c = search needs
 
 first-real-requires : tie.Need-first-real-requires
-first-real-requires c κs = c .before .before .before .before .before .fill .ensures .1 .1 (c .before .before .before .before .before .before .before .before .before .before .pre .1)
+first-real-requires c κs = c .before .before .before .before .before .fill .ensures .1 .1
+    (c .before .before .before .before .before .before .before .before .before .before .pre .1)
 
 place-of-requires : tie.Need-place-of-requires
 place-of-requires c κs = search needs
@@ -25,7 +26,8 @@ same-length c = search needs
 returns : tie.Need-returns
 returns c =
     let s = c .before .before .before .before .before .before .before .before .before .before .before .before .before in
-    real-token (s .args .reals) (s .args .opened) (s .pre .0 .0) (subst (Fills _ _) (c .before .before .before .before .enum-told .given .1) (c .before .before .before .before .before .before .before .before .fill .ensures .1 .0))
+    real-token (s .args .reals) (s .args .opened) (s .pre .0 .0) (subst (Fills _ _) (c .before .before .before .before .enum-told .given .1)
+    (c .before .before .before .before .before .before .before .before .fill .ensures .1 .0))
     (shown-real (c .before .if1 .taken) (c .place-of .ensures) (c .before .before .first-real .ensures))
 
 formula-requires : tie.Need-formula-requires
@@ -46,8 +48,11 @@ same-length-3 c = search needs
 returns-2 : tie.Need-returns-2
 returns-2 c =
     let s = c .before .before .before .before .before .before .before .before .before .before .before .before .before .before .before .before .before in
-    all-read (s .args .reals) (s .args .opened) (s .pre .0 .0) (subst (Fills _ _) (c .before .before .before .before .before .before .before .before .enum-told .given .1) (c .before .before .before .before .before .before .before .before .before .before .before .before .fill .ensures .1 .0))
-    (shown-none (c .before .before .before .before .before .if1 .left) (c .before .before .before .before .before .before .first-real .ensures)) (c .before .before .formula .ensures)
+    all-read (s .args .reals) (s .args .opened) (s .pre .0 .0) (subst (Fills _ _)
+    (c .before .before .before .before .before .before .before .before .enum-told .given .1)
+    (c .before .before .before .before .before .before .before .before .before .before .before .before .fill .ensures .1 .0))
+    (shown-none (c .before .before .before .before .before .if1 .left) (c .before .before .before .before .before .before .first-real .ensures))
+    (c .before .before .formula .ensures)
 
 same-length-4 : tie.Need-same-length-4
 same-length-4 c = search needs
@@ -55,7 +60,8 @@ same-length-4 c = search needs
 returns-3 : tie.Need-returns-3
 returns-3 c =
     let s = c .before .before .before .before .before .before .before .before .before .before in
-    wrong-token (s .args .reals) (s .args .opened) (s .pre .0 .0) (subst (Fills _ _) (c .before .a .given .1) (c .before .before .before .before .before .fill .ensures .1 .0))
+    wrong-token (s .args .reals) (s .args .opened) (s .pre .0 .0) (subst (Fills _ _) (c .before .a .given .1)
+    (c .before .before .before .before .before .fill .ensures .1 .0))
 
 pub read-spec : {M : Type 1} → statement M
 read-spec =

@@ -49,16 +49,19 @@ span-stopped at-deep (span-deep h) = span-deep h
 
 -- ---- what was read, and then more
 module _ {s : List ℕ} {pc pc′ : ℕ} {o o₁ o′ o₂ : List ℕ} where
-  pub bind-done : {j e : ℕ} {k : Kind} {w : Diagnostic} {r : Read} {q : Result Tree} (c : Tree → List Tok → Result Tree) → SameResult pc o o₁ s (Done j e k w) q → ((t : Tree) → DraftHolds pc o o₁ e k w t → SameResult pc′ o′ o₂ s r (c t (tokensFrom s j)))
+  pub bind-done : {j e : ℕ} {k : Kind} {w : Diagnostic} {r : Read} {q : Result Tree} (c : Tree → List Tok → Result Tree)
+      → SameResult pc o o₁ s (Done j e k w) q → ((t : Tree) → DraftHolds pc o o₁ e k w t → SameResult pc′ o′ o₂ s r (c t (tokensFrom s j)))
       → SameResult pc′ o′ o₂ s r (andThen q c)
   bind-done {r = r} c (same-done {t = t} m e) h = subst (λ (ts : List Tok). SameResult pc′ o′ o₂ s r (c t ts)) (sym e) (h t m)
 
-  pub bind-stopped : {r : Read} {q : Result Tree} (c : Tree → List Tok → Result Tree) → Stopped r → SameResult pc o o₁ s r q → SameResult pc′ o′ o₂ s r (andThen q c)
+  pub bind-stopped : {r : Read} {q : Result Tree} (c : Tree → List Tok → Result Tree) → Stopped r → SameResult pc o o₁ s r q
+      → SameResult pc′ o′ o₂ s r (andThen q c)
   bind-stopped c at-bad (same-bad e) = same-bad e
   bind-stopped c at-deep (same-deep e) = same-deep e
 
 -- ---- a symbol that was asked for
-pub expect-past : {X : Type 0} {s : List ℕ} {at n p : ℕ} (c : List Tok → Result X) → Splits s at (symbolAt n p) → expect n (tokensFrom s at) c ≡ c (tokensFrom s (at + 1))
+pub expect-past : {X : Type 0} {s : List ℕ} {at n p : ℕ} (c : List Tok → Result X) → Splits s at (symbolAt n p)
+    → expect n (tokensFrom s at) c ≡ c (tokensFrom s (at + 1))
 expect-past {n = n} c h = rw (h .split, expect, eq-eqb n n refl) refl
 
 pub expect-other : {X : Type 0} (n : ℕ) (ts : List Tok) (c : List Tok → Result X) → headIs n ts ≡ false → expect n ts c ≡ bad ts
@@ -76,13 +79,15 @@ and-then n (bad r) c = refl
 and-then n (deep r) c = refl
 and-then n starved c = refl
 
-pub then-then : {X Y Z : Type 0} (q : Result X) (c : X → List Tok → Result Y) (g : Y → List Tok → Result Z) → andThen (andThen q c) g ≡ andThen q (λ x r. andThen (c x r) g)
+pub then-then : {X Y Z : Type 0} (q : Result X) (c : X → List Tok → Result Y) (g : Y → List Tok → Result Z)
+    → andThen (andThen q c) g ≡ andThen q (λ x r. andThen (c x r) g)
 then-then (ok x r) c g = refl
 then-then (bad r) c g = refl
 then-then (deep r) c g = refl
 then-then starved c g = refl
 
-expect-then : {X Y : Type 0} (n : ℕ) (ts : List Tok) (k : List Tok → Result X) (c : X → List Tok → Result Y) → andThen (expect n ts k) c ≡ expect n ts (λ r. andThen (k r) c)
+expect-then : {X Y : Type 0} (n : ℕ) (ts : List Tok) (k : List Tok → Result X) (c : X → List Tok → Result Y)
+    → andThen (expect n ts k) c ≡ expect n ts (λ r. andThen (k r) c)
 expect-then n [] k c = refl
 expect-then {X} {Y} n (x ∷ xs) k c = go (isSymbol n (x .token))
   where
@@ -90,14 +95,17 @@ expect-then {X} {Y} n (x ∷ xs) k c = go (isSymbol n (x .token))
     go true = refl
     go false = refl
 
-pub enter-then : {X Y : Type 0} (d n : ℕ) (ts : List Tok) (k : ℕ → List Tok → Result X) (c : X → List Tok → Result Y) → andThen (enter d n ts k) c ≡ enter d n ts (λ e r. andThen (k e r) c)
+pub enter-then : {X Y : Type 0} (d n : ℕ) (ts : List Tok) (k : ℕ → List Tok → Result X) (c : X → List Tok → Result Y)
+    → andThen (enter d n ts k) c ≡ enter d n ts (λ e r. andThen (k e r) c)
 enter-then zero n ts k c = expect-then n ts (λ r. deep ts) c
 enter-then (suc d) n ts k c = expect-then n ts (λ r. k d r) c
 
-pub enter-inside : {X : Type 0} {s : List ℕ} {at n p : ℕ} (d : ℕ) (k : ℕ → List Tok → Result X) → Splits s at (symbolAt n p) → (d ≡ 0 → ⊥) → enter d n (tokensFrom s at) k ≡ k (d - 1) (tokensFrom s (at + 1))
+pub enter-inside : {X : Type 0} {s : List ℕ} {at n p : ℕ} (d : ℕ) (k : ℕ → List Tok → Result X) → Splits s at (symbolAt n p) → (d ≡ 0 → ⊥)
+    → enter d n (tokensFrom s at) k ≡ k (d - 1) (tokensFrom s (at + 1))
 enter-inside {s = s} {at = at} {n = n} d k h e = enter-some d n (tokensFrom s at) k e ∙ expect-past (λ r. k (d - 1) r) h
 
-pub enter-full : {X : Type 0} {s : List ℕ} {at n p : ℕ} (d : ℕ) (k : ℕ → List Tok → Result X) → Splits s at (symbolAt n p) → d ≡ 0 → enter d n (tokensFrom s at) k ≡ deep (tokensFrom s at)
+pub enter-full : {X : Type 0} {s : List ℕ} {at n p : ℕ} (d : ℕ) (k : ℕ → List Tok → Result X) → Splits s at (symbolAt n p) → d ≡ 0
+    → enter d n (tokensFrom s at) k ≡ deep (tokensFrom s at)
 enter-full {s = s} {at = at} zero k h e = expect-past (λ r. deep (tokensFrom s at)) h
 enter-full (suc d) k h e = absurd (omega arith)
 

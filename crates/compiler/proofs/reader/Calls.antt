@@ -26,7 +26,8 @@ use Rattle.tokens.specs.Scan.{Tok}
 use Rattle.tokens.specs.Words.{functionAt}
 use Rattle.token_table.specs.private.Table.{wordOperand, wordPlace, wordAt, tokensFrom, TokenWords}
 use Rattle.grammar.specs.Tree.{Tree, choice, tick, matching, Diagnostic, clear, earlier, unless, wrongKindAt}
-use Rattle.grammar.specs.Symbols.{loosest, openParen, closeParen, comma, Callee, of-one, of-two, of-choice, of-since, Form, plain, clock, ranged, matched, formOf, Arguments, one, more, argument, callTree}
+use Rattle.grammar.specs.Symbols.{loosest, openParen, closeParen, comma, Callee, of-one, of-two, of-choice, of-since, Form, plain, clock, ranged}
+use Rattle.grammar.specs.Symbols.{matched, formOf, Arguments, one, more, argument, callTree}
 use Rattle.grammar.specs.Functions.{formNumber, operatorNumber, functionForm}
 use Rattle.grammar.specs.Parse.{Result, ok, andThen, expect, expectRange, callBody, expression, arguments}
 use Rattle.code.specs.declared.Instr.the-variants.{Unary, Binary, JumpIf, Tick, Since}
@@ -35,46 +36,56 @@ use Rattle.draft.specs.private.Results.{Read, Done, Bad, readNext, readEnd, rea
 use Rattle.draft.specs.private.Words.{unaryAt, binaryAt, functionOp, functionPair, isMark}
 use Rattle.draft.specs.private.Draft.{putInstr, chosenCode}
 use Rattle.draft.specs.private.Ranges.{totalAt, matchAt, functionTotal, functionMatch}
-use Rattle.compiler.specs.private.Reading.{DraftHolds, SameResult, same-done, same-bad, Span, span-done, span-bad, ReaderAgrees, thenSymbol, argumentsOf, callOf, Arguing, Matching, Branches}
+use Rattle.compiler.specs.private.Reading.{DraftHolds, SameResult, same-done, same-bad, Span, span-done, span-bad, ReaderAgrees, thenSymbol}
+use Rattle.compiler.specs.private.Reading.{argumentsOf, callOf, Arguing, Matching, Branches}
 use Rattle.compiler.proofs.reader.Looking.{headIs, look, mark, There, there}
-use Rattle.compiler.proofs.reader.Binding.{Stopped, span-earlier, span-stopped, bind-done, bind-stopped, expect-past, expect-other, and-then, then-then, enter-inside}
+use Rattle.compiler.proofs.reader.Binding.{Stopped, span-earlier, span-stopped, bind-done, bind-stopped, expect-past, expect-other, and-then}
+use Rattle.compiler.proofs.reader.Binding.{then-then, enter-inside}
 use Rattle.compiler.proofs.reader.Meaning.{means-tick, means-since, means-unary, means-binary, means-choice}
 use Rattle.compiler.proofs.reader.Ranging.{Totalled}
 use Rattle.compiler.proofs.reader.Steps.{Enclosed, Bounds, bounds}
 
 -- ---- the parser's lists of arguments, put one behind another
-last-step : (f d : ℕ) (ts : List Tok) (K : Arguments → List Tok → Result Tree) → andThen (arguments (suc f) d 0 ts) K ≡ andThen (thenSymbol closeParen (expression f d loosest ts)) (λ t q. K (one t) q)
+last-step : (f d : ℕ) (ts : List Tok) (K : Arguments → List Tok → Result Tree)
+    → andThen (arguments (suc f) d 0 ts) K ≡ andThen (thenSymbol closeParen (expression f d loosest ts)) (λ t q. K (one t) q)
 unfolding arguments
 last-step f d ts K =
     ap (λ (z : Result Arguments). andThen z K) (sym (and-then closeParen (expression f d loosest ts) (λ t q. ok (one t) q)))
     ∙ then-then (thenSymbol closeParen (expression f d loosest ts)) (λ t q. ok (one t) q) K
 
 more-step : (f d m : ℕ) (ts : List Tok) (K : Arguments → List Tok → Result Tree)
-    → andThen (arguments (suc f) d (suc m) ts) K ≡ andThen (thenSymbol comma (expression f d loosest ts)) (λ t q. andThen (arguments f d m q) (λ us z. K (more t us) z))
+    → andThen (arguments (suc f) d (suc m) ts) K ≡ andThen (thenSymbol comma (expression f d loosest ts))
+    (λ t q. andThen (arguments f d m q) (λ us z. K (more t us) z))
 unfolding arguments
 more-step f d m ts K =
-    ap (λ (z : Result Arguments). andThen z K) (sym (and-then comma (expression f d loosest ts) (λ t q. andThen (arguments f d m q) (λ us z. ok (more t us) z))))
+    ap (λ (z : Result Arguments). andThen z K) (sym (and-then comma (expression f d loosest ts)
+    (λ t q. andThen (arguments f d m q) (λ us z. ok (more t us) z))))
     ∙ then-then (thenSymbol comma (expression f d loosest ts)) (λ t q. andThen (arguments f d m q) (λ us z. ok (more t us) z)) K
-    ∙ ap (λ (k : Tree → List Tok → Result Tree). andThen (thenSymbol comma (expression f d loosest ts)) k) (fun-ext (λ t. fun-ext (λ q. then-then (arguments f d m q) (λ us z. ok (more t us) z) K)))
+    ∙ ap (λ (k : Tree → List Tok → Result Tree). andThen (thenSymbol comma (expression f d loosest ts)) k)
+    (fun-ext (λ t. fun-ext (λ q. then-then (arguments f d m q) (λ us z. ok (more t us) z) K)))
 
 -- ---- the last argument, and one with others behind it, each if it was read and if not
 module _ (d : ℕ) {s : List ℕ} {at pc pc′ : ℕ} {o o₁ o₂ o₃ : List ℕ} (K : Arguments → List Tok → Result Tree) where
-  last-stops : {r : Read} → Enclosed closeParen d s at pc′ o₁ o₂ r → Stopped r → (f : ℕ) → (length s - at) * 8 + 4 ≤ f → SameResult pc o o₃ s r (andThen (arguments f d 0 (tokensFrom s at)) K)
+  last-stops : {r : Read} → Enclosed closeParen d s at pc′ o₁ o₂ r → Stopped r → (f : ℕ) → (length s - at) * 8 + 4 ≤ f
+      → SameResult pc o o₃ s r (andThen (arguments f d 0 (tokensFrom s at)) K)
   last-stops x h zero le = absurd (omega arith)
   last-stops x h (suc f) le = rw (last-step f d (tokensFrom s at) K) (bind-stopped (λ t q. K (one t) q) h (x .same f (omega arith)))
 
-  last-goes : {j e : ℕ} {k : Kind} {w : Diagnostic} {r : Read} → Enclosed closeParen d s at pc′ o₁ o₂ (Done j e k w) → ((t : Tree) → DraftHolds pc′ o₁ o₂ e k w t → SameResult pc o o₃ s r (K (one t) (tokensFrom s j)))
+  last-goes : {j e : ℕ} {k : Kind} {w : Diagnostic} {r : Read} → Enclosed closeParen d s at pc′ o₁ o₂ (Done j e k w)
+      → ((t : Tree) → DraftHolds pc′ o₁ o₂ e k w t → SameResult pc o o₃ s r (K (one t) (tokensFrom s j)))
       → (f : ℕ) → (length s - at) * 8 + 4 ≤ f → SameResult pc o o₃ s r (andThen (arguments f d 0 (tokensFrom s at)) K)
   last-goes x g zero le = absurd (omega arith)
   last-goes x g (suc f) le = rw (last-step f d (tokensFrom s at) K) (bind-done (λ t q. K (one t) q) (x .same f (omega arith)) g)
 
-  more-stops : (m : ℕ) {r : Read} → Enclosed comma d s at pc′ o₁ o₂ r → Stopped r → (f : ℕ) → (length s - at) * 8 + 4 ≤ f → SameResult pc o o₃ s r (andThen (arguments f d (suc m) (tokensFrom s at)) K)
+  more-stops : (m : ℕ) {r : Read} → Enclosed comma d s at pc′ o₁ o₂ r → Stopped r → (f : ℕ) → (length s - at) * 8 + 4 ≤ f
+      → SameResult pc o o₃ s r (andThen (arguments f d (suc m) (tokensFrom s at)) K)
   more-stops m x h zero le = absurd (omega arith)
   more-stops m x h (suc f) le =
       rw (more-step f d m (tokensFrom s at) K) (bind-stopped (λ t q. andThen (arguments f d m q) (λ us z. K (more t us) z)) h (x .same f (omega arith)))
 
   more-goes : (m : ℕ) {j e : ℕ} {k : Kind} {w : Diagnostic} {r : Read} → Enclosed comma d s at pc′ o₁ o₂ (Done j e k w)
-      → ((t : Tree) → DraftHolds pc′ o₁ o₂ e k w t → (f : ℕ) → (length s - j) * 8 + 4 ≤ f → SameResult pc o o₃ s r (andThen (arguments f d m (tokensFrom s j)) (λ us z. K (more t us) z)))
+      → ((t : Tree) → DraftHolds pc′ o₁ o₂ e k w t → (f : ℕ) → (length s - j) * 8 + 4 ≤ f
+      → SameResult pc o o₃ s r (andThen (arguments f d m (tokensFrom s j)) (λ us z. K (more t us) z)))
       → (f : ℕ) → (length s - at) * 8 + 4 ≤ f → SameResult pc o o₃ s r (andThen (arguments f d (suc m) (tokensFrom s at)) K)
   more-goes m x g zero le = absurd (omega arith)
   more-goes m x g (suc f) le =
@@ -91,7 +102,8 @@ call-inside w d {s} {at} {pc} {o} {o′} {r} t i z x = record { span = x .span; 
     h = there openParen s at t i
 
     go : (n : ℕ) → (length s - at) * 8 + 0 ≤ n → SameResult pc o o′ s r (callOf (functionAt (wordOperand w)) (wordPlace w) d n (tokensFrom s at))
-    go n le = rw (enter-inside d (λ e q. argumentsOf (functionAt (wordOperand w)) (wordPlace w) e n q) (h .splits) z) (x .same n (omega (arith, h .splits .within)))
+    go n le = rw (enter-inside d (λ e q. argumentsOf (functionAt (wordOperand w)) (wordPlace w) e n q) (h .splits) z)
+        (x .same n (omega (arith, h .splits .within)))
 
 -- ---- functions by the form of their calls: operators that functions apply take either kind
 data Calls : Form → Type 0 where
@@ -237,7 +249,8 @@ made-of p c us q = ok (callTree c p us) q
 module _ (f w d : ℕ) (number : f ≡ wordOperand w) {s : List ℕ} {at pc : ℕ} {o : List ℕ} where
   -- the call is of the form x
   of-form : (x : Form) {o₁ : List ℕ} {r : Read} → formOf (functionAt f) ≡ x → Span s at pc r
-      → ((n : ℕ) → (length s - (at + 1)) * 8 + 4 ≤ n → SameResult pc o o₁ s r (callBody x (wordPlace w) (λ m q. arguments n d m q) (λ q. expression n d loosest q) (tokensFrom s (at + 1)))) → Arguing w d s at pc o o₁ r
+      → ((n : ℕ) → (length s - (at + 1)) * 8 + 4 ≤ n → SameResult pc o o₁ s r
+      (callBody x (wordPlace w) (λ m q. arguments n d m q) (λ q. expression n d loosest q) (tokensFrom s (at + 1)))) → Arguing w d s at pc o o₁ r
   of-form x e b g = record { span = b; same = λ n le. rw (ap (λ (i : ℕ). formOf (functionAt i)) (sym number) ∙ e) (g n le) }
 
   -- one argument: of an operator, or of SINCE
@@ -246,23 +259,28 @@ module _ (f w d : ℕ) (number : f ≡ wordOperand w) {s : List ℕ} {at pc : �
       let c = of-one (functionOp f) in
       of-form (plain c) (one-form (calls (functionAt f)) h .0) (span-stopped stop (x .span)) (last-stops d (made-of (wordPlace w) c) x stop)
 
-  pub only-done : {o₁ o₂ : List ℕ} {j e : ℕ} {k : Kind} {v : Diagnostic} → functionForm f ≡ 1 → Enclosed closeParen d s (at + 1) pc o o₁ (Done j e k v) → o₂ ≡ putInstr o₁ e (Unary (functionOp f))
+  pub only-done : {o₁ o₂ : List ℕ} {j e : ℕ} {k : Kind} {v : Diagnostic} → functionForm f ≡ 1 → Enclosed closeParen d s (at + 1) pc o o₁ (Done j e k v)
+      → o₂ ≡ putInstr o₁ e (Unary (functionOp f))
       → Arguing w d s at pc o o₂ (Done j (e + 1) (unaryKind (functionOp f) k) v)
   only-done {o₁} {o₂} {j} {e} {k} {v} h x q =
-      of-form (plain (of-one (functionOp f))) (one-form (calls (functionAt f)) h .0) (reach (bounds (x .span))) (last-goes d (made-of (wordPlace w) (of-one (functionOp f))) x done)
+      of-form (plain (of-one (functionOp f))) (one-form (calls (functionAt f)) h .0) (reach (bounds (x .span)))
+      (last-goes d (made-of (wordPlace w) (of-one (functionOp f))) x done)
     where
       reach : Bounds s (at + 1) pc j e → Span s at pc (Done j (e + 1) (unaryKind (functionOp f) k) v)
       reach b = span-done {j = j} {e = e + 1} (omega arith) (b .within) (omega arith) (omega arith)
 
-      done : (u : Tree) → DraftHolds pc o o₁ e k v u → SameResult pc o o₂ s (Done j (e + 1) (unaryKind (functionOp f) k) v) (ok (callTree (of-one (functionOp f)) (wordPlace w) (one u)) (tokensFrom s j))
+      done : (u : Tree) → DraftHolds pc o o₁ e k v u → SameResult pc o o₂ s (Done j (e + 1) (unaryKind (functionOp f) k) v)
+          (ok (callTree (of-one (functionOp f)) (wordPlace w) (one u)) (tokensFrom s j))
       done u m =
           let y = rw (one-form (calls (functionAt f)) h .1 k) at (means-unary m (wordPlace w) (functionOp f) q) in
           same-done y refl
 
   pub since-stopped : {o₁ : List ℕ} {r : Read} → functionForm f ≡ 4 → Enclosed closeParen d s (at + 1) pc o o₁ r → Stopped r → Arguing w d s at pc o o₁ r
-  since-stopped h x stop = of-form (plain of-since) (since-form (calls (functionAt f)) h) (span-stopped stop (x .span)) (last-stops d (made-of (wordPlace w) of-since) x stop)
+  since-stopped h x stop = of-form (plain of-since) (since-form (calls (functionAt f)) h) (span-stopped stop (x .span))
+      (last-stops d (made-of (wordPlace w) of-since) x stop)
 
-  pub since-done : {o₁ o₂ : List ℕ} {j e : ℕ} {k : Kind} {v : Diagnostic} → functionForm f ≡ 4 → Enclosed closeParen d s (at + 1) pc o o₁ (Done j e k v) → o₂ ≡ putInstr o₁ e Since
+  pub since-done : {o₁ o₂ : List ℕ} {j e : ℕ} {k : Kind} {v : Diagnostic} → functionForm f ≡ 4 → Enclosed closeParen d s (at + 1) pc o o₁ (Done j e k v)
+      → o₂ ≡ putInstr o₁ e Since
       → Arguing w d s at pc o o₂ (Done j (e + 1) K.Int (earlier (unless (isInt k) (wrongKindAt (wordPlace w))) v))
   since-done {o₁} {o₂} {j} {e} {k} {v} h x q =
       of-form (plain of-since) (since-form (calls (functionAt f)) h) (reach (bounds (x .span)))
@@ -285,7 +303,8 @@ module _ (f w d : ℕ) (number : f ≡ wordOperand w) {s : List ℕ} {at pc : �
       of-form (matched (functionMatch f)) (match-form (calls (functionAt f)) h) (span-stopped stop (x .span))
       (value-stops d (λ t q. expectRange q (λ b i p z. matching p (functionMatch f) t b i z)) x stop)
 
-  pub match-reads : {o₁ o₂ : List ℕ} {r : Read} (c : ℕ) → functionForm f ≡ 7 → Enclosed comma d s (at + 1) pc o o₁ (Done (readNext c) (readEnd c) (readKind c) (readWrong c)) → Matching f s c o₁ o₂ r → Arguing w d s at pc o o₂ r
+  pub match-reads : {o₁ o₂ : List ℕ} {r : Read} (c : ℕ) → functionForm f ≡ 7
+      → Enclosed comma d s (at + 1) pc o o₁ (Done (readNext c) (readEnd c) (readKind c) (readWrong c)) → Matching f s c o₁ o₂ r → Arguing w d s at pc o o₂ r
   match-reads {o₁} {o₂} {r} c h x y = of-form (matched (functionMatch f)) (match-form (calls (functionAt f)) h) (reach (bounds (x .span))) go
     where
       K : Tree → List Tok → Result Tree
@@ -294,7 +313,8 @@ module _ (f w d : ℕ) (number : f ≡ wordOperand w) {s : List ℕ} {at pc : �
       reach : Bounds s (at + 1) pc (readNext c) (readEnd c) → Span s at pc r
       reach b = y .span at pc (omega (arith, b .ahead)) (b .rises) (omega (arith, b .slack))
 
-      go : (n : ℕ) → (length s - (at + 1)) * 8 + 4 ≤ n → SameResult pc o o₂ s r (andThen (expression n d loosest (tokensFrom s (at + 1))) (λ t q. expect comma q (λ z. K t z)))
+      go : (n : ℕ) → (length s - (at + 1)) * 8 + 4 ≤ n → SameResult pc o o₂ s r
+          (andThen (expression n d loosest (tokensFrom s (at + 1))) (λ t q. expect comma q (λ z. K t z)))
       go n le = rw (← and-then comma (expression n d loosest (tokensFrom s (at + 1))) K) (bind-done K (x .same n (omega arith)) (λ t m. y .same pc o t m))
 
   -- two arguments
@@ -310,17 +330,20 @@ module _ (f w d : ℕ) (number : f ≡ wordOperand w) {s : List ℕ} {at pc : �
         of-form (plain c) (two-form (calls (functionAt f)) h .0) (span-stopped stop (y .span))
         (more-goes d (made-of (wordPlace w) c) 0 x (λ u m. last-stops d (λ us q. made-of (wordPlace w) c (more u us) q) y stop))
 
-    pub second-done : {o₂ o₃ : List ℕ} {j′ e′ : ℕ} {k′ : Kind} {v′ : Diagnostic} → Enclosed closeParen d s j e o₁ o₂ (Done j′ e′ k′ v′) → o₃ ≡ putInstr o₂ e′ (Binary (functionPair f))
+    pub second-done : {o₂ o₃ : List ℕ} {j′ e′ : ℕ} {k′ : Kind} {v′ : Diagnostic} → Enclosed closeParen d s j e o₁ o₂ (Done j′ e′ k′ v′)
+        → o₃ ≡ putInstr o₂ e′ (Binary (functionPair f))
         → Arguing w d s at pc o o₃ (Done j′ (e′ + 1) (binaryKind (functionPair f) k k′) (earlier v v′))
     second-done {o₂} {o₃} {j′} {e′} {k′} {v′} y q =
         of-form (plain (of-two (functionPair f))) (two-form (calls (functionAt f)) h .0) (reach (bounds (x .span)) (bounds (y .span)))
-        (more-goes d (made-of (wordPlace w) (of-two (functionPair f))) 0 x (λ u m. last-goes d (λ us q. made-of (wordPlace w) (of-two (functionPair f)) (more u us) q) y (done u m)))
+        (more-goes d (made-of (wordPlace w) (of-two (functionPair f))) 0 x
+        (λ u m. last-goes d (λ us q. made-of (wordPlace w) (of-two (functionPair f)) (more u us) q) y (done u m)))
       where
         reach : Bounds s (at + 1) pc j e → Bounds s j e j′ e′ → Span s at pc (Done j′ (e′ + 1) (binaryKind (functionPair f) k k′) (earlier v v′))
         reach a b = span-done {j = j′} {e = e′ + 1} (omega arith) (b .within) (omega arith) (omega arith)
 
         done : (u : Tree) → DraftHolds pc o o₁ e k v u → (z : Tree) → DraftHolds e o₁ o₂ e′ k′ v′ z
-            → SameResult pc o o₃ s (Done j′ (e′ + 1) (binaryKind (functionPair f) k k′) (earlier v v′)) (ok (callTree (of-two (functionPair f)) (wordPlace w) (more u (one z))) (tokensFrom s j′))
+            → SameResult pc o o₃ s (Done j′ (e′ + 1) (binaryKind (functionPair f) k k′) (earlier v v′))
+            (ok (callTree (of-two (functionPair f)) (wordPlace w) (more u (one z))) (tokensFrom s j′))
         done u m z n =
             let y = rw (two-form (calls (functionAt f)) h .1 k k′) at (means-binary m (wordPlace w) (functionPair f) n q) in
             same-done y refl
@@ -330,9 +353,11 @@ module _ (f w d : ℕ) (number : f ≡ wordOperand w) {s : List ℕ} {at pc : �
     pub condition-stopped : {o₁ : List ℕ} {r : Read} → Enclosed comma d s (at + 1) pc o o₁ r → Stopped r → Arguing w d s at pc o o₁ r
     condition-stopped x stop = of-form (plain of-choice) h (span-stopped stop (x .span)) (more-stops d (made-of (wordPlace w) of-choice) 1 x stop)
 
-    pub choice-reads : {o₁ o₂ : List ℕ} {r : Read} (c : ℕ) → Enclosed comma d s (at + 1) pc o o₁ (Done (readNext c) (readEnd c) (readKind c) (readWrong c)) → Branches d s c o₁ o₂ r → Arguing w d s at pc o o₂ r
+    pub choice-reads : {o₁ o₂ : List ℕ} {r : Read} (c : ℕ) → Enclosed comma d s (at + 1) pc o o₁ (Done (readNext c) (readEnd c) (readKind c) (readWrong c))
+        → Branches d s c o₁ o₂ r → Arguing w d s at pc o o₂ r
     choice-reads {o₁} {o₂} {r} c x y =
-        of-form (plain of-choice) h (reach (bounds (x .span))) (more-goes d (made-of (wordPlace w) of-choice) 1 x (λ u m n le. y .same pc o u m (wordPlace w) n le))
+        of-form (plain of-choice) h (reach (bounds (x .span))) (more-goes d (made-of (wordPlace w) of-choice) 1 x
+        (λ u m n le. y .same pc o u m (wordPlace w) n le))
       where
         reach : Bounds s (at + 1) pc (readNext c) (readEnd c) → Span s at pc r
         reach b = y .span at pc (omega arith) (b .rises) (omega arith)
@@ -343,16 +368,22 @@ branches-as {d} {s} {c} {o} {o′} e h = subst (Branches d s c o o′) (sym e) h
 
 module _ (d c : ℕ) {s : List ℕ} {o o₁ : List ℕ} where
   pub branch-stopped : {r : Read} → Enclosed comma d s (readNext c) (readEnd c + 1) o o₁ r → Stopped r → Branches d s c o o₁ r
-  branch-stopped x stop = record { span = λ at pc a b l. span-stopped stop (x .span); same = λ pc o₀ t m p. more-stops d (λ us q. ok (choice p t (argument 0 us) (argument 1 us)) q) 0 x stop }
+  branch-stopped x stop = record {
+    span = λ at pc a b l. span-stopped stop (x .span);
+    same =
+        λ pc o₀ t m p. more-stops d (λ us q. ok (choice p t (argument 0 us) (argument 1 us)) q) 0 x stop;
+  }
 
   module _ {j e : ℕ} {k : Kind} {w : Diagnostic} (x : Enclosed comma d s (readNext c) (readEnd c + 1) o o₁ (Done j e k w)) {o₂ o₃ : List ℕ} where
     pub other-stopped : {r : Read} → Enclosed closeParen d s j (e + 1) o₂ o₃ r → Stopped r → Branches d s c o o₃ r
     other-stopped y stop = record {
       span = λ at pc a b l. span-stopped stop (y .span);
-      same = λ pc o₀ t m p. more-goes d (λ us q. ok (choice p t (argument 0 us) (argument 1 us)) q) 0 x (λ u n. last-stops d (λ us q. ok (choice p t u (argument 0 us)) q) y stop);
+      same = λ pc o₀ t m p. more-goes d (λ us q. ok (choice p t (argument 0 us) (argument 1 us)) q) 0 x
+          (λ u n. last-stops d (λ us q. ok (choice p t u (argument 0 us)) q) y stop);
     }
 
-    pub other-done : {o₄ : List ℕ} {j′ e′ : ℕ} {k′ : Kind} {w′ : Diagnostic} → o₂ ≡ putInstr o₁ (readEnd c) (JumpIf false (e - readEnd c)) → Enclosed closeParen d s j (e + 1) o₂ o₃ (Done j′ e′ k′ w′) → o₄ ≡ chosenCode o₃ e e′ k k′
+    pub other-done : {o₄ : List ℕ} {j′ e′ : ℕ} {k′ : Kind} {w′ : Diagnostic} → o₂ ≡ putInstr o₁ (readEnd c) (JumpIf false (e - readEnd c))
+        → Enclosed closeParen d s j (e + 1) o₂ o₃ (Done j′ e′ k′ w′) → o₄ ≡ chosenCode o₃ e e′ k k′
         → Branches d s c o o₄ (Done j′ (e′ + length (branchTail k k′)) (join k k′) (earlier (readWrong c) (earlier w w′)))
     other-done {o₄} {j′} {e′} {k′} {w′} q y v = record {
       span = λ at pc a b l. reach at pc a b l (bounds (x .span)) (bounds (y .span));
@@ -366,6 +397,7 @@ module _ (d c : ℕ) {s : List ℕ} {o o₁ : List ℕ} where
         short K.Real K.Int = omega arith
         short K.Real K.Real = omega arith
 
-        reach : (at pc : ℕ) → at ≤ readNext c → pc ≤ readEnd c → readEnd c + 8 * at + 8 ≤ pc + 8 * readNext c → Bounds s (readNext c) (readEnd c + 1) j e → Bounds s j (e + 1) j′ e′
+        reach : (at pc : ℕ) → at ≤ readNext c → pc ≤ readEnd c → readEnd c + 8 * at + 8 ≤ pc + 8 * readNext c → Bounds s (readNext c) (readEnd c + 1) j e
+            → Bounds s j (e + 1) j′ e′
             → Span s at pc (Done j′ (e′ + length (branchTail k k′)) (join k k′) (earlier (readWrong c) (earlier w w′)))
         reach at pc g h l a b = span-done {j = j′} {e = e′ + length (branchTail k k′)} (omega arith) (b .within) (omega arith) (omega (arith, short k k′))

@@ -53,7 +53,8 @@ module _ (d l : ℕ) {s : List ℕ} {at pc : ℕ} {o o′ : List ℕ} where
   unfolding expression
   climb-starts {j} {e} {k} {w} x = record { span = bounds (x .span); onward = go }
     where
-      after : {q : Result Tree} (f : ℕ) → (length s - at) * 8 ≤ f → Bounds s at pc j e → SameResult pc o o′ s (Done j e k w) q → Onward d l s pc o o′ j e k w (andThen q (λ t z. climb f d l t z))
+      after : {q : Result Tree} (f : ℕ) → (length s - at) * 8 ≤ f → Bounds s at pc j e → SameResult pc o o′ s (Done j e k w) q
+          → Onward d l s pc o o′ j e k w (andThen q (λ t z. climb f d l t z))
       after f le b (same-done {t = t} m q) = record { fuel = f; enough = omega arith; tree = t; means = m; climbs = ap (climb f d l t) q }
 
       go : (f : ℕ) → (length s - at) * 8 + 3 ≤ f → Onward d l s pc o o′ j e k w (expression f d l (tokensFrom s at))
@@ -87,7 +88,11 @@ step d l {s} {j} {n} {g} {p} a group low high f t =
 module _ (d l : ℕ) {s : List ℕ} {at pc : ℕ} {o o₁ : List ℕ} {j e : ℕ} {k : Kind} {w : Diagnostic} (h : Climbing d l s at pc o o₁ j e k w)
     {n g p : ℕ} (a : Splits s j (symbolAt n p)) (group : groupNumber n ≡ g) (low : 1 ≤ g) (high : g ≤ l) where
   pub climb-right-stopped : {o₂ : List ℕ} {r : Read} → Climbed d (g - 1) s (j + 1) (e + reserved n) o₁ o₂ r → Stopped r → Climbed d l s at pc o o₂ r
-  climb-right-stopped {o₂} {r} x stop = record { span = span-stopped stop (x .span); same = λ f le. let y = h .onward f le in go (y .fuel) (y .enough) (y .tree) (y .climbs) }
+  climb-right-stopped {o₂} {r} x stop = record {
+    span = span-stopped stop (x .span);
+    same = λ f le. let y = h .onward f le in
+        go (y .fuel) (y .enough) (y .tree) (y .climbs);
+  }
     where
       go : {q : Result Tree} (f : ℕ) → (length s - j) * 8 + 1 ≤ f → (t : Tree) → q ≡ climb f d l t (tokensFrom s j) → SameResult pc o o₂ s r q
       go zero le t c = absurd (omega arith)
@@ -95,9 +100,14 @@ module _ (d l : ℕ) {s : List ℕ} {at pc : ℕ} {o o₁ : List ℕ} {j e : ℕ
           subst (SameResult pc o o₂ s r) (sym (c ∙ step d l a group low high f t))
           (bind-stopped (λ u z. climb f d l (infixTree n p t u) z) stop (x .same f (omega (arith, a .within))))
 
-  pub climb-goes-on : {o₂ o₃ : List ℕ} {j′ e′ : ℕ} {k′ : Kind} {w′ : Diagnostic} → Climbed d (g - 1) s (j + 1) (e + reserved n) o₁ o₂ (Done j′ e′ k′ w′) → o₃ ≡ joinedCode o₂ n e e′
+  pub climb-goes-on : {o₂ o₃ : List ℕ} {j′ e′ : ℕ} {k′ : Kind} {w′ : Diagnostic} → Climbed d (g - 1) s (j + 1) (e + reserved n) o₁ o₂ (Done j′ e′ k′ w′)
+      → o₃ ≡ joinedCode o₂ n e e′
       → Climbing d l s at pc o o₃ j′ (joinedEnd n e′) (infixKind n k k′) (earlier (infixWrong n p k k′) (earlier w w′))
-  climb-goes-on {o₂} {o₃} {j′} {e′} {k′} {w′} x q = record { span = reach (h .span) (bounds (x .span)); onward = λ f le. let y = h .onward f le in go (y .fuel) (y .enough) (y .tree) (y .means) (y .climbs) }
+  climb-goes-on {o₂} {o₃} {j′} {e′} {k′} {w′} x q = record {
+    span = reach (h .span) (bounds (x .span));
+    onward = λ f le. let y = h .onward f le in
+        go (y .fuel) (y .enough) (y .tree) (y .means) (y .climbs);
+  }
     where
       reach : Bounds s at pc j e → Bounds s (j + 1) (e + reserved n) j′ e′ → Bounds s at pc j′ (joinedEnd n e′)
       reach u v = record { ahead = omega arith; within = v .within; rises = omega arith; slack = omega (arith, few n) }
@@ -105,7 +115,8 @@ module _ (d l : ℕ) {s : List ℕ} {at pc : ℕ} {o o₁ : List ℕ} {j e : ℕ
       On : Result Tree → Type 0
       On z = Onward d l s pc o o₃ j′ (joinedEnd n e′) (infixKind n k k′) (earlier (infixWrong n p k k′) (earlier w w′)) z
 
-      after : {z : Result Tree} (f : ℕ) (t : Tree) → DraftHolds pc o o₁ e k w t → (length s - j) * 8 ≤ f → SameResult (e + reserved n) o₁ o₂ s (Done j′ e′ k′ w′) z → On (andThen z (λ u z. climb f d l (infixTree n p t u) z))
+      after : {z : Result Tree} (f : ℕ) (t : Tree) → DraftHolds pc o o₁ e k w t → (length s - j) * 8 ≤ f
+          → SameResult (e + reserved n) o₁ o₂ s (Done j′ e′ k′ w′) z → On (andThen z (λ u z. climb f d l (infixTree n p t u) z))
       after f t m le (same-done {t = u} i c) =
           let b = bounds (x .span) in
           record { fuel = f; enough = omega arith; tree = infixTree n p t u; means = means-infix m n p i q; climbs = ap (climb f d l (infixTree n p t u)) c }
@@ -120,13 +131,16 @@ unfolding climb
 halts f d l t [] e = refl
 halts f d l t (x ∷ xs) e = rw (climb, e) refl
 
-pub climb-stops : (d l : ℕ) {s : List ℕ} {at pc : ℕ} {o o′ : List ℕ} {j e : ℕ} {k : Kind} {w : Diagnostic} → Climbing d l s at pc o o′ j e k w → headBinds l (tokensFrom s j) ≡ false → Climbed d l s at pc o o′ (Done j e k w)
-climb-stops d l {s} {at} {pc} {o} {o′} {j} {e} {k} {w} h b = record { span = reach (h .span); same = λ f le. let y = h .onward f le in go (y .fuel) (y .enough) (y .tree) (y .means) (y .climbs) }
+pub climb-stops : (d l : ℕ) {s : List ℕ} {at pc : ℕ} {o o′ : List ℕ} {j e : ℕ} {k : Kind} {w : Diagnostic} → Climbing d l s at pc o o′ j e k w
+    → headBinds l (tokensFrom s j) ≡ false → Climbed d l s at pc o o′ (Done j e k w)
+climb-stops d l {s} {at} {pc} {o} {o′} {j} {e} {k} {w} h b = record
+    { span = reach (h .span); same = λ f le. let y = h .onward f le in go (y .fuel) (y .enough) (y .tree) (y .means) (y .climbs) }
   where
     reach : Bounds s at pc j e → Span s at pc (Done j e k w)
     reach u = span-done (u .ahead) (u .within) (u .rises) (u .slack)
 
-    go : {q : Result Tree} (f : ℕ) → (length s - j) * 8 + 1 ≤ f → (t : Tree) → DraftHolds pc o o′ e k w t → q ≡ climb f d l t (tokensFrom s j) → SameResult pc o o′ s (Done j e k w) q
+    go : {q : Result Tree} (f : ℕ) → (length s - j) * 8 + 1 ≤ f → (t : Tree) → DraftHolds pc o o′ e k w t → q ≡ climb f d l t (tokensFrom s j)
+        → SameResult pc o o′ s (Done j e k w) q
     go zero le t m c = absurd (omega arith)
     go (suc f) le t m c = subst (SameResult pc o o′ s (Done j e k w)) (sym (c ∙ halts f d l t (tokensFrom s j) b)) (same-done m refl)
 
@@ -134,7 +148,8 @@ climb-stops d l {s} {at} {pc} {o} {o′} {j} {e} {k} {w} h b = record { span = r
 abbrev pub Climb : ℕ → ℕ → List ℕ → ℕ → ℕ → List ℕ → List ℕ → ℕ → Type 0
 Climb d l s at pc o o′ left = Climbing d l s at pc o o′ (readNext left) (readEnd left) (readKind left) (readWrong left)
 
-module _ (d l : ℕ) {s : List ℕ} {at pc : ℕ} {o o₁ : List ℕ} (left : ℕ) {i w g : ℕ} (h : Climb d l s at pc o o₁ left) (t : TokenWords s) (next : i ≡ readNext left) (word : w ≡ wordAt s i) (group : g ≡ groupIn w) where
+module _ (d l : ℕ) {s : List ℕ} {at pc : ℕ} {o o₁ : List ℕ} (left : ℕ) {i w g : ℕ} (h : Climb d l s at pc o o₁ left) (t : TokenWords s)
+    (next : i ≡ readNext left) (word : w ≡ wordAt s i) (group : g ≡ groupIn w) where
   looks : Look s (readNext left) w
   looks = look t (word ∙ ap (λ (j : ℕ). wordAt s j) next)
 
@@ -155,7 +170,8 @@ module _ (d l : ℕ) {s : List ℕ} {at pc : ℕ} {o o₁ : List ℕ} (left : �
           climb-right-stopped d l h (loop-operator .splits) (loop-operator .group ∙ sym group) low high (moved (ap (λ (j : ℕ). j + 1) next) place x) stop
 
       pub loop-joined : (right x : ℕ) {o₃ : List ℕ} → Climbed d (g - 1) s (i + 1) e o₁ o₂ (readOf right) → isDone (readOf right) ≡ true
-          → readOf x ≡ Done (readNext right) (joinedEnd (wordOperand w) (readEnd right)) (infixKind (wordOperand w) (readKind left) (readKind right)) (earlier (infixWrong (wordOperand w) (wordPlace w) (readKind left) (readKind right)) (earlier (readWrong left) (readWrong right)))
+          → readOf x ≡ Done (readNext right) (joinedEnd (wordOperand w) (readEnd right)) (infixKind (wordOperand w) (readKind left) (readKind right))
+          (earlier (infixWrong (wordOperand w) (wordPlace w) (readKind left) (readKind right)) (earlier (readWrong left) (readWrong right)))
           → o₃ ≡ joinedCode o₂ (wordOperand w) (readEnd left) (readEnd right) → Climb d l s at pc o o₃ x
       loop-joined right x y done q c =
           let low : 1 ≤ g = omega arith in

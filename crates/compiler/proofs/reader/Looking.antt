@@ -26,9 +26,11 @@ use Rattle.tokens.specs.declared.Token.{Token}
 use Rattle.tokens.specs.declared.Token.the-variants.{Number, Cell, Letter, Name, Symbol}
 use Rattle.tokens.specs.Scan.{Tok}
 use Rattle.tokens.specs.Words.{functionAt}
-use Rattle.token_table.specs.private.Table.{packToken, functionNumber, wordClass, wordOperand, wordNumber, wordPlace, entryOf, wordAt, tokensFrom, Sound, TokenWord, blank, token, TokenWords}
+use Rattle.token_table.specs.private.Table.{packToken, functionNumber, wordClass, wordOperand, wordNumber, wordPlace, entryOf, wordAt, tokensFrom}
+use Rattle.token_table.specs.private.Table.{Sound, TokenWord, blank, token, TokenWords}
 use Rattle.token_table.specs.private.Table as Sound
-use Rattle.token_table.proofs.Laws.{tok, tokenClass, tokenOperand, tokenNumber, class-packed, operand-packed, number-packed, place-packed, unpacked, blank-end, from-is, from-end}
+use Rattle.token_table.proofs.Laws.{tok, tokenClass, tokenOperand, tokenNumber, class-packed, operand-packed, number-packed, place-packed, unpacked}
+use Rattle.token_table.proofs.Laws.{blank-end, from-is, from-end}
 use Rattle.grammar.specs.Tree.{Tree, literal, cell, clear, treeKind, diagnosticOf}
 use Rattle.grammar.specs.Symbols.{groups, groupNumber, group, isSymbol, Prefix, is, none, prefixOf}
 use Rattle.grammar.specs.Parse.{ok, binds, primary}
@@ -254,7 +256,8 @@ pub record Leaf (s : List ℕ) (at c n x p : ℕ) : Type 0 where
   pub few : n < 6
   pub tree : Tree
   pub reads : (f d : ℕ) (xs : List Tok) → primary (suc f) d (tok token p) xs ≡ ok tree xs
-  pub means : (pc : ℕ) (o : List ℕ) → DraftHolds pc o (set o pc (joinWord (leafOpcode c n) x)) (pc + 1) (cond (eqb c 1) Int (cond (eqb c 2) Real (bankKind (bankAt n)))) clear tree
+  pub means : (pc : ℕ) (o : List ℕ) → DraftHolds pc o (set o pc (joinWord (leafOpcode c n) x)) (pc + 1)
+      (cond (eqb c 1) Int (cond (eqb c 2) Real (bankKind (bankAt n)))) clear tree
 
 -- what stands there, sorted by the class
 pub data Primary (s : List ℕ) (at n x p : ℕ) : ℕ → Type 0 where
@@ -267,12 +270,38 @@ pub data Primary (s : List ℕ) (at n x p : ℕ) : ℕ → Type 0 where
 sorted : {s : List ℕ} {at p : ℕ} {t : Token} → Sound t → Splits s at (tok t p) → Primary s at (tokenOperand t) (tokenNumber t) p (tokenClass t)
 unfolding codeOf treeKind diagnosticOf primary putCode
 sorted {p = p} (Sound.int z h) x =
-    leaf {c = 1} (lit< tt) (λ e. omega arith) (record { token = Number (Value.Int z); splits = x; plain = refl; few = lit< tt; tree = literal p (Value.Int z); reads = λ f d xs. refl; means = λ pc o. record { kind = refl; wrong = refl; ends = refl; code = refl } })
+    leaf {c = 1} (lit< tt) (λ e. omega arith) (record {
+      token = Number (Value.Int z);
+      splits = x;
+      plain = refl;
+      few = lit< tt;
+      tree =
+          literal p (Value.Int z);
+      reads = λ f d xs. refl;
+      means = λ pc o. record { kind = refl; wrong = refl; ends = refl; code = refl };
+    })
 sorted {p = p} (Sound.real y h) x =
-    leaf {c = 2} (lit< tt) (λ e. omega arith) (record { token = Number (Value.Real y); splits = x; plain = refl; few = lit< tt; tree = literal p (Value.Real y); reads = λ f d xs. refl; means = λ pc o. record { kind = refl; wrong = refl; ends = refl; code = refl } })
+    leaf {c = 2} (lit< tt) (λ e. omega arith) (record {
+      token = Number (Value.Real y);
+      splits = x;
+      plain = refl;
+      few = lit< tt;
+      tree =
+          literal p (Value.Real y);
+      reads = λ f d xs. refl;
+      means = λ pc o. record { kind = refl; wrong = refl; ends = refl; code = refl };
+    })
 sorted (Sound.cell b i h) x =
     let (e, few) = bank-back b in
-    leaf {c = 3} (lit< tt) (λ e. omega arith) (record { token = Cell b i; splits = x; plain = refl; few = few; tree = cell b i; reads = λ f d xs. refl; means = λ pc o. record { kind = ap bankKind (sym e); wrong = refl; ends = refl; code = refl } })
+    leaf {c = 3} (lit< tt) (λ e. omega arith) (record {
+      token = Cell b i;
+      splits = x;
+      plain = refl;
+      few = few;
+      tree = cell b i;
+      reads = λ f d xs. refl;
+      means = λ pc o. record { kind = ap bankKind (sym e); wrong = refl; ends = refl; code = refl };
+    })
 sorted {s} {at} {p} (Sound.letter b) x =
     let (e, few) = bank-back b in
     letter few (subst (λ (b : Bank). Splits s at (tok (Letter b) p)) (sym e) x)

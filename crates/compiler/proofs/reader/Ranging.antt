@@ -13,7 +13,8 @@ use Rattle.totals.specs.Totals.{totalKind, matchKind}
 use Rattle.tokens.specs.declared.Token.{Token}
 use Rattle.tokens.specs.declared.Token.the-variants.{Number, Cell}
 use Rattle.tokens.specs.Scan.{Tok}
-use Rattle.token_table.specs.private.Table.{Is, wordClass, wordOperand, wordNumber, wordPlace, tokenOf, entryOf, wordAt, tokensFrom, Sound, TokenWord, blank, token, TokenWords}
+use Rattle.token_table.specs.private.Table.{Is, wordClass, wordOperand, wordNumber, wordPlace, tokenOf, entryOf, wordAt, tokensFrom, Sound, TokenWord}
+use Rattle.token_table.specs.private.Table.{blank, token, TokenWords}
 use Rattle.token_table.specs.private.Table as Sound
 use Rattle.token_table.proofs.Laws.{tok, tokenClass, tokenOperand, tokenNumber, class-packed, operand-packed, number-packed, from-is}
 use Rattle.grammar.specs.Tree.{Tree, total, matching, Diagnostic, earlier}
@@ -24,7 +25,8 @@ use Rattle.draft.specs.private.Results.{Read, Done, Bad, readNext, readEnd, rea
 use Rattle.draft.specs.private.Words.{bankAt, isMark}
 use Rattle.draft.specs.private.Draft.{putInstr}
 use Rattle.draft.specs.private.Ranges.{functionTotal, functionMatch, cellBank, countOf, CellWord, rangeSpan, rangeWrong}
-use Rattle.compiler.specs.private.Reading.{DraftHolds, SameResult, same-done, same-bad, Span, span-done, span-bad, ReaderAgrees, RangeFrom, whole, broken, Matching}
+use Rattle.compiler.specs.private.Reading.{DraftHolds, SameResult, same-done, same-bad, Span, span-done, span-bad, ReaderAgrees, RangeFrom}
+use Rattle.compiler.specs.private.Reading.{whole, broken, Matching}
 use Rattle.compiler.proofs.reader.Looking.{bank-back, Splits, headIs, Look, nothing, stands, look, mark, There, there}
 use Rattle.compiler.proofs.reader.Binding.{expect-past, expect-other}
 use Rattle.compiler.proofs.reader.Meaning.{means-total, means-matching}
@@ -54,13 +56,16 @@ cell-word (token t p k lt) c = by k (sym (class-packed k p lt) ∙ c) (operand-p
 splits : {s : List ℕ} {i : ℕ} {x : Tok} → (i < length s) × (tokensFrom s i ≡ x ∷ tokensFrom s (suc i)) → Splits s i x
 splits {s} {i} {x} (h, e) = let next : suc i ≡ i + 1 = omega arith in record { within = h; split = e ∙ ap (λ (j : ℕ). x ∷ tokensFrom s j) next }
 
-cell-there : {s : List ℕ} {at : ℕ} → CellWord (wordAt s at) → wordClass (wordAt s at) ≡ 3 → Splits s at (tok (Cell (cellBank (wordAt s at)) (wordNumber (wordAt s at))) (wordPlace (wordAt s at)))
+cell-there : {s : List ℕ} {at : ℕ} → CellWord (wordAt s at) → wordClass (wordAt s at) ≡ 3
+    → Splits s at (tok (Cell (cellBank (wordAt s at)) (wordNumber (wordAt s at))) (wordPlace (wordAt s at)))
 unfolding tokenOf
 cell-there {s} {at} w c =
-    let e : entryOf (wordAt s at) ≡ Is (Cell (cellBank (wordAt s at)) (wordNumber (wordAt s at))) (wordPlace (wordAt s at)) = rw (c, lt-ltb (wordOperand (wordAt s at)) 6 (w .few)) refl in
+    let e : entryOf (wordAt s at) ≡ Is (Cell (cellBank (wordAt s at)) (wordNumber (wordAt s at))) (wordPlace (wordAt s at)) =
+    rw (c, lt-ltb (wordOperand (wordAt s at)) 6 (w .few)) refl in
     splits (from-is s at e)
 
-cell-none : {X : Type 0} {s : List ℕ} {at w : ℕ} (k : Bank → ℕ → List Tok → Result X) → Look s at w → (wordClass w ≡ 3 → ⊥) → expectCell (tokensFrom s at) k ≡ bad (tokensFrom s at)
+cell-none : {X : Type 0} {s : List ℕ} {at w : ℕ} (k : Bank → ℕ → List Tok → Result X) → Look s at w → (wordClass w ≡ 3 → ⊥)
+    → expectCell (tokensFrom s at) k ≡ bad (tokensFrom s at)
 cell-none k (nothing e) n = rw e refl
 cell-none {s = s} {at} k (stands {p = p} g lt x) n = by g x (λ e. n (class-packed g p lt ∙ e))
   where
@@ -79,7 +84,8 @@ count-there {s} {at} c =
     let e : entryOf (wordAt s at) ≡ Is (Number (Int (countOf (wordAt s at)))) (wordPlace (wordAt s at)) = rw c refl in
     splits (from-is s at e)
 
-count-none : {X : Type 0} {s : List ℕ} {at w : ℕ} (k : ℕ → ℤ → List Tok → Result X) → Look s at w → (wordClass w ≡ 1 → ⊥) → expectCount (tokensFrom s at) k ≡ bad (tokensFrom s at)
+count-none : {X : Type 0} {s : List ℕ} {at w : ℕ} (k : ℕ → ℤ → List Tok → Result X) → Look s at w → (wordClass w ≡ 1 → ⊥)
+    → expectCount (tokensFrom s at) k ≡ bad (tokensFrom s at)
 count-none k (nothing e) n = rw e refl
 count-none {s = s} {at} k (stands {p = p} g lt x) n = by g x (λ e. n (class-packed g p lt ∙ e))
   where
@@ -97,7 +103,8 @@ module _ (s : List ℕ) (at : ℕ) (t : TokenWords s) where
   other n i m = sym (mark (look {s = s} {at = i} t refl) n) ∙ m
 
   pub no-cell : at ≤ length s → (wordClass (wordAt s at) ≡ 3 → ⊥) → RangeFrom s at at
-  no-cell l n = broken {j = at} (omega arith) l (λ k. cell-none (λ b i r. expect comma r (λ q. expectCount q (λ p z u. expect closeParen u (λ v. ok (k b i p z) v)))) (look {s = s} {at = at} t refl) n)
+  no-cell l n = broken {j = at} (omega arith) l (λ k. cell-none (λ b i r. expect comma r
+      (λ q. expectCount q (λ p z u. expect closeParen u (λ v. ok (k b i p z) v)))) (look {s = s} {at = at} t refl) n)
 
   module _ (c : wordClass (wordAt s at) ≡ 3) where
     cell : CellWord (wordAt s at)
@@ -106,19 +113,22 @@ module _ (s : List ℕ) (at : ℕ) (t : TokenWords s) where
     first : Splits s at (tok (Cell (cellBank (wordAt s at)) (wordNumber (wordAt s at))) (wordPlace (wordAt s at)))
     first = cell-there cell c
 
-    behind-cell : (k : Bank → ℕ → ℕ → ℤ → Tree) → expectRange (tokensFrom s at) k ≡ expect comma (tokensFrom s (at + 1)) (λ q. expectCount q (λ p z u. expect closeParen u (λ v. ok (behind k s at p z) v)))
+    behind-cell : (k : Bank → ℕ → ℕ → ℤ → Tree) → expectRange (tokensFrom s at) k
+        ≡ expect comma (tokensFrom s (at + 1)) (λ q. expectCount q (λ p z u. expect closeParen u (λ v. ok (behind k s at p z) v)))
     behind-cell k = rw (first .split) refl
 
     pub no-comma : isMark comma (wordAt s (at + 1)) ≡ false → RangeFrom s at (at + 1)
     no-comma m =
         broken {j = at + 1} (omega arith) (omega (arith, first .within))
-        (λ k. behind-cell k ∙ expect-other comma (tokensFrom s (at + 1)) (λ q. expectCount q (λ p z u. expect closeParen u (λ v. ok (behind k s at p z) v))) (other comma (at + 1) m))
+        (λ k. behind-cell k ∙ expect-other comma (tokensFrom s (at + 1)) (λ q. expectCount q (λ p z u. expect closeParen u (λ v. ok (behind k s at p z) v)))
+        (other comma (at + 1) m))
 
     module _ (m : isMark comma (wordAt s (at + 1)) ≡ true) where
       second : There comma s (at + 1)
       second = there comma s (at + 1) t m
 
-      behind-comma : (k : Bank → ℕ → ℕ → ℤ → Tree) → expectRange (tokensFrom s at) k ≡ expectCount (tokensFrom s (at + 2)) (λ p z u. expect closeParen u (λ v. ok (behind k s at p z) v))
+      behind-comma : (k : Bank → ℕ → ℕ → ℤ → Tree) → expectRange (tokensFrom s at) k
+          ≡ expectCount (tokensFrom s (at + 2)) (λ p z u. expect closeParen u (λ v. ok (behind k s at p z) v))
       behind-comma k =
           let g : List Tok → Result Tree = λ q. expectCount q (λ p z u. expect closeParen u (λ v. ok (behind k s at p z) v)) in
           let e : at + 1 + 1 ≡ at + 2 = omega arith in
@@ -163,14 +173,17 @@ pub record Whole (s : List ℕ) (at first count j : ℕ) : Type 0 where
   pub word : CellWord first
   pub end : j ≡ at + 4
   pub within : j ≤ length s
-  pub reads : (k : Bank → ℕ → ℕ → ℤ → Tree) → expectRange (tokensFrom s at) k ≡ ok (k (cellBank first) (wordNumber first) (wordPlace count) (countOf count)) (tokensFrom s j)
+  pub reads : (k : Bank → ℕ → ℕ → ℤ → Tree) → expectRange (tokensFrom s at) k
+      ≡ ok (k (cellBank first) (wordNumber first) (wordPlace count) (countOf count)) (tokensFrom s j)
 
 pub broken-range : {s : List ℕ} {at j : ℕ} → RangeFrom s at j → j < at + 4 → Broken s at j
 broken-range (whole w l g) h = absurd (omega arith)
 broken-range (broken b l g) h = record { within = l; reads = g }
 
-pub whole-range : {s : List ℕ} {at first count j : ℕ} → first ≡ wordAt s at → count ≡ wordAt s (at + 2) → RangeFrom s at j → at + 4 ≤ j → Whole s at first count j
-whole-range {s} {at} {first} {count} {j} a b x l = subst (λ (f : ℕ). Whole s at f count j) (sym a) (subst (λ (n : ℕ). Whole s at (wordAt s at) n j) (sym b) (go x l))
+pub whole-range : {s : List ℕ} {at first count j : ℕ} → first ≡ wordAt s at → count ≡ wordAt s (at + 2) → RangeFrom s at j → at + 4 ≤ j
+    → Whole s at first count j
+whole-range {s} {at} {first} {count} {j} a b x l = subst (λ (f : ℕ). Whole s at f count j) (sym a)
+    (subst (λ (n : ℕ). Whole s at (wordAt s at) n j) (sym b) (go x l))
   where
     go : {j : ℕ} → RangeFrom s at j → at + 4 ≤ j → Whole s at (wordAt s at) (wordAt s (at + 2)) j
     go (whole w l g) h = record { word = w; end = refl; within = l; reads = g }
@@ -184,7 +197,8 @@ module _ (f : ℕ) {s : List ℕ} {at pc : ℕ} {o : List ℕ} where
   pub total-broken : {j : ℕ} → Broken s at j → Totalled f s at pc o o (Bad j)
   total-broken x = record { span = span-bad (x .within); same = λ n le. rw (x .reads (λ b i p z. total p (functionTotal f) b i z)) (same-bad refl) }
 
-  pub total-whole : {first count j : ℕ} {o′ : List ℕ} → Whole s at first count j → o′ ≡ putInstr o pc (Total (functionTotal f) (cellBank first) (wordNumber first) (rangeSpan first count))
+  pub total-whole : {first count j : ℕ} {o′ : List ℕ} → Whole s at first count j
+      → o′ ≡ putInstr o pc (Total (functionTotal f) (cellBank first) (wordNumber first) (rangeSpan first count))
       → Totalled f s at pc o o′ (Done j (pc + 1) (totalKind (functionTotal f) (cellBank first)) (rangeWrong first count))
   total-whole {first} {count} {j} x q = record {
     span = span-done {j = j} {e = pc + 1} (omega (arith, x .end)) (x .within) (omega arith) (omega (arith, x .end));
@@ -198,9 +212,14 @@ matching-as {f} {s} {v} {o} {o′} e h = subst (Matching f s v o o′) (sym e) h
 
 module _ (f v : ℕ) {s : List ℕ} {o : List ℕ} where
   pub match-broken : {j : ℕ} → Broken s (readNext v) j → Matching f s v o o (Bad j)
-  match-broken x = record { span = λ at pc a b l. span-bad (x .within); same = λ pc o₀ t m. rw (x .reads (λ b i p z. matching p (functionMatch f) t b i z)) (same-bad refl) }
+  match-broken x = record {
+    span = λ at pc a b l. span-bad (x .within);
+    same =
+        λ pc o₀ t m. rw (x .reads (λ b i p z. matching p (functionMatch f) t b i z)) (same-bad refl);
+  }
 
-  pub match-whole : {first count j : ℕ} {o′ : List ℕ} → Whole s (readNext v) first count j → o′ ≡ putInstr o (readEnd v) (Match (functionMatch f) (cellBank first) (wordNumber first) (rangeSpan first count))
+  pub match-whole : {first count j : ℕ} {o′ : List ℕ} → Whole s (readNext v) first count j
+      → o′ ≡ putInstr o (readEnd v) (Match (functionMatch f) (cellBank first) (wordNumber first) (rangeSpan first count))
       → Matching f s v o o′ (Done j (readEnd v + 1) (matchKind (functionMatch f) (cellBank first)) (earlier (rangeWrong first count) (readWrong v)))
   match-whole {first} {count} {j} x q = record {
     span = λ at pc a b l. span-done {j = j} {e = readEnd v + 1} (omega (arith, x .end)) (x .within) (omega arith) (omega (arith, x .end));

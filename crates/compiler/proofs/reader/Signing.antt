@@ -38,7 +38,8 @@ unfolding operand
 plain f d [] e = refl
 plain f d (x ∷ xs) e = rw (operand, e) refl
 
-pub operand-plain : (d : ℕ) {s : List ℕ} {at pc : ℕ} {o o′ : List ℕ} {r : Read} → headSign (tokensFrom s at) ≡ none → Reading d s at pc o o′ r → Operand d s at pc o o′ r
+pub operand-plain : (d : ℕ) {s : List ℕ} {at pc : ℕ} {o o′ : List ℕ} {r : Read} → headSign (tokensFrom s at) ≡ none → Reading d s at pc o o′ r
+    → Operand d s at pc o o′ r
 operand-plain d {s} {at} {pc} {o} {o′} {r} h x = record { span = x .span; same = go }
   where
     go : (f : ℕ) → (length s - at) * 8 + 2 ≤ f → SameResult pc o o′ s r (operand f d (tokensFrom s at))
@@ -50,7 +51,8 @@ pub operand-leaf : (d : ℕ) {s : List ℕ} {at pc c n x p : ℕ} {o o′ : List
 operand-leaf d {pc = pc} {o = o} l e = operand-plain d (ap headSign (l .splits .split) ∙ l .plain) (leaf-reads d l e)
 
 -- ---- one unary operator
-sign-step : (d : ℕ) {s : List ℕ} {at p : ℕ} {a : UnaryOp} → Signed s at a p → (f : ℕ) → operand (suc f) d (tokensFrom s at) ≡ andThen (operand f d (tokensFrom s (at + 1))) (λ t r. ok (unary p a t) r)
+sign-step : (d : ℕ) {s : List ℕ} {at p : ℕ} {a : UnaryOp} → Signed s at a p → (f : ℕ)
+    → operand (suc f) d (tokensFrom s at) ≡ andThen (operand f d (tokensFrom s (at + 1))) (λ t r. ok (unary p a t) r)
 unfolding operand
 sign-step d z f = rw (z .splits .split, operand, z .sign) refl
 
@@ -75,10 +77,12 @@ module _ (d : ℕ) {s : List ℕ} {at p pc : ℕ} {o o₁ : List ℕ} {a : Unary
       reach : Bounds s (suc at) pc j e → Span s at pc (Done j (e + 1) (unaryKind a k) (earlier (unless (unaryTakes a k) (wrongKindAt p)) w))
       reach b = span-done {j = j} {e = e + 1} (omega arith) (b .within) (omega arith) (omega arith)
 
-      go : (f : ℕ) → (length s - at) * 8 + 2 ≤ f → SameResult pc o (putInstr o₁ e (Unary a)) s (Done j (e + 1) (unaryKind a k) (earlier (unless (unaryTakes a k) (wrongKindAt p)) w)) (operand f d (tokensFrom s at))
+      go : (f : ℕ) → (length s - at) * 8 + 2 ≤ f → SameResult pc o (putInstr o₁ e (Unary a)) s
+          (Done j (e + 1) (unaryKind a k) (earlier (unless (unaryTakes a k) (wrongKindAt p)) w)) (operand f d (tokensFrom s at))
       go zero le = absurd (omega arith)
       go (suc f) le =
-          rw (sign-step d z f) (bind-done (λ t r. ok (unary p a t) r) (x .same f (omega (arith, z .splits .within))) (λ t m. same-done (means-unary m p a refl) refl))
+          rw (sign-step d z f) (bind-done (λ t r. ok (unary p a t) r) (x .same f (omega (arith, z .splits .within)))
+          (λ t m. same-done (means-unary m p a refl) refl))
 
 -- ---- all of them
 up-to : {s : List ℕ} {first i : ℕ} {o o′ : List ℕ} {r r′ : Read} → Unaries s first o r i o′ r′ → i ≤ first

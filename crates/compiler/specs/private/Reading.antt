@@ -1,5 +1,6 @@
--- For the contracts of private functions: what the reader, which walks a table of tokens, writes a draft and builds no tree, has to do with the parser on tokens. A result `Done j e k w` stands for a
--- tree of kind k, with the diagnostic w, whose code ends at e in the draft, and for the tokens from the position j on.
+-- For the contracts of private functions: what the reader, which walks a table of tokens, writes a draft and builds no tree, has to do with the parser on
+-- tokens. A result `Done j e k w` stands for a tree of kind k, with the diagnostic w, whose code ends at e in the draft, and for the tokens from the
+-- position j on.
 use mathlib.Core.Path.{_≡_}
 use mathlib.Core.List.{List, [], _∷_}
 use Prim.Native.Nat.{ℕ, _+_, _-_, _*_, _≤_, _<_}
@@ -31,7 +32,8 @@ pub record DraftHolds (pc : ℕ) (o o′ : List ℕ) (e : ℕ) (k : Kind) (w : D
 
 -- the reader's result stands for the parser's
 pub data SameResult (pc : ℕ) (o o′ s : List ℕ) : Read → Result Tree → Type 0 where
-  same-done : {j e : ℕ} {k : Kind} {w : Diagnostic} {t : Tree} {r : List Tok} → DraftHolds pc o o′ e k w t → r ≡ tokensFrom s j → SameResult pc o o′ s (Done j e k w) (ok t r)
+  same-done : {j e : ℕ} {k : Kind} {w : Diagnostic} {t : Tree} {r : List Tok} → DraftHolds pc o o′ e k w t → r ≡ tokensFrom s j
+      → SameResult pc o o′ s (Done j e k w) (ok t r)
   same-bad : {j : ℕ} {r : List Tok} → r ≡ tokensFrom s j → SameResult pc o o′ s (Bad j) (bad r)
   same-deep : {j : ℕ} {r : List Tok} → r ≡ tokensFrom s j → SameResult pc o o′ s (Deep j) (deep r)
 
@@ -72,7 +74,8 @@ callOf g p d f ts = enter d openParen ts (λ e r. argumentsOf g p e f r)
 -- behind the parenthesis at `opener` of a call whose name has the word w
 pub record Arguing (w d : ℕ) (s : List ℕ) (opener pc : ℕ) (o o′ : List ℕ) (r : Read) : Type 0 where
   pub span : Span s opener pc r
-  pub same : (f : ℕ) → (length s - (opener + 1)) * 8 + 4 ≤ f → SameResult pc o o′ s r (argumentsOf (functionAt (wordOperand w)) (wordPlace w) d f (tokensFrom s (opener + 1)))
+  pub same : (f : ℕ) → (length s - (opener + 1)) * 8 + 4 ≤ f → SameResult pc o o′ s r
+      (argumentsOf (functionAt (wordOperand w)) (wordPlace w) d f (tokensFrom s (opener + 1)))
 
 -- the branches of IF behind the condition c
 abbrev pub branchesOf : Tree → ℕ → ℕ → ℕ → List Tok → Result Tree
@@ -87,7 +90,8 @@ pub record Branches (d : ℕ) (s : List ℕ) (c : ℕ) (o o′ : List ℕ) (r : 
 -- how far a first cell, a comma, a count and the closing parenthesis go from `at` on
 pub data RangeFrom (s : List ℕ) (at : ℕ) : ℕ → Type 0 where
   whole : CellWord (wordAt s at) → at + 4 ≤ length s
-      → ((k : Bank → ℕ → ℕ → ℤ → Tree) → expectRange (tokensFrom s at) k ≡ ok (k (cellBank (wordAt s at)) (wordNumber (wordAt s at)) (wordPlace (wordAt s (at + 2))) (countOf (wordAt s (at + 2)))) (tokensFrom s (at + 4)))
+      → ((k : Bank → ℕ → ℕ → ℤ → Tree) → expectRange (tokensFrom s at) k
+      ≡ ok (k (cellBank (wordAt s at)) (wordNumber (wordAt s at)) (wordPlace (wordAt s (at + 2))) (countOf (wordAt s (at + 2)))) (tokensFrom s (at + 4)))
       → RangeFrom s at (at + 4)
   broken : {j : ℕ} → j < at + 4 → j ≤ length s → ((k : Bank → ℕ → ℕ → ℤ → Tree) → expectRange (tokensFrom s at) k ≡ bad (tokensFrom s j)) → RangeFrom s at j
 

@@ -40,7 +40,8 @@ fn range_end(table: &[u64], at: usize) -> usize
 // The total f over a range.
 pub fn totalled(table: &[u64], draft: &mut [u64], at: usize, pc: usize, f: u8) -> u64
     requires { ⌜ Fits (now table) at pc × (functionForm f ≡ 6) ⌝ }
-    ensures { λ r. ⌜ ReaderAgrees (λ n ts. expectRange ts (λ b i p z. total p (functionTotal f) b i z)) 4 (now (table .entry)) at pc (now (draft .entry)) (now (draft .exit)) (readOf r) ⌝ }
+    ensures { λ r. ⌜ ReaderAgrees (λ n ts. expectRange ts (λ b i p z. total p (functionTotal f) b i z)) 4 (now (table .entry)) at pc (now (draft .entry))
+        (now (draft .exit)) (readOf r) ⌝ }
 {
     let end = range_end(table, at);
     if end < at + RANGE {

@@ -35,7 +35,8 @@ returns c =
     let s = c .before .before .before .before .before .before .before .before .before in
     let n = functionOperator (s .args .f) in
     let h = unary-function (s .args .f) (s .pre .0) in
-    let t = unary-typed n h (c .before .before .before .before .before .before .before .operator .ensures) (c .before .before .before .before .before .before .kind-of .ensures .0) (c .before .before .before .before .before .unary-kind .ensures) in
+    let t = unary-typed n h (c .before .before .before .before .before .before .before .operator .ensures)
+    (c .before .before .before .before .before .before .kind-of .ensures .0) (c .before .before .before .before .before .unary-kind .ensures) in
     (cc (t .1), cc (unary-at n h))
 
 pub applied-spec : {M : Type 1} → statement M

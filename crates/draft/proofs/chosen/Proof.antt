@@ -29,10 +29,20 @@ skipped-requires : tie.Need-skipped-requires
 skipped-requires c κs = search needs
 
 add-put : tie.Need-add-put
-add-put c = omega (arith, c .skipped .ensures, few (numberKind (c .before .before .before .kind-of .result)) (numberKind (c .before .before .kind-of2 .result)) .0)
+add-put c = omega (
+  arith,
+  c .skipped .ensures,
+  few (numberKind (c .before .before .before .kind-of .result))
+      (numberKind (c .before .before .kind-of2 .result)) .0,
+)
 
 cast-put : tie.Need-cast-put
-cast-put c = omega (arith, c .skipped .ensures, few (numberKind (c .before .before .before .kind-of .result)) (numberKind (c .before .before .kind-of2 .result)) .0)
+cast-put c = omega (
+  arith,
+  c .skipped .ensures,
+  few (numberKind (c .before .before .before .kind-of .result))
+      (numberKind (c .before .before .kind-of2 .result)) .0,
+)
 
 put-requires : tie.Need-put-requires
 put-requires c κs = search needs
@@ -62,15 +72,42 @@ joined-requires : tie.Need-joined-requires
 joined-requires c κs = search needs
 
 done-requires : tie.Need-done-requires
-done-requires c κs = (search needs, omega (arith, c .before .before .before .before .before .before .before .before .before .promoted .ensures .0, few (numberKind (c .before .before .before .before .before .before .before .before .before .before .before .before .before .before .before .before .before .kind-of .result)) (numberKind (c .before .before .before .before .before .before .before .before .before .before .before .before .before .before .before .before .kind-of2 .result)) .1), joined-kind (c .before .before .before .before .before .before .before .before .before .before .before .before .before .before .before .before .before .kind-of .ensures .0) (c .before .before .before .before .before .before .before .before .before .before .before .before .before .before .before .before .kind-of2 .ensures .0) (c .joined .ensures) .1, search needs)
+done-requires c κs = (
+  search needs,
+  omega (
+    arith,
+    c .before .before .before .before .before .before .before .before .before .promoted .ensures .0,
+    few (numberKind (c .before .before .before .before .before .before .before .before .before .before .before .before .before .before .before .before
+        .before .kind-of .result)) (numberKind (c .before .before .before .before .before .before .before .before .before .before .before .before .before
+        .before .before .before .kind-of2 .result)) .1,
+  ),
+  joined-kind (c .before .before .before .before .before .before .before .before .before .before .before
+      .before .before .before .before .before .before .kind-of .ensures .0)
+      (c .before .before .before .before .before .before .before .before .before .before .before .before .before .before .before .before .kind-of2 .ensures
+      .0) (c .joined .ensures) .1,
+  search needs,
+)
 
 same-length : tie.Need-same-length
 same-length c = search needs
 
 returns : tie.Need-returns
 returns c =
-    let k = joined-kind (c .before .before .before .before .before .before .before .before .before .before .before .before .before .before .before .before .before .before .kind-of .ensures .0) (c .before .before .before .before .before .before .before .before .before .before .before .before .before .before .before .before .before .kind-of2 .ensures .0) (c .before .joined .ensures) in
-    (cc (k .0), chosen-way (c .before .before .before .before .before .before .before .before .before .before .before .before .before .before .before .before .before .before .before .before .before .before .args .draft .now) (c .before .before .before .before .before .before .before .before .before .before .before .before .before .before .before .before .before .before .before .before .end-of .ensures .0) (c .before .before .before .before .before .before .before .before .before .before .before .before .before .before .before .before .before .before .before .end-of2 .ensures .0) (c .before .before .before .before .before .before .before .before .before .before .before .before .before .before .before .before .before .before .kind-of .ensures .0) (c .before .before .before .before .before .before .before .before .before .before .before .before .before .before .before .before .before .kind-of2 .ensures .0) (c .before .before .before .before .before .before .before .before .before .before .before .before .before .before .before .skipped .ensures) (c .before .before .before .before .before .before .before .before .before .before .before .before .before .before .put .ensures) (c .before .before .before .before .before .before .before .before .before .before .promoted .ensures .1))
+    let k = joined-kind (c .before .before .before .before .before .before .before .before .before .before .before .before .before .before .before .before
+    .before .before .kind-of .ensures .0) (c .before .before .before .before .before .before .before .before .before .before .before .before .before
+    .before .before .before .before .kind-of2 .ensures .0) (c .before .joined .ensures) in (
+      cc (k .0),
+      chosen-way (c .before .before .before .before .before .before .before .before .before .before .before .before .before .before .before
+          .before .before .before .before .before .before .before .args .draft .now)
+          (c .before .before .before .before .before .before .before .before .before .before .before .before .before .before .before .before .before .before
+          .before .before .end-of .ensures .0) (c .before .before .before .before .before .before .before .before .before .before .before .before .before
+          .before .before .before .before .before .before .end-of2 .ensures .0)
+          (c .before .before .before .before .before .before .before .before .before .before .before .before .before .before .before .before .before .before
+          .kind-of .ensures .0) (c .before .before .before .before .before .before .before .before .before .before .before .before .before .before .before
+          .before .before .kind-of2 .ensures .0) (c .before .before .before .before .before .before .before .before .before .before .before .before .before
+          .before .before .skipped .ensures) (c .before .before .before .before .before .before .before .before .before .before .before .before .before
+          .before .put .ensures) (c .before .before .before .before .before .before .before .before .before .before .promoted .ensures .1),
+    )
 
 pub chosen-spec : {M : Type 1} → statement M
 chosen-spec =

@@ -54,7 +54,11 @@ returns : tie.Need-returns
 returns c =
     let n = wordOperand (c .before .before .before .before .before .before .before .before .before .before .before .before .before .before .args .w) in
     let l : 18 ≤ n = omega arith in
-    rw (le-ltb n 18 l) (cc, cc (which n l (c .before .before .before .before .before .before .before .before .before .before .before .before .before .before .pre .0)))
+    rw (le-ltb n 18 l) (
+      cc,
+      cc (which n l (c .before .before .before .before .before .before .before .before .before .before .before .before .before .before
+          .pre .0)),
+    )
 
 cast-op : tie.Need-cast-op
 cast-op c = search needs
@@ -87,8 +91,16 @@ returns-2 : tie.Need-returns-2
 returns-2 c =
     let n = wordOperand (c .before .before .before .before .before .before .before .before .before .before .before .before .before .before .before .args .w) in
     let l : n < 18 = omega arith in
-    let t = binary-typed n (c .before .before .before .before .before .before .before .before .before .before .before .before .before .before .before .pre .0) (c .before .before .before .before .before .before .before .before .before .before .before .before .before .operand-of .ensures) (c .before .before .before .before .before .before .before .before .kind-of .ensures .0) (c .before .before .before .before .before .before .before .kind-of2 .ensures .0) (c .before .before .before .before .before .before .binary-kind .ensures) in
-    rw (lt-ltb n 18 l) (cc (t .0, t .1), cc (binary-at n (c .before .before .before .before .before .before .before .before .before .before .before .before .before .before .before .pre .0)))
+    let t = binary-typed n (c .before .before .before .before .before .before .before .before .before .before .before .before .before .before .before .pre
+    .0) (c .before .before .before .before .before .before .before .before .before .before .before .before .before .operand-of .ensures)
+    (c .before .before .before .before .before .before .before .before .kind-of .ensures .0)
+    (c .before .before .before .before .before .before .before .kind-of2 .ensures .0)
+    (c .before .before .before .before .before .before .binary-kind .ensures) in
+    rw (lt-ltb n 18 l) (
+      cc (t .0, t .1),
+      cc (binary-at n (c .before .before .before .before .before .before .before .before .before .before .before .before
+          .before .before .before .pre .0)),
+    )
 
 pub joined-spec : {M : Type 1} → statement M
 joined-spec =

@@ -16,7 +16,12 @@ wrong-of-requires : tie.Need-wrong-of-requires
 wrong-of-requires c κs = search needs
 
 added-requires : tie.Need-added-requires
-added-requires c κs = (search needs, bank-kind (c .before .before .before .before .args .bank) (c .before .before .before .before .pre .0) refl (c .before .bank-kind .ensures) .1, search needs)
+added-requires c κs = (
+  search needs,
+  bank-kind (c .before .before .before .before .args .bank)
+      (c .before .before .before .before .pre .0) refl (c .before .bank-kind .ensures) .1,
+  search needs,
+)
 
 same-length : tie.Need-same-length
 same-length c = search needs

@@ -44,7 +44,10 @@ returns c =
     let s = c .before .before .before .before .before .before .before .before .before .before .before .before in
     let n = functionOperator (s .args .f) in
     let h = binary-function (s .args .f) (s .pre .0) in
-    let t = binary-typed n h (c .before .before .before .before .before .before .before .before .before .before .operator .ensures) (c .before .before .before .before .before .before .before .before .before .kind-of .ensures .0) (c .before .before .before .before .before .before .before .before .kind-of2 .ensures .0) (c .before .before .before .before .before .before .before .binary-kind .ensures) in
+    let t = binary-typed n h (c .before .before .before .before .before .before .before .before .before .before .operator .ensures)
+    (c .before .before .before .before .before .before .before .before .before .kind-of .ensures .0)
+    (c .before .before .before .before .before .before .before .before .kind-of2 .ensures .0)
+    (c .before .before .before .before .before .before .before .binary-kind .ensures) in
     (cc (t .1), cc (binary-at n h))
 
 pub paired-spec : {M : Type 1} → statement M

@@ -32,7 +32,8 @@ same-length c = search needs
 
 returns : tie.Need-returns
 returns c =
-    let minus : prefixNumber (c .before .before .before .before .before .before .before .before .before .args .w) ≡ 0 = sym (c .before .before .before .before .before .before .before .sign-of .ensures) ∙ c .before .before .before .before .before .before .if1 .taken in
+    let minus : prefixNumber (c .before .before .before .before .before .before .before .before .before .args .w) ≡ 0 =
+    sym (c .before .before .before .before .before .before .before .sign-of .ensures) ∙ c .before .before .before .before .before .before .if1 .taken in
     rw minus (cc, cc)
 
 kind-of-requires-2 : tie.Need-kind-of-requires-2
@@ -64,7 +65,9 @@ returns-2 c =
     let s = c .before .before .before .before .before .before .before .before .before .before .before .before in
     let n = prefixNumber (s .args .w) in
     let h : n < 8 = omega (arith, s .pre .0) in
-    let t = unary-typed n h (c .before .before .before .before .before .before .before .before .before .before .sign-of .ensures) (c .before .before .before .before .before .before .before .before .kind-of2 .ensures .0) (c .before .before .before .before .before .before .before .unary-kind .ensures) in
+    let t = unary-typed n h (c .before .before .before .before .before .before .before .before .before .before .sign-of .ensures)
+    (c .before .before .before .before .before .before .before .before .kind-of2 .ensures .0)
+    (c .before .before .before .before .before .before .before .unary-kind .ensures) in
     (cc (t .0, t .1), cc (unary-at n h))
 
 pub prefixed-spec : {M : Type 1} → statement M

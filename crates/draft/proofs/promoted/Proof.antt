@@ -29,7 +29,10 @@ same-length : tie.Need-same-length
 same-length c = search needs
 
 returns-2 : tie.Need-returns-2
-returns-2 c = promoted-two _ _ (c .before .before .before .before .before .before .before .before .if2 .taken) (c .before .before .before .before .before .before .before .before .before .if1 .left) (c .before .before .before .before .before .before .before .before .before .before .before .pre .2) (c .before .before .before .before .before .before .put .ensures) (c .before .before .put2 .ensures)
+returns-2 c = promoted-two _ _ (c .before .before .before .before .before .before .before .before .if2 .taken)
+    (c .before .before .before .before .before .before .before .before .before .if1 .left)
+    (c .before .before .before .before .before .before .before .before .before .before .before .pre .2)
+    (c .before .before .before .before .before .before .put .ensures) (c .before .before .put2 .ensures)
 
 put-requires-3 : tie.Need-put-requires-3
 put-requires-3 c κs = search needs
@@ -41,7 +44,9 @@ same-length-2 : tie.Need-same-length-2
 same-length-2 c = search needs
 
 returns-3 : tie.Need-returns-3
-returns-3 c = promoted-one _ _ (c .before .before .before .before .if2 .left) (c .before .before .before .before .before .if1 .left) (c .before .before .before .before .before .before .before .pre .1) (c .before .before .before .before .before .before .before .pre .2) (c .before .before .put3 .ensures)
+returns-3 c = promoted-one _ _ (c .before .before .before .before .if2 .left) (c .before .before .before .before .before .if1 .left)
+    (c .before .before .before .before .before .before .before .pre .1) (c .before .before .before .before .before .before .before .pre .2)
+    (c .before .before .put3 .ensures)
 
 pub promoted-spec : {M : Type 1} → statement M
 promoted-spec =

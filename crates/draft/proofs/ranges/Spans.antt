@@ -20,10 +20,12 @@ use Rattle.draft.proofs.Typed.{number-kind}
 module _ (first count : ℕ) (w : CellWord first) where
   pub small : (wordNumber first < 256) × (rangeSpan first count < 65536)
   small =
-      let h = total-laws .range-small (cellBank first) (wordNumber first) (rangeSpan first count) (total-laws .span-good (cellBank first) (wordNumber first) (countOf count) (w .inside)) in
+      let h = total-laws .range-small (cellBank first) (wordNumber first) (rangeSpan first count)
+      (total-laws .span-good (cellBank first) (wordNumber first) (countOf count) (w .inside)) in
       (omega (arith, h .0, h .1), omega (arith, h .1))
 
-  module _ {m r i n : ℕ} (bank : m ≡ wordOperand first) (elements : r ≡ bankElements (bankNumbered m)) (element : i ≡ wordNumber first) (number : n ≡ wordNumber count) where
+  module _ {m r i n : ℕ} (bank : m ≡ wordOperand first) (elements : r ≡ bankElements (bankNumbered m)) (element : i ≡ wordNumber first)
+      (number : n ≡ wordNumber count) where
     many : r ≡ layoutOf (cellBank first) .elements
     many = elements ∙ rw (bank, lt-ltb (wordOperand first) 6 (w .few)) refl
 
@@ -36,7 +38,11 @@ module _ (first count : ℕ) (w : CellWord first) where
 -- ---- the kind of a total
 module _ (n m : ℕ) (few : m < 6) {a b r : ℕ} (op : a ≡ n) (bank : b ≡ m) where
   pub total-typed : n < 4 → r ≡ totalTyped (totalOf a) (bankNumbered b) → (numberKind r ≡ totalKind (totalAt n) (bankAt m)) × (r < 2)
-  total-typed h q = rw (q, op, bank, lt-ltb n 4 h, lt-ltb m 6 few) (number-kind (totalKind (totalAt n) (bankAt m)), kind-small (totalKind (totalAt n) (bankAt m)))
+  total-typed h q = rw (q, op, bank, lt-ltb n 4 h, lt-ltb m 6 few) (
+    number-kind (totalKind (totalAt n) (bankAt m)),
+    kind-small (totalKind (totalAt n) (bankAt m)),
+  )
 
   pub match-typed : n < 12 → r ≡ matchTyped (matchOf a) (bankNumbered b) → (numberKind r ≡ matchKind (matchAt n) (bankAt m)) × (r < 2)
-  match-typed h q = rw (q, op, bank, lt-ltb n 12 h, lt-ltb m 6 few) (number-kind (matchKind (matchAt n) (bankAt m)), kind-small (matchKind (matchAt n) (bankAt m)))
+  match-typed h q = rw (q, op, bank, lt-ltb n 12 h, lt-ltb m 6 few)
+      (number-kind (matchKind (matchAt n) (bankAt m)), kind-small (matchKind (matchAt n) (bankAt m)))

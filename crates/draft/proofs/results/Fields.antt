@@ -86,7 +86,8 @@ next-is r q = next-field (means r) ∙ ap nextOf q
 pub deep-is : (r : ℕ) {i : ℕ} → readOf r ≡ Deep i → readNext r ≡ i
 deep-is r q = next-field (means r) ∙ ap nextOf q
 
-pub done-next : (r : ℕ) {j e : ℕ} {k : Kind} {w : Diagnostic} → readOf r ≡ Done j e k w → (readNext r ≡ j) × (readEnd r ≡ e) × (readKind r ≡ k) × (readWrong r ≡ w)
+pub done-next : (r : ℕ) {j e : ℕ} {k : Kind} {w : Diagnostic} → readOf r ≡ Done j e k w
+    → (readNext r ≡ j) × (readEnd r ≡ e) × (readKind r ≡ k) × (readWrong r ≡ w)
 done-next r q = let h = done-is r (ap isDone q) in (cc, cc, cc, cc)
 
 -- ---- one token further

@@ -26,7 +26,8 @@ same-length : tie.Need-same-length
 same-length c = search needs
 
 returns : tie.Need-returns
-returns c = let t = integer-typed (c .before .before .before .before .before .before .before .before .kind-of .ensures .0) (c .before .before .before .before .before .before .before .of-integer .ensures) in (cc t, cc)
+returns c = let t = integer-typed (c .before .before .before .before .before .before .before .before .kind-of .ensures .0)
+    (c .before .before .before .before .before .before .before .of-integer .ensures) in (cc t, cc)
 
 pub since-spec : {M : Type 1} → statement M
 since-spec =

@@ -64,4 +64,5 @@ pub data Unaries (s : List ℕ) (first : ℕ) (o : List ℕ) (r : Read) : ℕ �
   none : Unaries s first o r first o r
   more : {i j e : ℕ} {k : Kind} {w : Diagnostic} {o′ : List ℕ} → Unaries s first o r (suc i) o′ (Done j e k w)
       → Unaries s first o r i (putInstr o′ e (Unary (unaryAt (prefixNumber (wordAt s i)))))
-      (Done j (e + 1) (unaryKind (unaryAt (prefixNumber (wordAt s i))) k) (earlier (unless (unaryTakes (unaryAt (prefixNumber (wordAt s i))) k) (wrongKindAt (wordPlace (wordAt s i)))) w))
+      (Done j (e + 1) (unaryKind (unaryAt (prefixNumber (wordAt s i))) k)
+      (earlier (unless (unaryTakes (unaryAt (prefixNumber (wordAt s i))) k) (wrongKindAt (wordPlace (wordAt s i)))) w))

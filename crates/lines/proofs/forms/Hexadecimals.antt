@@ -74,7 +74,8 @@ pattern s l a b =
     let e = shape s l a b in
     let n : length (drop 2 s) ≡ 8 = omega (arith, ap length e) in
     let t : eqb (suc (suc (length (drop 2 s)))) 10 ≡ true = eq-eqb (suc (suc (length (drop 2 s)))) 10 (omega arith) in
-    ap (λ (x : List ℕ). scannedForm (hexOf x)) (rest s) ∙ subst (λ (x : List ℕ). scannedForm (hexOf (drop 2 x)) ≡ hexForm x) (sym e) (rw t (digits (drop 2 s) n))
+    ap (λ (x : List ℕ). scannedForm (hexOf x)) (rest s) ∙ subst (λ (x : List ℕ). scannedForm (hexOf (drop 2 x)) ≡ hexForm x) (sym e)
+    (rw t (digits (drop 2 s) n))
 
 pub other-length : (s : List ℕ) → (length s ≡ 10 → ⊥) → Other ≡ hexForm s
 other-length s n = rw (ne-eqb (length s) 10 n, and-false)

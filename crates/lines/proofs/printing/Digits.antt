@@ -32,7 +32,8 @@ module _ {goal m : List ℕ} {at : ℕ} (base n : ℕ) where
   pub inside : (k : ℕ) → Left goal m at (lowDigits base k n) → at + k ≤ length m
   inside k l = rw (length-digits base k n) at (l .room)
 
-  pub next : (k b : ℕ) → 0 < k → b ≡ numeralByte (n % base) → Left goal m at (lowDigits base k n) → Left goal (set m (at + (k - 1)) b) at (lowDigits base (k - 1) (n / base))
+  pub next : (k b : ℕ) → 0 < k → b ≡ numeralByte (n % base) → Left goal m at (lowDigits base k n)
+      → Left goal (set m (at + (k - 1)) b) at (lowDigits base (k - 1) (n / base))
   next zero b p e l = absurd (omega arith)
   next (suc k) b p e l =
       let rest = lowDigits base k (n / base) in

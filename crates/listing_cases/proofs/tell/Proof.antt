@@ -18,7 +18,8 @@ array-share-prefix-out : tie.Need-array-share-prefix-out
 array-share-prefix-out c = search needs
 
 slice-aggregate-write-all : tie.Need-slice-aggregate-write-all
-slice-aggregate-write-all c = put-prefix (c .before .before .reply .ensures .0) (omega (arith, c .before .before .reply .ensures .1, c .before .before .before .before .blank-reply .ensures))
+slice-aggregate-write-all c = put-prefix (c .before .before .reply .ensures .0)
+    (omega (arith, c .before .before .reply .ensures .1, c .before .before .before .before .blank-reply .ensures))
 
 write-all-requires : tie.Need-write-all-requires
 write-all-requires c κs = search needs

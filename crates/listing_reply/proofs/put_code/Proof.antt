@@ -21,19 +21,56 @@ array-share-prefix-text : tie.Need-array-share-prefix-text
 array-share-prefix-text c = search needs
 
 slice-aggregate-put-all : tie.Need-slice-aggregate-put-all
-slice-aggregate-put-all c = sym (length-take-le (c .before .before .before .listing .result .length) (c .before .before .before .listing .last .1 .1 .0) (code-long (c .before .before .before .before .before .before .before .before .args .code .now) (c .before .before .before .before .before .before .before .before .args .n) (c .before .before .before .before .before .blank-listing .result) (c .before .before .before .listing .last .1 .1 .0) (c .before .before .before .before .before .blank-listing .ensures) (c .before .before .before .listing .ensures .0 .2) (c .before .before .before .listing .ensures .1)))
+slice-aggregate-put-all c = sym (length-take-le (c .before .before .before .listing .result .length) (c .before .before .before .listing .last .1 .1 .0)
+    (code-long (c .before .before .before .before .before .before .before .before .args .code .now)
+    (c .before .before .before .before .before .before .before .before .args .n) (c .before .before .before .before .before .blank-listing .result)
+    (c .before .before .before .listing .last .1 .1 .0) (c .before .before .before .before .before .blank-listing .ensures)
+    (c .before .before .before .listing .ensures .0 .2) (c .before .before .before .listing .ensures .1)))
 
 put-all-requires : tie.Need-put-all-requires
 put-all-requires c κs =
-    omega (arith, c .before .before .before .before .before .before .before .before .pre, c .before .before .before .before .before .blank-listing .ensures, c .before .before .before .listing .ensures .0 .2, length-take-le (c .before .before .before .listing .result .length) (c .before .before .before .listing .last .1 .1 .0) (code-long (c .before .before .before .before .before .before .before .before .args .code .now) (c .before .before .before .before .before .before .before .before .args .n) (c .before .before .before .before .before .blank-listing .result) (c .before .before .before .listing .last .1 .1 .0) (c .before .before .before .before .before .blank-listing .ensures) (c .before .before .before .listing .ensures .0 .2) (c .before .before .before .listing .ensures .1)))
+    omega (
+      arith,
+      c .before .before .before .before .before .before .before .before .pre,
+      c .before .before .before .before .before .blank-listing .ensures,
+      c .before .before .before .listing .ensures .0 .2,
+      length-take-le (c .before .before .before .listing .result .length)
+          (c .before .before .before .listing .last .1 .1 .0) (code-long (c .before .before .before .before .before .before .before .before .args .code .now)
+          (c .before .before .before .before .before .before .before .before .args .n) (c .before .before .before .before .before .blank-listing .result)
+          (c .before .before .before .listing .last .1 .1 .0) (c .before .before .before .before .before .blank-listing .ensures)
+          (c .before .before .before .listing .ensures .0 .2) (c .before .before .before .listing .ensures .1)),
+    )
 
 same-length : tie.Need-same-length
 same-length c = search needs
 
 returns : tie.Need-returns
 returns c =
-    let n = length-take-le (c .before .before .before .before .before .before .listing .result .length) (c .before .before .before .before .before .before .listing .last .1 .1 .0) (code-long (c .before .before .before .before .before .before .before .before .before .before .before .args .code .now) (c .before .before .before .before .before .before .before .before .before .before .before .args .n) (c .before .before .before .before .before .before .before .before .blank-listing .result) (c .before .before .before .before .before .before .listing .last .1 .1 .0) (c .before .before .before .before .before .before .before .before .blank-listing .ensures) (c .before .before .before .before .before .before .listing .ensures .0 .2) (c .before .before .before .before .before .before .listing .ensures .1)) in
-    (as-text (code-front (c .before .before .before .before .before .before .before .before .before .before .before .args .code .now) (c .before .before .before .before .before .before .before .before .before .before .before .args .n) (c .before .before .before .before .before .before .before .before .blank-listing .result) (c .before .before .before .before .before .before .listing .last .1 .1 .0) (c .before .before .before .before .before .before .before .before .blank-listing .ensures) (c .before .before .before .before .before .before .listing .ensures .0 .1) (c .before .before .before .before .before .before .listing .ensures .0 .2) (c .before .before .before .before .before .before .listing .ensures .1)) (c .before .before .put-all .ensures), omega (arith, c .before .before .put-all .ensures .end, n, c .before .before .before .before .before .before .before .before .blank-listing .ensures, c .before .before .before .before .before .before .listing .ensures .0 .2))
+    let n = length-take-le (c .before .before .before .before .before .before .listing .result .length)
+    (c .before .before .before .before .before .before .listing .last .1 .1 .0)
+    (code-long (c .before .before .before .before .before .before .before .before .before .before .before .args .code .now)
+    (c .before .before .before .before .before .before .before .before .before .before .before .args .n)
+    (c .before .before .before .before .before .before .before .before .blank-listing .result)
+    (c .before .before .before .before .before .before .listing .last .1 .1 .0)
+    (c .before .before .before .before .before .before .before .before .blank-listing .ensures)
+    (c .before .before .before .before .before .before .listing .ensures .0 .2) (c .before .before .before .before .before .before .listing .ensures .1)) in (
+      as-text (code-front (c .before .before .before .before .before .before .before .before .before .before .before .args .code .now)
+          (c .before .before .before .before .before .before .before .before .before .before .before .args .n)
+          (c .before .before .before .before .before .before .before .before .blank-listing .result)
+          (c .before .before .before .before .before .before .listing .last .1 .1 .0)
+          (c .before .before .before .before .before .before .before .before .blank-listing .ensures)
+          (c .before .before .before .before .before .before .listing .ensures .0 .1)
+          (c .before .before .before .before .before .before .listing .ensures .0 .2)
+          (c .before .before .before .before .before .before .listing .ensures .1)) (c .before .before .put-all .ensures),
+      omega (
+        arith,
+        c .before .before .put-all .ensures .end,
+        n,
+        c .before .before .before .before .before .before .before .before .blank-listing
+            .ensures,
+        c .before .before .before .before .before .before .listing .ensures .0 .2,
+      ),
+    )
 
 pub put-code-spec : {M : Type 1} → statement M
 put-code-spec =

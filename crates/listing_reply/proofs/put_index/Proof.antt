@@ -9,7 +9,10 @@ use Rattle.listing_reply.proofs.put_index.Statement.{statement}
 use Rattle.listing_reply.proofs.put_index.Tie as tie
 
 returns : tie.Need-returns
-returns c = (as-text (no-index (c .before .before .before .args .index .now) (c .before .before .before .args .bank) (c .if1 .taken)) (none-put _ _), omega arith)
+returns c = (
+  as-text (no-index (c .before .before .before .args .index .now) (c .before .before .before .args .bank) (c .if1 .taken)) (none-put _ _),
+  omega arith,
+)
 
 slice-aggregate-put-all : tie.Need-slice-aggregate-put-all
 slice-aggregate-put-all c = search needs

@@ -29,8 +29,21 @@ same-length : tie.Need-same-length
 same-length c = search needs
 
 returns : tie.Need-returns
-returns c =
-    (as-text (refusal-is (c .before .before .before .before .before .before .before .before .before .before .before .before .before .before .before .before .before .before .before .args .report) refl) (then (then (then (c .before .before .before .before .before .before .before .before .before .before .before .before .before .before .before .before .put-report .ensures .0) (c .before .before .before .before .before .before .before .before .before .before .before .put-all .ensures)) (c .before .before .before .before .before .before .before .put .ensures .0)) (c .before .before .put-all2 .ensures)), omega (arith, c .before .before .before .before .before .before .before .before .before .before .before .before .before .before .before .before .put-report .ensures .1, c .before .before .before .before .before .before .before .before .before .before .before .put-all .ensures .end, c .before .before .before .before .before .before .before .put .ensures .1, c .before .before .put-all2 .ensures .end))
+returns c = (
+  as-text (refusal-is (c .before .before .before .before .before .before .before .before .before .before .before .before .before .before .before .before
+      .before .before .before .args .report) refl) (then (then (then
+      (c .before .before .before .before .before .before .before .before .before .before .before .before .before .before .before .before .put-report
+      .ensures .0) (c .before .before .before .before .before .before .before .before .before .before .before .put-all .ensures))
+      (c .before .before .before .before .before .before .before .put .ensures .0)) (c .before .before .put-all2 .ensures)),
+  omega (
+    arith,
+    c .before .before .before .before .before .before .before .before .before .before .before .before .before .before .before .before
+        .put-report .ensures .1,
+    c .before .before .before .before .before .before .before .before .before .before .before .put-all .ensures .end,
+    c .before .before .before .before .before .before .before .put .ensures .1,
+    c .before .before .put-all2 .ensures .end,
+  ),
+)
 
 pub put-refusal-spec : {M : Type 1} → statement M
 put-refusal-spec =

@@ -51,24 +51,54 @@ same-length : tie.Need-same-length
 same-length c = search needs
 
 returns : tie.Need-returns
-returns c =
-    (as-text (text-done (c .before .before .before .before .before .before .before .before .before .before .before .before .before .before .before .before .before .before .before .args .text .now) (c .before .before .before .before .before .before .before .before .before .before .before .before .before .before .before .before .before .before .before .args .index .now) (c .before .before .before .before .before .before .before .before .before .before .before .before .before .before .before .before .before .before .before .args .k) (c .before .before .before .before .before .before .before .before .before .before .before .before .before .before .before .before .before .before .before .args .bank) (c .before .before .before .before .before .before .before .before .before .before .before .before .before .before .before .blank-code .result) (c .before .before .before .before .before .before .before .before .before .before .before .before .before .before .before .blank-code .ensures .0) (c .before .before .before .before .before .before .before .before .before .before .before .before .before .compile .ensures .0) (c .before .before .before .before .before .before .before .before .before .before .answer .given .1) (c .before .before .before .before .before .before .before .before .before .before .before .before .before .compile .ensures .1)) (then (c .before .before .before .before .before .before .put-code .ensures .0) (c .before .before .put-index .ensures .0)), omega (arith, c .before .before .before .before .before .before .put-code .ensures .1, c .before .before .put-index .ensures .1))
+returns c = (
+  as-text (text-done (c .before .before .before .before .before .before .before .before .before .before .before .before .before .before .before .before
+      .before .before .before .args .text .now) (c .before .before .before .before .before .before .before .before .before .before .before .before .before
+      .before .before .before .before .before .before .args .index .now)
+      (c .before .before .before .before .before .before .before .before .before .before .before .before .before .before .before .before .before .before
+      .before .args .k) (c .before .before .before .before .before .before .before .before .before .before .before .before .before .before .before .before
+      .before .before .before .args .bank) (c .before .before .before .before .before .before .before .before .before .before .before .before .before
+      .before .before .blank-code .result) (c .before .before .before .before .before .before .before .before .before .before .before .before .before
+      .before .before .blank-code .ensures .0) (c .before .before .before .before .before .before .before .before .before .before .before .before .before
+      .compile .ensures .0) (c .before .before .before .before .before .before .before .before .before .before .answer .given .1)
+      (c .before .before .before .before .before .before .before .before .before .before .before .before .before .compile .ensures .1))
+      (then (c .before .before .before .before .before .before .put-code .ensures .0) (c .before .before .put-index .ensures .0)),
+  omega (arith, c .before .before .before .before .before .before .put-code .ensures .1, c .before .before .put-index .ensures .1),
+)
 
 same-length-2 : tie.Need-same-length-2
 same-length-2 c = search needs
 
 returns-2 : tie.Need-returns-2
 returns-2 c =
-    let same = text-not (c .before .before .before .before .before .before .before .before .before .before .before .before .before .before .args .text .now) (c .before .before .before .before .before .before .before .before .before .before .before .before .before .before .args .index .now) (c .before .before .before .before .before .before .before .before .before .before .before .before .before .before .args .k) (c .before .before .before .before .before .before .before .before .before .before .before .before .before .before .args .bank) (c .before .before .before .before .before .before .before .before .before .before .blank-code .result) (c .before .before .before .before .before .before .before .before .before .before .blank-code .ensures .0) (c .before .before .before .before .before .before .before .before .compile .ensures .0) (fault-not (c .before .before .before .before .before .enum-told .given .1)) in
-    (as-text (ap refusalText (c .before .before .before .reported .ensures) ∙ same) (c .before .before .put-refusal .ensures .0), c .before .before .put-refusal .ensures .1)
+    let same = text-not (c .before .before .before .before .before .before .before .before .before .before .before .before .before .before .args .text .now)
+    (c .before .before .before .before .before .before .before .before .before .before .before .before .before .before .args .index .now)
+    (c .before .before .before .before .before .before .before .before .before .before .before .before .before .before .args .k)
+    (c .before .before .before .before .before .before .before .before .before .before .before .before .before .before .args .bank)
+    (c .before .before .before .before .before .before .before .before .before .before .blank-code .result)
+    (c .before .before .before .before .before .before .before .before .before .before .blank-code .ensures .0)
+    (c .before .before .before .before .before .before .before .before .compile .ensures .0)
+    (fault-not (c .before .before .before .before .before .enum-told .given .1)) in (
+      as-text (ap refusalText (c .before .before .before .reported .ensures) ∙ same) (c .before .before .put-refusal .ensures .0),
+      c .before .before .put-refusal .ensures .1,
+    )
 
 same-length-3 : tie.Need-same-length-3
 same-length-3 c = search needs
 
 returns-3 : tie.Need-returns-3
 returns-3 c =
-    let same = text-not (c .before .before .before .before .before .before .before .before .before .before .before .before .before .before .args .text .now) (c .before .before .before .before .before .before .before .before .before .before .before .before .before .before .args .index .now) (c .before .before .before .before .before .before .before .before .before .before .before .before .before .before .args .k) (c .before .before .before .before .before .before .before .before .before .before .before .before .before .before .args .bank) (c .before .before .before .before .before .before .before .before .before .before .blank-code .result) (c .before .before .before .before .before .before .before .before .before .before .blank-code .ensures .0) (c .before .before .before .before .before .before .before .before .compile .ensures .0) (refused-not (c .before .before .before .before .before .enum-told2 .given .1)) in
-    (as-text (ap refusalText (c .before .before .before .reported2 .ensures) ∙ same) (c .before .before .put-refusal2 .ensures .0), c .before .before .put-refusal2 .ensures .1)
+    let same = text-not (c .before .before .before .before .before .before .before .before .before .before .before .before .before .before .args .text .now)
+    (c .before .before .before .before .before .before .before .before .before .before .before .before .before .before .args .index .now)
+    (c .before .before .before .before .before .before .before .before .before .before .before .before .before .before .args .k)
+    (c .before .before .before .before .before .before .before .before .before .before .before .before .before .before .args .bank)
+    (c .before .before .before .before .before .before .before .before .before .before .blank-code .result)
+    (c .before .before .before .before .before .before .before .before .before .before .blank-code .ensures .0)
+    (c .before .before .before .before .before .before .before .before .compile .ensures .0)
+    (refused-not (c .before .before .before .before .before .enum-told2 .given .1)) in (
+      as-text (ap refusalText (c .before .before .before .reported2 .ensures) ∙ same) (c .before .before .put-refusal2 .ensures .0),
+      c .before .before .put-refusal2 .ensures .1,
+    )
 
 pub reply-to-text-spec : {M : Type 1} → statement M
 reply-to-text-spec =

@@ -48,7 +48,8 @@ returns-3 c = λ E.
     let k = numberOf (a .w) in
     let d = wordOf (a .w) in
     unspoilt E (a .h) (a .left) (a .v) (ofBinary (binaryOf k)) d (c .before .before .before .before .word-of .ensures) (c .before .before .before .if2 .left)
-    (binary-made E (a .h) (a .left) (a .v) (binaryOf k) (c .before .before .before .before .before .if1 .left) (rw (c .before .before .number-of .ensures) at (c .before .binary .ensures)) (c .outcome-step .ensures))
+    (binary-made E (a .h) (a .left) (a .v) (binaryOf k) (c .before .before .before .before .before .if1 .left)
+    (rw (c .before .before .number-of .ensures) at (c .before .binary .ensures)) (c .outcome-step .ensures))
 
 pub binary-spec : {M : Type 1} → statement M
 binary-spec =

@@ -32,7 +32,8 @@ returns : tie.Need-returns
 returns c = rw (c .enum-told .given .1)
 
 returns-2 : tie.Need-returns-2
-returns-2 c = c .stuck .ensures ∙ otherwise (c .before .before .args .how) (c .before .before .args .fault) (c .before .before .args .count) (c .before .match .keys2)
+returns-2 c = c .stuck .ensures ∙ otherwise (c .before .before .args .how) (c .before .before .args .fault) (c .before .before .args .count)
+    (c .before .match .keys2)
 
 pub failed-spec : {M : Type 1} → statement M
 failed-spec = tie.close (tie.spec enum-told stuck-requires returns returns-2)

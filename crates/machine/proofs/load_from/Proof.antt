@@ -21,10 +21,15 @@ stuck-step-requires : tie.Need-stuck-step-requires
 stuck-step-requires c κs = search needs
 
 returns : tie.Need-returns
-returns c = in-bank (memoryOf (now (c .before .before .before .before .before .before .args .image))) (c .before .before .before .before .before .before .args .h) (c .before .before .before .before .before .before .args .bank) (c .before .before .before .before .before .before .args .word) (c .before .before .before .before .layout-of .ensures) (c .before .before .if1 .taken) (c .outcome-step .ensures ∙ ap (outcomeStep (c .before .before .before .before .before .before .args .h)) (c .before .read .ensures))
+returns c = in-bank (memoryOf (now (c .before .before .before .before .before .before .args .image)))
+    (c .before .before .before .before .before .before .args .h) (c .before .before .before .before .before .before .args .bank)
+    (c .before .before .before .before .before .before .args .word) (c .before .before .before .before .layout-of .ensures) (c .before .before .if1 .taken)
+    (c .outcome-step .ensures ∙ ap (outcomeStep (c .before .before .before .before .before .before .args .h)) (c .before .read .ensures))
 
 returns-2 : tie.Need-returns-2
-returns-2 c = c .stuck-step .ensures ∙ past-bank (memoryOf (now (c .before .before .before .before .before .args .image))) (c .before .before .before .before .before .args .h) (c .before .before .before .before .before .args .bank) (c .before .before .before .before .before .args .word) (c .before .before .before .layout-of .ensures) (c .before .if1 .left)
+returns-2 c = c .stuck-step .ensures ∙ past-bank (memoryOf (now (c .before .before .before .before .before .args .image)))
+    (c .before .before .before .before .before .args .h) (c .before .before .before .before .before .args .bank)
+    (c .before .before .before .before .before .args .word) (c .before .before .before .layout-of .ensures) (c .before .if1 .left)
 
 pub load-from-spec : {M : Type 1} → statement M
 load-from-spec =

@@ -16,7 +16,8 @@ use Rattle.machine.proofs.run.Tie as tie
 
 abbrev Inv-loop : tie.InvT-loop
 Inv-loop code n image tick stack₀ h₀ place₀ count₀ there stack h place count =
-    (length stack ≡ maxHeight) × (h ≤ maxHeight) × (count ≤ (1 + maxCells) * place) × (there ≤ n) × (there ≤ length code / 8) × (n ≤ 2048) × (place ≤ 4096) × Stands (memoryAt tick image) code n place (held h stack) count
+    (length stack ≡ maxHeight) × (h ≤ maxHeight) × (count ≤ (1 + maxCells) * place) × (there ≤ n) × (there ≤ length code / 8) × (n ≤ 2048) × (place ≤ 4096)
+    × Stands (memoryAt tick image) code n place (held h stack) count
 
 abbrev μ-loop : tie.MeasureT-loop
 μ-loop code n image tick stack₀ h₀ place₀ count₀ there stack h place count = there - place
@@ -45,7 +46,8 @@ made c =
     (⊎-elim (λ s. performed E (l .h) (l .stack) w class (s .1 .given .1) tt (λ p. refl) (s .2 .ensures .0) (s .6 ∙ s .4 .ensures E _) (s .5))
     (⊎-elim (λ s. performed E (l .h) (l .stack) w class (s .1 .given .1) tt (s .2 .ensures .0) (s .4 .ensures .0) (s .8 ∙ s .6 .ensures E) (s .7))
     (⊎-elim (λ s. totalled E (l .h) (l .stack) w class (s .1 .given .1) (s .2 .ensures (a .tick)) (s .6 ∙ s .4 .ensures) (s .5))
-    (⊎-elim (λ s. matched E (l .h) (l .stack) w class (s .1 .given .1) (s .2 .ensures .0) (s .4 .ensures (a .tick)) (s .6 .ensures) (s .9 ∙ s .7 .ensures) (s .8))
+    (⊎-elim (λ s. matched E (l .h) (l .stack) w class (s .1 .given .1) (s .2 .ensures .0) (s .4 .ensures (a .tick)) (s .6 .ensures) (s .9 ∙ s .7 .ensures)
+    (s .8))
     (λ s. performed E (l .h) (l .stack) w class (s .1 .given .1) tt (λ p. refl) (λ p. refl) (s .4 ∙ s .2 .ensures) (s .3))))))))))))))
     (c .match .came))
 
@@ -215,7 +217,8 @@ add-count-2 c =
     let a = c .before .before .before .before .before .before .before .before .before .before .before .args in
     let E = memoryAt (a .tick) (now (a .image)) in
     let t = turn (l .h) (l .stack) (omega arith) (l .inv .7) (c .before .before .before .before .before .fetch .ensures)
-    (totalled E (l .h) (l .stack) (c .before .before .before .before .before .fetch .result) {k = l .count} (c .before .before .before .before .class-of .ensures) (c .before .before .enum-told12 .given .1) (c .before .total .ensures (a .tick)) refl refl) in
+    (totalled E (l .h) (l .stack) (c .before .before .before .before .before .fetch .result) {k = l .count}
+    (c .before .before .before .before .class-of .ensures) (c .before .before .enum-told12 .given .1) (c .before .total .ensures (a .tick)) refl refl) in
     omega (arith, few t)
 
 outcome-step-requires : tie.Need-outcome-step-requires Inv-loop μ-loop
@@ -242,7 +245,9 @@ add-count-3 c =
     let a = c .before .before .before .before .before .before .before .before .before .before .before .before .before .args in
     let E = memoryAt (a .tick) (now (a .image)) in
     let t = turn (l .h) (l .stack) (omega arith) (l .inv .7) (c .before .before .before .before .before .before .before .fetch .ensures)
-    (matched E (l .h) (l .stack) (c .before .before .before .before .before .before .before .fetch .result) {k = l .count} (c .before .before .before .before .before .before .class-of .ensures) (c .before .before .before .before .enum-told13 .given .1) (c .before .before .before .from-top8 .ensures .0) (c .before .matching .ensures (a .tick)) refl refl refl) in
+    (matched E (l .h) (l .stack) (c .before .before .before .before .before .before .before .fetch .result) {k = l .count}
+    (c .before .before .before .before .before .before .class-of .ensures) (c .before .before .before .before .enum-told13 .given .1)
+    (c .before .before .before .from-top8 .ensures .0) (c .before .matching .ensures (a .tick)) refl refl refl) in
     omega (arith, few t)
 
 less-one-requires : tie.Need-less-one-requires Inv-loop μ-loop
@@ -332,7 +337,8 @@ finished-requires c κs = omega arith
 returns-3 : tie.Need-returns-3 Inv-loop μ-loop
 returns-3 c =
     let l = c .before .before .before .loop in
-    c .finished .ensures ∙ finishes (l .h) _ (l .inv .7) (rw (c .before .before .before .before .min .ensures) at (c .before .before .loop-test .left)) (held-finish (l .h) (l .stack))
+    c .finished .ensures ∙ finishes (l .h) _ (l .inv .7) (rw (c .before .before .before .before .min .ensures) at (c .before .before .loop-test .left))
+    (held-finish (l .h) (l .stack))
 
 pub run-spec : {M : Type 1} → statement M
 run-spec =

@@ -74,7 +74,8 @@ returns-2 c = λ t.
     let a = start .args in
     let E = memoryAt t (now (a .image)) in
     c .no-visit .ensures ∙ past (totalOver E (a .o)) (wordOf (a .w)) (at-word-of .word-of .ensures) (at-range-bank .range-bank .ensures)
-    (sym (at-range-first .range-first .ensures)) (sym (at-range-count .range-count .ensures)) (sym (at-bank-numbered .bank-numbered .ensures) ∙ at-b .b .given .1)
+    (sym (at-range-first .range-first .ensures)) (sym (at-range-count .range-count .ensures))
+    (sym (at-bank-numbered .bank-numbered .ensures) ∙ at-b .b .given .1)
     (at-is-good .is-good .ensures) (at-if1 .if1 .left)
 
 returns-3 : tie.Need-returns-3

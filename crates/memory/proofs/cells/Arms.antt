@@ -82,7 +82,8 @@ module _ (s : List ℕ) (b a : Bank) (i : ℕ) (e : b ≡ a) (h : T (hasCell s b
     number p m =
         m ∙ ap (λ (z : ℕ). numberIn a i (take (layoutOf a .width) (drop z s))) (p ∙ ap (blockPlace a) q) ∙ ap (λ (x : Bank). packed .get s x i) (sym e)
 
-    image : {at : ℕ} {t : List ℕ} (m : ℕ) → at ≡ blockPlace a n → t ≡ sets s at (blockWith a i m (take (layoutOf a .width) (drop at s))) → t ≡ packed .put s b i m
+    image : {at : ℕ} {t : List ℕ} (m : ℕ) → at ≡ blockPlace a n → t ≡ sets s at (blockWith a i m (take (layoutOf a .width) (drop at s)))
+        → t ≡ packed .put s b i m
     image m p w =
         w ∙ ap (λ (z : ℕ). sets s z (blockWith a i m (take (layoutOf a .width) (drop z s)))) (p ∙ ap (blockPlace a) q)
         ∙ ap (λ (x : Bank). packed .put s x i m) (sym e)

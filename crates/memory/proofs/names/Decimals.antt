@@ -44,7 +44,8 @@ pub digits-split : (cs : List ℕ) → cs ≡ digitsOf cs ++ drop (length (digit
 digits-split [] = refl
 digits-split (c ∷ cs) = go (isDigit c) (digits-split cs)
   where
-    go : (t : Bool) → cs ≡ digitsOf cs ++ drop (length (digitsOf cs)) cs → c ∷ cs ≡ cond t (c ∷ digitsOf cs) [] ++ drop (length (cond t (c ∷ digitsOf cs) [])) (c ∷ cs)
+    go : (t : Bool) → cs ≡ digitsOf cs ++ drop (length (digitsOf cs)) cs
+        → c ∷ cs ≡ cond t (c ∷ digitsOf cs) [] ++ drop (length (cond t (c ∷ digitsOf cs) [])) (c ∷ cs)
     go true h = ap (λ (l : List ℕ). c ∷ l) h
     go false h = refl
 
@@ -62,7 +63,8 @@ digits-all [] h = (refl, refl)
 digits-all (c ∷ cs) h = go (isDigit c) refl h (λ k. digits-all cs k)
   where
     go : (t : Bool) → isDigit c ≡ t → length (cond t (c ∷ digitsOf cs) []) ≡ suc (length cs)
-        → (length (digitsOf cs) ≡ length cs → (allDigits cs ≡ true) × (digitsOf cs ≡ cs)) → ((isDigit c && allDigits cs) ≡ true) × (cond t (c ∷ digitsOf cs) [] ≡ c ∷ cs)
+        → (length (digitsOf cs) ≡ length cs → (allDigits cs ≡ true) × (digitsOf cs ≡ cs))
+        → ((isDigit c && allDigits cs) ≡ true) × (cond t (c ∷ digitsOf cs) [] ≡ c ∷ cs)
     go true e k ih = let d = ih (omega arith) in (rw (e, d .0), ap (λ (l : List ℕ). c ∷ l) (d .1))
     go false e k ih = absurd (omega arith)
 

@@ -35,7 +35,8 @@ returns c =
 returns-2 : tie.Need-returns-2
 returns-2 c =
     let s = c .before .before .before .before .before .args in
-    as-reals (intArith (s .op)) (realArith (s .op)) (s .a) (s .b) (sym (c .before .before .before .before .paired .ensures) ∙ c .before .before .x .given .1) (c .arith2 .ensures)
+    as-reals (intArith (s .op)) (realArith (s .op)) (s .a) (s .b) (sym (c .before .before .before .before .paired .ensures)
+    ∙ c .before .before .x .given .1) (c .arith2 .ensures)
 
 pub arith-spec : {M : Type 1} → statement M
 arith-spec = tie.close (tie.spec paired-requires enum-known-i arith-requires enum-known-x arith-requires-2 returns returns-2)

@@ -25,7 +25,8 @@ returns c =
     let v = c .before .before .v .given in
     let F : SFits w32 (v .0 .0) = search needs in
     let R : SFits w32 (c .since .result) = search needs in
-    rw (v .1) (ap (λ z. Done (Int z)) (toZ-ofZ w32 (c .since .result) R ∙ on-int (sinceInt (c .before .before .before .before .args .tick)) F (c .since .ensures)))
+    rw (v .1) (ap (λ z. Done (Int z)) (toZ-ofZ w32 (c .since .result) R
+    ∙ on-int (sinceInt (c .before .before .before .before .args .tick)) F (c .since .ensures)))
 
 returns-2 : tie.Need-returns-2
 returns-2 c = search needs

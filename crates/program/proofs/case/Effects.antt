@@ -46,7 +46,8 @@ module _ (m t x : List ℕ) (n : Lengths) (l : List ℕ) (in-target : length l �
     short : length v ≤ length l
     short = rw (f, length-drop) (omega arith)
 
-    pub target-line : true ≡ equalBytes (take k l) targetKey → {t′ : List ℕ} {e : ℕ} → Puts t 0 t′ e v → Does m t′ x (record { target = e; text = n .text; line = 0 })
+    pub target-line : true ≡ equalBytes (take k l) targetKey → {t′ : List ℕ} {e : ℕ} → Puts t 0 t′ e v
+        → Does m t′ x (record { target = e; text = n .text; line = 0 })
     unfolding keyed
     target-line a {t′} {e} p =
         let z : length t′ ≡ length t = ap length (p .bytes) ∙ length-sets t 0 v in

@@ -23,7 +23,8 @@ module _ (out text : List ℕ) where
   pub no-room : length out < length text → (0 ≡ writtenLength out text) × ((out ≡ writeText out text) × HasPrefix 0 out)
   no-room h = rw (lt-ltb (length out) (length text) h) (refl, (refl, (omega arith, refl)))
 
-  pub room : length text ≤ length out → {new : List ℕ} {next : ℕ} → Puts out 0 new next text → (next ≡ writtenLength out text) × ((new ≡ writeText out text) × HasPrefix next new)
+  pub room : length text ≤ length out → {new : List ℕ} {next : ℕ} → Puts out 0 new next text
+      → (next ≡ writtenLength out text) × ((new ≡ writeText out text) × HasPrefix next new)
   room h {new} {next} p =
       let n : next ≡ length text = p .end ∙ zero-add (length text) in
       let l : length new ≡ length out = ap length (p .bytes) ∙ length-sets out 0 text in

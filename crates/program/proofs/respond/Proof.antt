@@ -53,8 +53,11 @@ same-length c = search needs
 
 returns : tie.Need-returns
 returns c =
-    let a = c .before .before .before .before .before .before .before .before .before .before .before .before .before .before .before .before .before .before .before .before .before .before .before .before .before .before .args in
-    let kept = c .before .before .before .before .before .before .before .before .before .before .before .before .before .before .before .feed .ensures .1 ∙ ap (λ (p : Progress). afterBytes p (a .input .now)) (start (c .before .before .before .before .before .before .before .before .before .before .before .before .before .before .before .before .before .before .before .before .before .before .before .blank-image .ensures .1)) in
+    let a = c .before .before .before .before .before .before .before .before .before .before .before .before .before .before .before .before .before
+    .before .before .before .before .before .before .before .before .before .args in
+    let kept = c .before .before .before .before .before .before .before .before .before .before .before .before .before .before .before .feed .ensures .1
+    ∙ ap (λ (p : Progress). afterBytes p (a .input .now)) (start (c .before .before .before .before .before .before .before .before .before .before
+    .before .before .before .before .before .before .before .before .before .before .before .before .before .blank-image .ensures .1)) in
     replies (a .input .now) kept (c .before .before .before .before .before .finish .ensures)
 
 pub respond-spec : {M : Type 1} → statement M

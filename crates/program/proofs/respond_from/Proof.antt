@@ -47,7 +47,8 @@ slice-aggregate-finish-4 : tie.Need-slice-aggregate-finish-4
 slice-aggregate-finish-4 c = search needs
 
 finish-requires : tie.Need-finish-requires
-finish-requires c κs = known (c .before .before .before .before .before .before .before .before .before .before .before .before .receive .ensures) (c .before .before .before .before .before .before .n .given .1) .ready
+finish-requires c κs = known (c .before .before .before .before .before .before .before .before .before .before .before .before .receive .ensures)
+    (c .before .before .before .before .before .before .n .given .1) .ready
 
 enum-told : tie.Need-enum-told
 enum-told c = search needs
@@ -62,7 +63,12 @@ same-length : tie.Need-same-length
 same-length c = search needs
 
 returns : tie.Need-returns
-returns c = (outputs (known (c .before .before .before .before .before .before .before .before .before .before .before .before .before .before .before .before .before .before .receive .ensures) (c .before .before .before .before .before .before .before .before .before .before .before .before .n .given .1)) (c .before .before .before .before .before .finish .ensures), c .before .before .before .before .before .finish .ensures .there)
+returns c = (
+  outputs (known (c .before .before .before .before .before .before .before .before .before .before .before .before .before .before .before
+      .before .before .before .receive .ensures) (c .before .before .before .before .before .before .before .before .before .before .before .before .n .given
+      .1)) (c .before .before .before .before .before .finish .ensures),
+  c .before .before .before .before .before .finish .ensures .there,
+)
 
 same-length-2 : tie.Need-same-length-2
 same-length-2 c = search needs

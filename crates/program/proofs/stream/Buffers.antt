@@ -82,7 +82,8 @@ module _ {whole : Progress} {piece m t x l : List ℕ} {n : Lengths} {i : ℕ} (
   next h {m′} {t′} {x′} {l′} {r} g =
       record {
         ready = g .0;
-        rest = rw add-one (ap (λ (p : Progress). afterBytes p (drop (suc i) piece)) (g .1) ∙ sym (ap (afterBytes (progressIn m t x l n)) (drop-cons piece i 0 h)) ∙ f .rest);
+        rest = rw add-one (ap (λ (p : Progress). afterBytes p (drop (suc i) piece)) (g .1)
+            ∙ sym (ap (afterBytes (progressIn m t x l n)) (drop-cons piece i 0 h)) ∙ f .rest);
       }
 
   pub end : length piece ≤ i → StreamBuffers m t x l n × (progressIn m t x l n ≡ whole)

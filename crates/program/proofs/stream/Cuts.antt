@@ -175,7 +175,8 @@ module _ (s t : Case) (a : Agrees s t) where
       like =
           record {
             target =
-                λ e. let z = same-length (take k l) targetKey e in no-long-target _ (omega (arith, front, name)) ∙ sym (no-long-target _ (omega (arith, rest, name)));
+                λ e. let z = same-length (take k l) targetKey e in no-long-target _ (omega (arith, front, name))
+                ∙ sym (no-long-target _ (omega (arith, rest, name)));
             text = λ e. let z = same-length (take k l) exprKey e in no-formula _ (omega (arith, front, name)) ∙ sym (no-formula _ (omega (arith, rest, name)));
             form = λ b e. let z = short-name (take k l) e in no-value b _ (omega (arith, front, name)) ∙ sym (no-value b _ (omega (arith, rest, name)));
           }
@@ -197,7 +198,11 @@ module _ (s t : Case) (a : Agrees s t) where
       nothing : keyed t (take k l) (drop (suc k) l) ≡ t
       unfolding keyed
       nothing =
-          rw (differ (take k l) targetKey (λ e. omega (arith, far)), differ (take k l) exprKey (λ e. omega (arith, far)), no-name (take k l) (omega (arith, far)))
+          rw (
+            differ (take k l) targetKey (λ e. omega (arith, far)),
+            differ (take k l) exprKey (λ e. omega (arith, far)),
+            no-name (take k l) (omega (arith, far)),
+          )
 
       ignored : afterLine t l ≡ t
       unfolding afterLine

@@ -49,7 +49,8 @@ rest (c ∷ cs) l s t a =
   where
     step : (b : Bool) → Ends cs [] (afterLine s (take keptBytes l)) (afterLine t l) → Ends cs (l ++ (c ∷ [])) s t
         → Agrees
-        (caseAtEnd (afterBytes (cond b (record { case = afterLine s (take keptBytes l); line = [] }) (record { case = s; line = take keptBytes (take keptBytes l ++ (c ∷ [])) })) cs))
+        (caseAtEnd (afterBytes (cond b (record { case = afterLine s (take keptBytes l); line = [] })
+        (record { case = s; line = take keptBytes (take keptBytes l ++ (c ∷ [])) })) cs))
         (afterLines t (joined l (cond b ([] ∷ lines cs) (consLine c (lines cs)))))
     step true e f = rw (append-nil l) (rw (none-joined (afterLine t l) (lines cs)) at e)
     step false e f = rw (take-more keptBytes l c, ← one-joined l c (lines cs)) f

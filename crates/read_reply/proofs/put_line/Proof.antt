@@ -35,7 +35,11 @@ same-length c = search needs
 returns : tie.Need-returns
 returns c =
     let line = then (c .before .before .before .before .before .before .before .put-name .ensures .0) (c .before .before .put-all .ensures) in
-    let same = line-is (c .before .before .before .before .before .before .before .before .before .before .before .before .args .number) (c .before .before .before .before .before .before .before .before .before .first-number .result) (c .before .before .before .before .before .before .before .before .before .before .bank-of .result) (c .before .before .before .before .before .before .before .before .before .before .bank-of .ensures) (c .before .before .before .before .before .before .before .before .before .first-number .ensures) in
+    let same = line-is (c .before .before .before .before .before .before .before .before .before .before .before .before .args .number)
+    (c .before .before .before .before .before .before .before .before .before .first-number .result)
+    (c .before .before .before .before .before .before .before .before .before .before .bank-of .result)
+    (c .before .before .before .before .before .before .before .before .before .before .bank-of .ensures)
+    (c .before .before .before .before .before .before .before .before .before .first-number .ensures) in
     (as-text same line, omega arith)
 
 pub put-line-spec : {M : Type 1} → statement M

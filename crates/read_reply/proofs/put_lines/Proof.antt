@@ -27,8 +27,16 @@ wide-requires c κs = search needs
 
 put-line-requires : tie.Need-put-line-requires Inv-loop μ-loop
 put-line-requires c κs =
-    let small = c .before .before .before .before .before .before .before .pre .0 .below (c .before .before .before .before .loop .k) (c .before .before .before .loop-test .taken) in
-    (omega (arith, small, c .wide .ensures), omega (arith, c .before .before .before .before .loop .inv .short, long (c .before .before .before .before .loop .inv), c .before .before .before .before .before .before .before .pre .1))
+    let small = c .before .before .before .before .before .before .before .pre .0 .below (c .before .before .before .before .loop .k)
+    (c .before .before .before .loop-test .taken) in (
+      omega (arith, small, c .wide .ensures),
+      omega (
+        arith,
+        c .before .before .before .before .loop .inv .short,
+        long (c .before .before .before .before .loop .inv),
+        c .before .before .before .before .before .before .before .pre .1,
+      ),
+    )
 
 add-k : tie.Need-add-k Inv-loop μ-loop
 add-k c = search needs
@@ -37,7 +45,9 @@ loop-less : tie.Need-loop-less Inv-loop μ-loop
 loop-less c = search needs
 
 loop-again : tie.Need-loop-again Inv-loop μ-loop
-loop-again c = next (c .before .before .before .before .before .before .before .loop .inv) (c .before .before .before .before .before .before .loop-test .taken) (c .before .before .before .wide .ensures) (c .before .before .put-line .ensures .0) (c .before .before .put-line .ensures .1)
+loop-again c = next (c .before .before .before .before .before .before .before .loop .inv)
+    (c .before .before .before .before .before .before .loop-test .taken) (c .before .before .before .wide .ensures)
+    (c .before .before .put-line .ensures .0) (c .before .before .put-line .ensures .1)
 
 same-length : tie.Need-same-length Inv-loop μ-loop
 same-length c = long (c .before .loop .inv)

@@ -32,8 +32,11 @@ returns : tie.Need-returns
 returns c =
     let one = c .before .before .before .before .before .before .before .before .before .mark .ensures in
     let two = c .before .before .before .before .before .before .mark2 .ensures in
-    let list = c .before .before .listing .ensures in
-    (list .0 ∙ marks-count _ _ _ _ one two, list .1 ∙ ap (sets (now (c .before .before .before .before .before .before .before .before .before .before .before .before .before .before .args .list)) 0) (marks-list _ _ _ _ one two))
+    let list = c .before .before .listing .ensures in (
+      list .0 ∙ marks-count _ _ _ _ one two,
+      list .1 ∙ ap (sets (now (c .before .before .before .before .before .before .before .before .before .before
+          .before .before .before .before .args .list)) 0) (marks-list _ _ _ _ one two),
+    )
 
 pub cells-spec : {M : Type 1} → statement M
 cells-spec =

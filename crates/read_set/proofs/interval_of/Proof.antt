@@ -103,10 +103,12 @@ returns-3 : tie.Need-returns-3
 returns-3 c = of-silent _ Class.Jump _ (c .before .before .before .class-of .ensures) (c .before .enum-told3 .given .1) jump (c .nothing3 .ensures)
 
 returns-4 : tie.Need-returns-4
-returns-4 c = of-silent _ Class.JumpIfFalse _ (c .before .before .before .class-of .ensures) (c .before .enum-told4 .given .1) jump-if-false (c .nothing4 .ensures)
+returns-4 c = of-silent _ Class.JumpIfFalse _ (c .before .before .before .class-of .ensures)
+    (c .before .enum-told4 .given .1) jump-if-false (c .nothing4 .ensures)
 
 returns-5 : tie.Need-returns-5
-returns-5 c = of-silent _ Class.JumpIfTrue _ (c .before .before .before .class-of .ensures) (c .before .enum-told5 .given .1) jump-if-true (c .nothing5 .ensures)
+returns-5 c = of-silent _ Class.JumpIfTrue _ (c .before .before .before .class-of .ensures)
+    (c .before .enum-told5 .given .1) jump-if-true (c .nothing5 .ensures)
 
 returns-6 : tie.Need-returns-6
 returns-6 c = of-silent _ Class.Tick _ (c .before .before .before .class-of .ensures) (c .before .enum-told6 .given .1) tick (c .nothing6 .ensures)

@@ -12,7 +12,8 @@ use Rattle.read_set.proofs.listing.Statement.{statement}
 use Rattle.read_set.proofs.listing.Tie as tie
 
 abbrev Inv-loop : tie.InvT-loop
-Inv-loop reaches list₀ found₀ end₀ number₀ list found end number = (number ≤ cellCount) × (found ≤ number) × (length reaches ≡ cellCount) × (end ≡ reachedTo reaches number) × Listing reaches list₀ list number found
+Inv-loop reaches list₀ found₀ end₀ number₀ list found end number = (number ≤ cellCount) × (found ≤ number) × (length reaches ≡ cellCount)
+    × (end ≡ reachedTo reaches number) × Listing reaches list₀ list number found
 
 abbrev μ-loop : tie.MeasureT-loop
 μ-loop reaches list₀ found₀ end₀ number₀ list found end number = cellCount - number
@@ -51,8 +52,15 @@ loop-less c = omega arith
 loop-again : tie.Need-loop-again Inv-loop μ-loop
 loop-again c =
     let l = c .before .before .before .before .before .before .before .before .loop in
-    let r = reached (now (c .before .before .before .before .before .before .before .before .before .before .before .args .reaches)) (l .number) (l .inv .3) (c .before .before .before .before .before .larger .ensures) in
-    (omega arith, omega arith, l .inv .2, r, listed (l .inv .4) (c .before .before .before .before .before .before .before .loop-test .taken) r (c .before .before .before .before .if1 .taken) (c .before .before .put .ensures))
+    let r = reached (now (c .before .before .before .before .before .before .before .before .before .before .before .args .reaches)) (l .number) (l .inv .3)
+    (c .before .before .before .before .before .larger .ensures) in (
+      omega arith,
+      omega arith,
+      l .inv .2,
+      r,
+      listed (l .inv .4) (c .before .before .before .before .before .before .before .loop-test .taken) r
+          (c .before .before .before .before .if1 .taken) (c .before .before .put .ensures),
+    )
 
 loop-less-2 : tie.Need-loop-less-2 Inv-loop μ-loop
 loop-less-2 c = omega arith

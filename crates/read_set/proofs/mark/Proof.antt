@@ -39,8 +39,13 @@ loop-less c = search needs
 
 loop-again : tie.Need-loop-again Inv-loop μ-loop
 loop-again c =
-    let l = c .before .before .before .before .before .before .before .loop in
-    (omega arith, l .inv .1, l .inv .2, turn (l .inv .3) (omega arith) (c .before .before .before .before .before .fetch .ensures) (c .before .before .before .before .interval-of .ensures) (c .before .before .extend .ensures))
+    let l = c .before .before .before .before .before .before .before .loop in (
+      omega arith,
+      l .inv .1,
+      l .inv .2,
+      turn (l .inv .3) (omega arith) (c .before .before .before .before .before .fetch .ensures)
+          (c .before .before .before .before .interval-of .ensures) (c .before .before .extend .ensures),
+    )
 
 same-length : tie.Need-same-length Inv-loop μ-loop
 same-length c = c .before .loop .inv .3 .long ∙ sym (c .before .before .before .before .before .pre)

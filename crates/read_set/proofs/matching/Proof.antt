@@ -29,11 +29,15 @@ nothing-requires c κs = search needs
 
 returns : tie.Need-returns
 returns c =
-    match-known _ (wordOf (c .before .before .before .before .before .before .args .w)) (found matchOf (c .before .before .before .before .before .number-of .ensures) (c .before .before .before .before .match-of .ensures) (c .before .before .enum-told .given .1)) (c .before .word-of .ensures) (c .range .ensures)
+    match-known _ (wordOf (c .before .before .before .before .before .before .args .w))
+    (found matchOf (c .before .before .before .before .before .number-of .ensures) (c .before .before .before .before .match-of .ensures)
+    (c .before .before .enum-told .given .1)) (c .before .word-of .ensures) (c .range .ensures)
 
 returns-2 : tie.Need-returns-2
 returns-2 c =
-    match-none (wordOf (c .before .before .before .before .before .args .w)) (found matchOf (c .before .before .before .before .number-of .ensures) (c .before .before .before .match-of .ensures) (c .before .enum-told2 .given .1)) (c .nothing .ensures)
+    match-none (wordOf (c .before .before .before .before .before .args .w))
+    (found matchOf (c .before .before .before .before .number-of .ensures) (c .before .before .before .match-of .ensures)
+    (c .before .enum-told2 .given .1)) (c .nothing .ensures)
 
 pub matching-spec : {M : Type 1} → statement M
 matching-spec =

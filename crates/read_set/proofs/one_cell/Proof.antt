@@ -29,11 +29,16 @@ nothing-requires c κs = search needs
 
 returns : tie.Need-returns
 returns c =
-    cell-known _ (wordOf (c .before .before .before .before .before .before .before .args .w)) (found bankNumbered (c .before .before .before .before .before .before .number-of .ensures) (c .before .before .before .before .before .bank-numbered .ensures) (c .before .before .before .b .given .1)) (c .before .word-of .ensures) (c .stretch .ensures)
+    cell-known _ (wordOf (c .before .before .before .before .before .before .before .args .w))
+    (found bankNumbered (c .before .before .before .before .before .before .number-of .ensures)
+    (c .before .before .before .before .before .bank-numbered .ensures) (c .before .before .before .b .given .1)) (c .before .word-of .ensures)
+    (c .stretch .ensures)
 
 returns-2 : tie.Need-returns-2
 returns-2 c =
-    bank-none loadElement (wordOf (c .before .before .before .before .before .args .w)) (found bankNumbered (c .before .before .before .before .number-of .ensures) (c .before .before .before .bank-numbered .ensures) (c .before .enum-told .given .1)) (c .nothing .ensures)
+    bank-none loadElement (wordOf (c .before .before .before .before .before .args .w))
+    (found bankNumbered (c .before .before .before .before .number-of .ensures) (c .before .before .before .bank-numbered .ensures)
+    (c .before .enum-told .given .1)) (c .nothing .ensures)
 
 pub one-cell-spec : {M : Type 1} → statement M
 one-cell-spec =

@@ -31,12 +31,17 @@ nothing-requires c κs = search needs
 
 returns : tie.Need-returns
 returns c =
-    range-known (c .before .before .before .before .before .before .before .before .args .word) (found bankNumbered (c .before .before .before .before .before .before .before .range-bank .ensures) (c .before .before .before .before .before .before .bank-numbered .ensures) (c .before .before .before .before .b .given .1)) (c .before .before .range-first .ensures) (c .before .range-count .ensures)
+    range-known (c .before .before .before .before .before .before .before .before .args .word)
+    (found bankNumbered (c .before .before .before .before .before .before .before .range-bank .ensures)
+    (c .before .before .before .before .before .before .bank-numbered .ensures) (c .before .before .before .before .b .given .1))
+    (c .before .before .range-first .ensures) (c .before .range-count .ensures)
     (c .stretch .ensures)
 
 returns-2 : tie.Need-returns-2
 returns-2 c =
-    range-none (c .before .before .before .before .before .args .word) (found bankNumbered (c .before .before .before .before .range-bank .ensures) (c .before .before .before .bank-numbered .ensures) (c .before .enum-told .given .1)) (c .nothing .ensures)
+    range-none (c .before .before .before .before .before .args .word)
+    (found bankNumbered (c .before .before .before .before .range-bank .ensures) (c .before .before .before .bank-numbered .ensures)
+    (c .before .enum-told .given .1)) (c .nothing .ensures)
 
 pub range-spec : {M : Type 1} → statement M
 range-spec =

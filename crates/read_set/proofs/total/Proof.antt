@@ -29,11 +29,15 @@ nothing-requires c κs = search needs
 
 returns : tie.Need-returns
 returns c =
-    total-known _ (wordOf (c .before .before .before .before .before .before .args .w)) (found totalOf (c .before .before .before .before .before .number-of .ensures) (c .before .before .before .before .total-of .ensures) (c .before .before .enum-told .given .1)) (c .before .word-of .ensures) (c .range .ensures)
+    total-known _ (wordOf (c .before .before .before .before .before .before .args .w))
+    (found totalOf (c .before .before .before .before .before .number-of .ensures) (c .before .before .before .before .total-of .ensures)
+    (c .before .before .enum-told .given .1)) (c .before .word-of .ensures) (c .range .ensures)
 
 returns-2 : tie.Need-returns-2
 returns-2 c =
-    total-none (wordOf (c .before .before .before .before .before .args .w)) (found totalOf (c .before .before .before .before .number-of .ensures) (c .before .before .before .total-of .ensures) (c .before .enum-told2 .given .1)) (c .nothing .ensures)
+    total-none (wordOf (c .before .before .before .before .before .args .w))
+    (found totalOf (c .before .before .before .before .number-of .ensures) (c .before .before .before .total-of .ensures)
+    (c .before .enum-told2 .given .1)) (c .nothing .ensures)
 
 pub total-spec : {M : Type 1} → statement M
 total-spec =

@@ -17,7 +17,8 @@ nothing-requires c κs = search needs
 
 returns : tie.Need-returns
 returns c =
-    bank-unknown (bankNumbered (numberOf (c .before .before .before .args .w))) _ (wordOf (c .before .before .before .args .w)) (c .before .before .word-of .ensures) (c .before .if1 .taken) (c .nothing .ensures)
+    bank-unknown (bankNumbered (numberOf (c .before .before .before .args .w))) _ (wordOf (c .before .before .before .args .w))
+    (c .before .before .word-of .ensures) (c .before .if1 .taken) (c .nothing .ensures)
 
 number-of-requires : tie.Need-number-of-requires
 number-of-requires c κs = search needs
@@ -42,12 +43,17 @@ nothing-requires-2 c κs = search needs
 
 returns-2 : tie.Need-returns-2
 returns-2 c =
-    bank-known _ (wordOf (c .before .before .before .before .before .before .before .before .before .args .w)) _ (c .before .before .before .before .before .before .before .before .word-of .ensures) (c .before .before .before .before .before .before .before .if1 .left) (ap (λ (l : Layout). l .elements) (c .before .layout-of .ensures))
-    (found bankNumbered (c .before .before .before .before .before .before .number-of .ensures) (c .before .before .before .before .before .bank-numbered .ensures) (c .before .before .before .b .given .1)) (c .stretch .ensures)
+    bank-known _ (wordOf (c .before .before .before .before .before .before .before .before .before .args .w)) _
+    (c .before .before .before .before .before .before .before .before .word-of .ensures)
+    (c .before .before .before .before .before .before .before .if1 .left) (ap (λ (l : Layout). l .elements) (c .before .layout-of .ensures))
+    (found bankNumbered (c .before .before .before .before .before .before .number-of .ensures)
+    (c .before .before .before .before .before .bank-numbered .ensures) (c .before .before .before .b .given .1)) (c .stretch .ensures)
 
 returns-3 : tie.Need-returns-3
 returns-3 c =
-    bank-none loadIndexed (wordOf (c .before .before .before .before .before .before .before .args .w)) (found bankNumbered (c .before .before .before .before .number-of .ensures) (c .before .before .before .bank-numbered .ensures) (c .before .enum-told .given .1)) (c .nothing2 .ensures)
+    bank-none loadIndexed (wordOf (c .before .before .before .before .before .before .before .args .w))
+    (found bankNumbered (c .before .before .before .before .number-of .ensures) (c .before .before .before .bank-numbered .ensures)
+    (c .before .enum-told .given .1)) (c .nothing2 .ensures)
 
 pub whole-bank-spec : {M : Type 1} → statement M
 whole-bank-spec =

@@ -36,13 +36,19 @@ class-of-requires : tie.Need-class-of-requires Inv-loop μ-loop
 class-of-requires c κs = search needs
 
 returns-2 : tie.Need-returns-2 Inv-loop μ-loop
-returns-2 c = rw (c .before .before .before .before .before .if1 .left) (none-here (c .before .before .before .before .before .before .before .args .table .now) (c .before .before .before .before .loop .at) (c .before .before .before .before .before .before .before .pre) (c .before .before .before .before .loop .inv) (sym (c .before .class-of .ensures) ∙ c .if2 .taken))
+returns-2 c = rw (c .before .before .before .before .before .if1 .left)
+    (none-here (c .before .before .before .before .before .before .before .args .table .now) (c .before .before .before .before .loop .at)
+    (c .before .before .before .before .before .before .before .pre) (c .before .before .before .before .loop .inv)
+    (sym (c .before .class-of .ensures) ∙ c .if2 .taken))
 
 is-real-requires : tie.Need-is-real-requires Inv-loop μ-loop
 is-real-requires c κs = search needs
 
 returns-3 : tie.Need-returns-3 Inv-loop μ-loop
-returns-3 c = rw (c .before .before .before .before .before .before .before .if1 .left) (real-here (c .before .before .before .before .before .before .before .before .before .args .table .now) (c .before .before .before .before .before .before .loop .at) (c .before .before .before .before .before .before .before .before .before .pre) (c .before .before .before .before .before .before .loop .inv) (sym (c .before .is-real .ensures) ∙ c .if3 .taken))
+returns-3 c = rw (c .before .before .before .before .before .before .before .if1 .left)
+    (real-here (c .before .before .before .before .before .before .before .before .before .args .table .now)
+    (c .before .before .before .before .before .before .loop .at) (c .before .before .before .before .before .before .before .before .before .pre)
+    (c .before .before .before .before .before .before .loop .inv) (sym (c .before .is-real .ensures) ∙ c .if3 .taken))
 
 add-at : tie.Need-add-at Inv-loop μ-loop
 add-at c = search needs
@@ -51,10 +57,14 @@ loop-less : tie.Need-loop-less Inv-loop μ-loop
 loop-less c = omega arith
 
 loop-again : tie.Need-loop-again Inv-loop μ-loop
-loop-again c = other-here (c .before .before .before .before .before .before .before .before .before .args .table .now) (c .before .before .before .before .before .before .loop .at) (c .before .before .before .before .before .before .before .before .before .pre) (c .before .before .before .before .before .before .loop .inv) (λ e. c .before .before .if2 .left (c .before .before .before .class-of .ensures ∙ e)) (sym (c .before .is-real .ensures) ∙ c .if3 .left)
+loop-again c = other-here (c .before .before .before .before .before .before .before .before .before .args .table .now)
+    (c .before .before .before .before .before .before .loop .at) (c .before .before .before .before .before .before .before .before .before .pre)
+    (c .before .before .before .before .before .before .loop .inv) (λ e. c .before .before .if2 .left (c .before .before .before .class-of .ensures ∙ e))
+    (sym (c .before .is-real .ensures) ∙ c .if3 .left)
 
 returns-4 : tie.Need-returns-4 Inv-loop μ-loop
-returns-4 c = rw (c .before .before .if1 .left) (past-last (c .before .before .before .before .args .table .now) (c .before .loop .at) (c .before .loop .inv) (c .loop-test .left))
+returns-4 c = rw (c .before .before .if1 .left) (past-last (c .before .before .before .before .args .table .now) (c .before .loop .at)
+    (c .before .loop .inv) (c .loop-test .left))
 
 pub first-real-spec : {M : Type 1} → statement M
 first-real-spec =

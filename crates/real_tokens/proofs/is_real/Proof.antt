@@ -42,10 +42,21 @@ returns-3 : tie.Need-returns-3
 returns-3 c = rw (c .bank-kind2 .ensures, c .before .before .before .operand-of .ensures, sym (c .before .before .class-of .ensures), c .before .match .keys3)
 
 returns-4 : tie.Need-returns-4
-returns-4 c = rw (c .is-real-function .ensures, c .before .before .before .operand-of .ensures, sym (c .before .before .class-of .ensures), c .before .match .keys4)
+returns-4 c = rw (
+  c .is-real-function .ensures,
+  c .before .before .before .operand-of .ensures,
+  sym (c .before .before .class-of .ensures),
+  c .before .match .keys4,
+)
 
 returns-5 : tie.Need-returns-5
-returns-5 c = rw (sym (c .before .class-of .ensures), ne-eqb (c .before .class-of .result) 2 (c .match .rest .0 .0 .0 .1), ne-eqb (c .before .class-of .result) 3 (c .match .rest .0 .0 .1), ne-eqb (c .before .class-of .result) 4 (c .match .rest .0 .1), ne-eqb (c .before .class-of .result) 5 (c .match .rest .1))
+returns-5 c = rw (
+  sym (c .before .class-of .ensures),
+  ne-eqb (c .before .class-of .result) 2 (c .match .rest .0 .0 .0 .1),
+  ne-eqb (c .before .class-of .result) 3 (c .match .rest .0 .0 .1),
+  ne-eqb (c .before .class-of .result) 4 (c .match .rest .0 .1),
+  ne-eqb (c .before .class-of .result) 5 (c .match .rest .1),
+)
 
 pub is-real-spec : {M : Type 1} → statement M
 is-real-spec =

@@ -11,7 +11,8 @@ use Rattle.run_list.proofs.run_list.Tie as tie
 
 abbrev Inv-loop : tie.InvT-loop
 Inv-loop places texts memory₀ code₀ index-code₀ tick answers₀ count k₀ memory code index-code answers k =
-    Ran tick places texts (record { memory = memory₀; code = code₀; index = index-code₀ }) k answers (record { memory = memory; code = code; index = index-code })
+    Ran tick places texts (record { memory = memory₀; code = code₀; index = index-code₀ }) k answers
+    (record { memory = memory; code = code; index = index-code })
 
 abbrev μ-loop : tie.MeasureT-loop
 μ-loop places texts memory₀ code₀ index-code₀ tick answers₀ count k₀ memory code index-code answers k = count - k
@@ -96,7 +97,13 @@ mul-answers : tie.Need-mul-answers Inv-loop μ-loop
 mul-answers c = search needs
 
 array-write-answers : tie.Need-array-write-answers Inv-loop μ-loop
-array-write-answers c = omega (arith, c .before .before .before .before .before .before .before .before .before .before .before .before .before .before .before .before .before .before .before .before .before .if1 .left, c .before .before .before .before .before .before .before .before .before .before .before .before .before .before .before .before .before .before .before .loop-test .taken)
+array-write-answers c = omega (
+  arith,
+  c .before .before .before .before .before .before .before .before .before .before .before .before .before .before
+      .before .before .before .before .before .before .before .if1 .left,
+  c .before .before .before .before .before .before .before .before .before .before .before .before .before .before .before .before .before .before
+      .before .loop-test .taken,
+)
 
 add-k : tie.Need-add-k Inv-loop μ-loop
 add-k c = search needs
@@ -105,7 +112,13 @@ loop-less : tie.Need-loop-less Inv-loop μ-loop
 loop-less c = search needs
 
 loop-again : tie.Need-loop-again Inv-loop μ-loop
-loop-again c = next _ _ _ _ (c .before .before .before .before .before .before .before .before .before .before .before .before .before .before .before .before .before .before .before .loop-test .taken) (c .before .before .before .before .before .before .before .before .before .before .before .before .before .before .before .before .before .before .before .before .before .if1 .left) (c .before .before .before .before .before .before .before .before .before .before .before .before .before .before .before .before .before .before .before .before .loop .inv) (c .before .before .before .before .before .before .before .before .before .before .before .before .before .before .before .before .cut .ensures) (c .before .before .before .before .before .before .before .before .before .before .before .before .before .cut2 .ensures) (c .before .before .before .before .before .before .before .compile-and-run .ensures) (ap (λ (x : Report). x .answer) (c .reported .ensures))
+loop-again c = next _ _ _ _ (c .before .before .before .before .before .before .before .before .before .before .before .before .before .before .before
+    .before .before .before .before .loop-test .taken) (c .before .before .before .before .before .before .before .before .before .before .before .before
+    .before .before .before .before .before .before .before .before .before .if1 .left)
+    (c .before .before .before .before .before .before .before .before .before .before .before .before .before .before .before .before .before .before
+    .before .before .loop .inv) (c .before .before .before .before .before .before .before .before .before .before .before .before .before .before .before
+    .before .cut .ensures) (c .before .before .before .before .before .before .before .before .before .before .before .before .before .cut2 .ensures)
+    (c .before .before .before .before .before .before .before .compile-and-run .ensures) (ap (λ (x : Report). x .answer) (c .reported .ensures))
 
 same-length : tie.Need-same-length Inv-loop μ-loop
 same-length c = long _ _ _ _ (c .before .loop .inv) .memory

@@ -21,19 +21,38 @@ salvage-requires : tie.Need-salvage-requires
 salvage-requires c κs = search needs
 
 array-share-prefix-kept : tie.Need-array-share-prefix-kept
-array-share-prefix-kept c = omega (arith, kept-size (c .before .before .before .before .before .before .before .before .args .file .now) (c .before .before .before .before .before .before .file-buffer .result) (c .before .before .before .before .before .named-buffer .result) (c .before .before .salvage .result) (c .before .before .salvage .ensures .0), c .before .before .before .before .before .before .file-buffer .ensures)
+array-share-prefix-kept c = omega (
+  arith,
+  kept-size (c .before .before .before .before .before .before .before .before .args .file .now)
+      (c .before .before .before .before .before .before .file-buffer .result) (c .before .before .before .before .before .named-buffer .result)
+      (c .before .before .salvage .result) (c .before .before .salvage .ensures .0),
+  c .before .before .before .before .before .before .file-buffer .ensures,
+)
 
 slice-aggregate-write-all : tie.Need-slice-aggregate-write-all
-slice-aggregate-write-all c = kept-prefix (c .before .before .before .before .before .before .before .before .before .args .file .now) (c .before .before .before .before .before .before .before .file-buffer .result) (c .before .before .before .before .before .before .named-buffer .result) (c .before .before .before .salvage .result) (c .before .before .before .salvage .ensures .0) (c .before .before .before .salvage .ensures .1 .0)
+slice-aggregate-write-all c = kept-prefix (c .before .before .before .before .before .before .before .before .before .args .file .now)
+    (c .before .before .before .before .before .before .before .file-buffer .result)
+    (c .before .before .before .before .before .before .named-buffer .result) (c .before .before .before .salvage .result)
+    (c .before .before .before .salvage .ensures .0) (c .before .before .before .salvage .ensures .1 .0)
 
 write-all-requires : tie.Need-write-all-requires
 write-all-requires c κs = search needs
 
 array-share-prefix-named : tie.Need-array-share-prefix-named
-array-share-prefix-named c = omega (arith, named-size (c .before .before .before .before .before .before .before .before .before .before .args .file .now) (c .before .before .before .before .before .before .before .before .file-buffer .result) (c .before .before .before .before .before .before .before .named-buffer .result) (c .before .before .before .before .salvage .result) (c .before .before .before .before .salvage .ensures .0), c .before .before .before .before .before .before .before .named-buffer .ensures)
+array-share-prefix-named c = omega (
+  arith,
+  named-size (c .before .before .before .before .before .before .before .before .before .before .args .file .now)
+      (c .before .before .before .before .before .before .before .before .file-buffer .result)
+      (c .before .before .before .before .before .before .before .named-buffer .result) (c .before .before .before .before .salvage .result)
+      (c .before .before .before .before .salvage .ensures .0),
+  c .before .before .before .before .before .before .before .named-buffer .ensures,
+)
 
 slice-aggregate-write-all-2 : tie.Need-slice-aggregate-write-all-2
-slice-aggregate-write-all-2 c = named-prefix (c .before .before .before .before .before .before .before .before .before .before .before .args .file .now) (c .before .before .before .before .before .before .before .before .before .file-buffer .result) (c .before .before .before .before .before .before .before .before .named-buffer .result) (c .before .before .before .before .before .salvage .result) (c .before .before .before .before .before .salvage .ensures .0) (c .before .before .before .before .before .salvage .ensures .1 .1)
+slice-aggregate-write-all-2 c = named-prefix (c .before .before .before .before .before .before .before .before .before .before .before .args .file .now)
+    (c .before .before .before .before .before .before .before .before .before .file-buffer .result)
+    (c .before .before .before .before .before .before .before .before .named-buffer .result) (c .before .before .before .before .before .salvage .result)
+    (c .before .before .before .before .before .salvage .ensures .0) (c .before .before .before .before .before .salvage .ensures .1 .1)
 
 write-all-requires-2 : tie.Need-write-all-requires-2
 write-all-requires-2 c κs = search needs

@@ -23,14 +23,19 @@ compile-indexed-requires c κs = search needs
 
 returns : tie.Need-returns
 unfolding targetOf
-returns c = rw (sym (c .before .before .before .before .target-of .ensures) ∙ c .before .before .bank .given .1) (c .to-cell .ensures ∙ to-cell-is (c .before .before .before .before .before .before .before .args .reals) _ _, cell-code (c .before .before .before .before .before .before .before .args .reals) _ _ (c .before .before .before .before .before .before .before .args .code .now))
+returns c = rw (sym (c .before .before .before .before .target-of .ensures) ∙ c .before .before .bank .given .1) (
+  c .to-cell .ensures ∙ to-cell-is (c .before .before .before .before .before .before .before .args .reals) _ _,
+  cell-code (c .before .before .before .before .before .before .before .args .reals) _ _
+      (c .before .before .before .before .before .before .before .args .code .now),
+)
 
 same-length : tie.Need-same-length
 same-length c = search needs
 
 returns-2 : tie.Need-returns-2
 unfolding targetOf
-returns-2 c = rw (sym (c .before .before .before .before .before .before .target-of .ensures) ∙ c .before .before .before .before .enum-told .given .1) (c .before .before .compile-indexed .ensures)
+returns-2 c = rw (sym (c .before .before .before .before .before .before .target-of .ensures) ∙ c .before .before .before .before .enum-told .given .1)
+    (c .before .before .compile-indexed .ensures)
 
 pub compile-in-spec : {M : Type 1} → statement M
 compile-in-spec =

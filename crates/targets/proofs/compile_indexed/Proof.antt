@@ -25,16 +25,40 @@ enum-told : tie.Need-enum-told
 enum-told c = search needs
 
 returns : tie.Need-returns
-returns c = no-bank (c .before .before .before .before .before .before .args .reals) (c .before .before .before .before .before .before .args .target .now) (c .before .before .before .before .before .before .args .code .now) (ap (bankIn (c .before .before .before .before .before .before .args .reals)) (sym (c .before .before .before .enclosed-bank .ensures)) ∙ sym (c .before .before .taken-bank .ensures) ∙ c .enum-told .given .1)
+returns c = no-bank (c .before .before .before .before .before .before .args .reals) (c .before .before .before .before .before .before .args .target .now)
+    (c .before .before .before .before .before .before .args .code .now)
+    (ap (bankIn (c .before .before .before .before .before .before .args .reals)) (sym (c .before .before .before .enclosed-bank .ensures))
+    ∙ sym (c .before .before .taken-bank .ensures) ∙ c .enum-told .given .1)
 
 sub-end : tie.Need-sub-end
-sub-end c = omega (arith, long-enough (c .before .before .before .before .before .before .before .args .target .now) (bank-full (c .before .before .before .before .before .before .before .args .reals) (enclosedBank (c .before .before .before .before .before .before .before .args .target .now)) (ap (bankIn (c .before .before .before .before .before .before .before .args .reals)) (sym (c .before .before .before .before .enclosed-bank .ensures)) ∙ sym (c .before .before .before .taken-bank .ensures) ∙ c .before .bank .given .1)))
+sub-end c = omega (
+  arith,
+  long-enough (c .before .before .before .before .before .before .before .args .target .now)
+      (bank-full (c .before .before .before .before .before .before .before .args .reals)
+      (enclosedBank (c .before .before .before .before .before .before .before .args .target .now))
+      (ap (bankIn (c .before .before .before .before .before .before .before .args .reals)) (sym (c .before .before .before .before .enclosed-bank .ensures))
+      ∙ sym (c .before .before .before .taken-bank .ensures) ∙ c .before .bank .given .1)),
+)
 
 sub-compile-in : tie.Need-sub-compile-in
-sub-compile-in c = omega (arith, long-enough (c .before .before .before .before .before .before .before .args .target .now) (bank-full (c .before .before .before .before .before .before .before .args .reals) (enclosedBank (c .before .before .before .before .before .before .before .args .target .now)) (ap (bankIn (c .before .before .before .before .before .before .before .args .reals)) (sym (c .before .before .before .before .enclosed-bank .ensures)) ∙ sym (c .before .before .before .taken-bank .ensures) ∙ c .before .bank .given .1)))
+sub-compile-in c = omega (
+  arith,
+  long-enough (c .before .before .before .before .before .before .before .args .target .now)
+      (bank-full (c .before .before .before .before .before .before .before .args .reals)
+      (enclosedBank (c .before .before .before .before .before .before .before .args .target .now))
+      (ap (bankIn (c .before .before .before .before .before .before .before .args .reals)) (sym (c .before .before .before .before .enclosed-bank .ensures))
+      ∙ sym (c .before .before .before .taken-bank .ensures) ∙ c .before .bank .given .1)),
+)
 
 part-compile-in-start : tie.Need-part-compile-in-start
-part-compile-in-start c = omega (arith, long-enough (c .before .before .before .before .before .before .before .args .target .now) (bank-full (c .before .before .before .before .before .before .before .args .reals) (enclosedBank (c .before .before .before .before .before .before .before .args .target .now)) (ap (bankIn (c .before .before .before .before .before .before .before .args .reals)) (sym (c .before .before .before .before .enclosed-bank .ensures)) ∙ sym (c .before .before .before .taken-bank .ensures) ∙ c .before .bank .given .1)))
+part-compile-in-start c = omega (
+  arith,
+  long-enough (c .before .before .before .before .before .before .before .args .target .now)
+      (bank-full (c .before .before .before .before .before .before .before .args .reals)
+      (enclosedBank (c .before .before .before .before .before .before .before .args .target .now))
+      (ap (bankIn (c .before .before .before .before .before .before .before .args .reals)) (sym (c .before .before .before .before .enclosed-bank .ensures))
+      ∙ sym (c .before .before .before .taken-bank .ensures) ∙ c .before .bank .given .1)),
+)
 
 part-compile-in-end : tie.Need-part-compile-in-end
 part-compile-in-end c = search needs
@@ -53,16 +77,48 @@ same-length c = search needs
 
 returns-2 : tie.Need-returns-2
 returns-2 c =
-    let q = with-room (c .before .before .before .before .before .before .before .before .before .before .before .before .before .before .before .args .reals) (c .before .before .before .before .before .before .before .before .before .before .before .before .before .before .before .args .code .now) _ (c .before .before .before .before .before .before .before .before .before .before .before .before .before .before .before .pre) ∙ ap (judgeIn (c .before .before .before .before .before .before .before .before .before .before .before .before .before .before .before .args .reals) 1) (between (c .before .before .before .before .before .before .before .before .before .before .before .before .before .before .before .args .target .now)) in
-    an-index (c .before .before .before .before .before .before .before .before .before .before .before .before .before .before .before .args .reals) (c .before .before .before .before .before .before .before .before .before .before .before .before .before .before .before .args .target .now) (c .before .before .before .before .before .before .before .before .before .before .before .before .before .before .before .args .code .now) (ap (bankIn (c .before .before .before .before .before .before .before .before .before .before .before .before .before .before .before .args .reals)) (sym (c .before .before .before .before .before .before .before .before .before .before .before .before .enclosed-bank .ensures)) ∙ sym (c .before .before .before .before .before .before .before .before .before .before .before .taken-bank .ensures) ∙ c .before .before .before .before .before .before .before .before .before .bank .given .1) (judgeIn (c .before .before .before .before .before .before .before .before .before .before .before .before .before .before .before .args .reals) 1 (indexText (c .before .before .before .before .before .before .before .before .before .before .before .before .before .before .before .args .target .now))) refl (sym (c .before .n .given .1) ∙ c .before .before .before .before .before .compile-in .ensures .0 ∙ ap codedAnswer q) (c .before .before .before .before .before .compile-in .ensures .1 ∙ ap (codedBytes (c .before .before .before .before .before .before .before .before .before .before .before .before .before .before .before .args .code .now)) q)
+    let q = with-room (c .before .before .before .before .before .before .before .before .before .before .before .before .before .before .before .args
+    .reals) (c .before .before .before .before .before .before .before .before .before .before .before .before .before .before .before .args .code .now)
+    _ (c .before .before .before .before .before .before .before .before .before .before .before .before .before .before .before .pre)
+    ∙ ap (judgeIn (c .before .before .before .before .before .before .before .before .before .before .before .before .before .before .before .args
+    .reals) 1) (between (c .before .before .before .before .before .before .before .before .before .before .before .before .before .before .before .args
+    .target .now)) in
+    an-index (c .before .before .before .before .before .before .before .before .before .before .before .before .before .before .before .args .reals)
+    (c .before .before .before .before .before .before .before .before .before .before .before .before .before .before .before .args .target .now)
+    (c .before .before .before .before .before .before .before .before .before .before .before .before .before .before .before .args .code .now)
+    (ap (bankIn (c .before .before .before .before .before .before .before .before .before .before .before .before .before .before .before .args
+    .reals)) (sym (c .before .before .before .before .before .before .before .before .before .before .before .before .enclosed-bank .ensures))
+    ∙ sym (c .before .before .before .before .before .before .before .before .before .before .before .taken-bank .ensures)
+    ∙ c .before .before .before .before .before .before .before .before .before .bank .given .1)
+    (judgeIn (c .before .before .before .before .before .before .before .before .before .before .before .before .before .before .before .args .reals) 1
+    (indexText (c .before .before .before .before .before .before .before .before .before .before .before .before .before .before .before .args .target
+    .now))) refl (sym (c .before .n .given .1) ∙ c .before .before .before .before .before .compile-in .ensures .0 ∙ ap codedAnswer q)
+    (c .before .before .before .before .before .compile-in .ensures .1
+    ∙ ap (codedBytes (c .before .before .before .before .before .before .before .before .before .before .before .before .before .before .before .args
+    .code .now)) q)
 
 same-length-2 : tie.Need-same-length-2
 same-length-2 c = search needs
 
 returns-3 : tie.Need-returns-3
 returns-3 c =
-    let q = with-room (c .before .before .before .before .before .before .before .before .before .before .before .before .before .before .args .reals) (c .before .before .before .before .before .before .before .before .before .before .before .before .before .before .args .code .now) _ (c .before .before .before .before .before .before .before .before .before .before .before .before .before .before .pre) ∙ ap (judgeIn (c .before .before .before .before .before .before .before .before .before .before .before .before .before .before .args .reals) 1) (between (c .before .before .before .before .before .before .before .before .before .before .before .before .before .before .args .target .now)) in
-    no-index (c .before .before .before .before .before .before .before .before .before .before .before .before .before .before .args .reals) (c .before .before .before .before .before .before .before .before .before .before .before .before .before .before .args .target .now) (c .before .before .before .before .before .before .before .before .before .before .before .before .before .before .args .code .now) (ap (bankIn (c .before .before .before .before .before .before .before .before .before .before .before .before .before .before .args .reals)) (sym (c .before .before .before .before .before .before .before .before .before .before .before .enclosed-bank .ensures)) ∙ sym (c .before .before .before .before .before .before .before .before .before .before .taken-bank .ensures) ∙ c .before .before .before .before .before .before .before .before .bank .given .1) (judgeIn (c .before .before .before .before .before .before .before .before .before .before .before .before .before .before .args .reals) 1 (indexText (c .before .before .before .before .before .before .before .before .before .before .before .before .before .before .args .target .now))) refl (sym (c .enum-told2 .given .1) ∙ c .before .before .before .before .compile-in .ensures .0 ∙ ap codedAnswer q) (c .before .before .before .before .compile-in .ensures .1 ∙ ap (codedBytes (c .before .before .before .before .before .before .before .before .before .before .before .before .before .before .args .code .now)) q)
+    let q = with-room (c .before .before .before .before .before .before .before .before .before .before .before .before .before .before .args .reals)
+    (c .before .before .before .before .before .before .before .before .before .before .before .before .before .before .args .code .now) _
+    (c .before .before .before .before .before .before .before .before .before .before .before .before .before .before .pre)
+    ∙ ap (judgeIn (c .before .before .before .before .before .before .before .before .before .before .before .before .before .before .args .reals) 1)
+    (between (c .before .before .before .before .before .before .before .before .before .before .before .before .before .before .args .target .now)) in
+    no-index (c .before .before .before .before .before .before .before .before .before .before .before .before .before .before .args .reals)
+    (c .before .before .before .before .before .before .before .before .before .before .before .before .before .before .args .target .now)
+    (c .before .before .before .before .before .before .before .before .before .before .before .before .before .before .args .code .now)
+    (ap (bankIn (c .before .before .before .before .before .before .before .before .before .before .before .before .before .before .args .reals))
+    (sym (c .before .before .before .before .before .before .before .before .before .before .before .enclosed-bank .ensures))
+    ∙ sym (c .before .before .before .before .before .before .before .before .before .before .taken-bank .ensures)
+    ∙ c .before .before .before .before .before .before .before .before .bank .given .1)
+    (judgeIn (c .before .before .before .before .before .before .before .before .before .before .before .before .before .before .args .reals) 1
+    (indexText (c .before .before .before .before .before .before .before .before .before .before .before .before .before .before .args .target .now)))
+    refl (sym (c .enum-told2 .given .1) ∙ c .before .before .before .before .compile-in .ensures .0 ∙ ap codedAnswer q)
+    (c .before .before .before .before .compile-in .ensures .1 ∙ ap
+    (codedBytes (c .before .before .before .before .before .before .before .before .before .before .before .before .before .before .args .code .now)) q)
 
 pub compile-indexed-spec : {M : Type 1} → statement M
 compile-indexed-spec =

@@ -34,7 +34,8 @@ stored-bank-requires : tie.Need-stored-bank-requires
 stored-bank-requires c κs = search needs
 
 returns-5 : tie.Need-returns-5
-returns-5 c = c .stored-bank .ensures ∙ enclosed (c .before .before .before .before .before .before .before .before .before .args .target .now) (omega arith) (omega arith) (omega arith)
+returns-5 c = c .stored-bank .ensures ∙ enclosed (c .before .before .before .before .before .before .before .before .before .args .target .now)
+    (omega arith) (omega arith) (omega arith)
 
 pub enclosed-bank-spec : {M : Type 1} → statement M
 enclosed-bank-spec =

@@ -23,7 +23,8 @@ judge-indexed-requires c κs = search needs
 
 returns : tie.Need-returns
 unfolding targetOf
-returns c = rw (sym (c .before .before .before .before .target-of .ensures) ∙ c .before .before .bank .given .1) (c .to-cell .ensures ∙ to-cell-is (c .before .before .before .before .before .before .args .reals) _ _)
+returns c = rw (sym (c .before .before .before .before .target-of .ensures) ∙ c .before .before .bank .given .1)
+    (c .to-cell .ensures ∙ to-cell-is (c .before .before .before .before .before .before .args .reals) _ _)
 
 returns-2 : tie.Need-returns-2
 unfolding targetOf

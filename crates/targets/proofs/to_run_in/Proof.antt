@@ -22,10 +22,16 @@ enum-told : tie.Need-enum-told
 enum-told c = search needs
 
 returns : tie.Need-returns
-returns c = c .to-cell .ensures ∙ ap (takenFound (c .before .before .before .before .before .before .before .args .reals)) (named (c .before .before .before .before .before .before .before .args .k) (c .before .before .before .before .before .before .before .args .target .now) (c .before .before .before .before .before .if1 .taken) (sym (c .before .before .before .before .target-of .ensures) ∙ c .before .before .bank .given .1))
+returns c = c .to-cell .ensures ∙ ap (takenFound (c .before .before .before .before .before .before .before .args .reals))
+    (named (c .before .before .before .before .before .before .before .args .k)
+    (c .before .before .before .before .before .before .before .args .target .now) (c .before .before .before .before .before .if1 .taken)
+    (sym (c .before .before .before .before .target-of .ensures) ∙ c .before .before .bank .given .1))
 
 returns-2 : tie.Need-returns-2
-returns-2 c = taken-other (c .before .before .before .before .before .args .reals) ∙ ap (takenFound (c .before .before .before .before .before .args .reals)) (named (c .before .before .before .before .before .args .k) (c .before .before .before .before .before .args .target .now) (c .before .before .before .if1 .taken) (sym (c .before .before .target-of .ensures) ∙ c .enum-told .given .1))
+returns-2 c = taken-other (c .before .before .before .before .before .args .reals)
+    ∙ ap (takenFound (c .before .before .before .before .before .args .reals))
+    (named (c .before .before .before .before .before .args .k) (c .before .before .before .before .before .args .target .now)
+    (c .before .before .before .if1 .taken) (sym (c .before .before .target-of .ensures) ∙ c .enum-told .given .1))
 
 shared-slice-read-stored-bank : tie.Need-shared-slice-read-stored-bank
 shared-slice-read-stored-bank c = search needs
@@ -43,10 +49,24 @@ enum-told-2 : tie.Need-enum-told-2
 enum-told-2 c = search needs
 
 returns-3 : tie.Need-returns-3
-returns-3 c = ap (byLetter (c .before .before .before .before .before .before .before .before .args .k)) (sym (sym (c .before .before .before .taken-bank .ensures) ∙ c .before .bank2 .given .1)) ∙ letter-taken (c .before .before .before .before .before .before .before .before .args .reals) (c .before .before .before .before .before .before .before .before .args .k) _ ∙ ap (takenFound (c .before .before .before .before .before .before .before .before .args .reals)) (lettered (c .before .before .before .before .before .before .before .before .args .k) (c .before .before .before .before .before .before .before .before .args .target .now) (c .before .before .before .before .before .before .if1 .left) (sym (c .before .before .before .before .stored-bank .ensures)))
+returns-3 c = ap (byLetter (c .before .before .before .before .before .before .before .before .args .k))
+    (sym (sym (c .before .before .before .taken-bank .ensures) ∙ c .before .bank2 .given .1))
+    ∙ letter-taken (c .before .before .before .before .before .before .before .before .args .reals)
+    (c .before .before .before .before .before .before .before .before .args .k) _
+    ∙ ap (takenFound (c .before .before .before .before .before .before .before .before .args .reals))
+    (lettered (c .before .before .before .before .before .before .before .before .args .k)
+    (c .before .before .before .before .before .before .before .before .args .target .now) (c .before .before .before .before .before .before .if1 .left)
+    (sym (c .before .before .before .before .stored-bank .ensures)))
 
 returns-4 : tie.Need-returns-4
-returns-4 c = ap (byLetter (c .before .before .before .before .before .before .before .args .k)) (sym (sym (c .before .before .taken-bank .ensures) ∙ c .enum-told2 .given .1)) ∙ letter-taken (c .before .before .before .before .before .before .before .args .reals) (c .before .before .before .before .before .before .before .args .k) _ ∙ ap (takenFound (c .before .before .before .before .before .before .before .args .reals)) (lettered (c .before .before .before .before .before .before .before .args .k) (c .before .before .before .before .before .before .before .args .target .now) (c .before .before .before .before .before .if1 .left) (sym (c .before .before .before .stored-bank .ensures)))
+returns-4 c = ap (byLetter (c .before .before .before .before .before .before .before .args .k))
+    (sym (sym (c .before .before .taken-bank .ensures) ∙ c .enum-told2 .given .1))
+    ∙ letter-taken (c .before .before .before .before .before .before .before .args .reals)
+    (c .before .before .before .before .before .before .before .args .k) _
+    ∙ ap (takenFound (c .before .before .before .before .before .before .before .args .reals))
+    (lettered (c .before .before .before .before .before .before .before .args .k)
+    (c .before .before .before .before .before .before .before .args .target .now) (c .before .before .before .before .before .if1 .left)
+    (sym (c .before .before .before .stored-bank .ensures)))
 
 pub to-run-in-spec : {M : Type 1} → statement M
 to-run-in-spec =

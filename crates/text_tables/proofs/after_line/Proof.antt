@@ -24,10 +24,12 @@ add-result : tie.Need-add-result
 add-result c = search needs
 
 returns : tie.Need-returns
-returns c = behind (c .before .before .before .before .args .table .now) (c .before .before .before .before .args .at) (c .before .until .result) (c .before .until .ensures .0) (c .if1 .taken)
+returns c = behind (c .before .before .before .before .args .table .now) (c .before .before .before .before .args .at) (c .before .until .result)
+    (c .before .until .ensures .0) (c .if1 .taken)
 
 returns-2 : tie.Need-returns-2
-returns-2 c = at-end (c .before .before .before .before .args .table .now) (c .before .before .before .before .args .at) (c .before .until .result) (c .before .until .ensures .0) (c .before .before .before .before .pre) (omega (arith, c .before .until .ensures .1)) (c .if1 .left)
+returns-2 c = at-end (c .before .before .before .before .args .table .now) (c .before .before .before .before .args .at) (c .before .until .result)
+    (c .before .until .ensures .0) (c .before .before .before .before .pre) (omega (arith, c .before .until .ensures .1)) (c .if1 .left)
 
 pub after-line-spec : {M : Type 1} → statement M
 after-line-spec =

@@ -43,8 +43,20 @@ same-length c = search needs
 
 returns : tie.Need-returns
 returns c = (
-  row-long (c .before .before .before .before .before .before .before .before .before .before .before .args .table .now) (c .before .before .before .before .before .before .before .before .before .before .before .args .k) (c .before .before .before .before .before .before .before .before .row-start .result) (c .before .before .before .before .before .before .until .result) (c .before .before .before .before .before .before .until .ensures .0) (c .before .before .before .before .before .before .before .before .row-start .ensures .0) (c .before .before .before .before .before .before .before .before .row-start .ensures .1) (omega (arith, c .before .before .before .before .before .before .until .ensures .1)),
-  c .before .before .put-all .ensures .bytes ∙ row-front (c .before .before .before .before .before .before .before .before .before .before .before .args .table .now) (c .before .before .before .before .before .before .before .before .before .before .before .args .k) (c .before .before .before .before .before .before .before .before .row-start .result) (c .before .before .before .before .before .before .until .result) (c .before .before .before .before .before .before .until .ensures .0) (c .before .before .before .before .before .before .before .before .row-start .ensures .0) (c .before .before .before .before .before .before .before .before .before .before .before .args .out .now) (omega (arith, c .before .before .before .before .before .if1 .taken)),
+  row-long (c .before .before .before .before .before .before .before .before .before .before .before .args .table .now)
+      (c .before .before .before .before .before .before .before .before .before .before .before .args .k)
+      (c .before .before .before .before .before .before .before .before .row-start .result)
+      (c .before .before .before .before .before .before .until .result) (c .before .before .before .before .before .before .until .ensures .0)
+      (c .before .before .before .before .before .before .before .before .row-start .ensures .0)
+      (c .before .before .before .before .before .before .before .before .row-start .ensures .1)
+      (omega (arith, c .before .before .before .before .before .before .until .ensures .1)),
+  c .before .before .put-all .ensures .bytes ∙ row-front (c .before .before .before .before .before .before .before .before .before .before .before .args
+      .table .now) (c .before .before .before .before .before .before .before .before .before .before .before .args .k)
+      (c .before .before .before .before .before .before .before .before .row-start .result)
+      (c .before .before .before .before .before .before .until .result) (c .before .before .before .before .before .before .until .ensures .0)
+      (c .before .before .before .before .before .before .before .before .row-start .ensures .0)
+      (c .before .before .before .before .before .before .before .before .before .before .before .args .out .now)
+      (omega (arith, c .before .before .before .before .before .if1 .taken)),
 )
 
 add-end-2 : tie.Need-add-end-2
@@ -67,9 +79,22 @@ same-length-2 c = search needs
 
 returns-2 : tie.Need-returns-2
 returns-2 c =
-    let long = row-long (c .before .before .before .before .before .before .before .before .before .before .before .args .table .now) (c .before .before .before .before .before .before .before .before .before .before .before .args .k) (c .before .before .before .before .before .before .before .before .row-start .result) (c .before .before .before .before .before .before .until .result) (c .before .before .before .before .before .before .until .ensures .0) (c .before .before .before .before .before .before .before .before .row-start .ensures .0) (c .before .before .before .before .before .before .before .before .row-start .ensures .1) (omega (arith, c .before .before .before .before .before .before .until .ensures .1)) in
-    let same = row-is (c .before .before .before .before .before .before .before .before .before .before .before .args .table .now) (c .before .before .before .before .before .before .before .before .before .before .before .args .k) (c .before .before .before .before .before .before .before .before .row-start .result) (c .before .before .before .before .before .before .until .result) (c .before .before .before .before .before .before .until .ensures .0) (c .before .before .before .before .before .before .before .before .row-start .ensures .0) in
-    (omega (arith, c .before .before .put-all2 .ensures .end, ap length same, long), c .before .before .put-all2 .ensures .bytes ∙ ap (sets (c .before .before .before .before .before .before .before .before .before .before .before .args .out .now) 0) same)
+    let long = row-long (c .before .before .before .before .before .before .before .before .before .before .before .args .table .now)
+    (c .before .before .before .before .before .before .before .before .before .before .before .args .k)
+    (c .before .before .before .before .before .before .before .before .row-start .result)
+    (c .before .before .before .before .before .before .until .result) (c .before .before .before .before .before .before .until .ensures .0)
+    (c .before .before .before .before .before .before .before .before .row-start .ensures .0)
+    (c .before .before .before .before .before .before .before .before .row-start .ensures .1)
+    (omega (arith, c .before .before .before .before .before .before .until .ensures .1)) in
+    let same = row-is (c .before .before .before .before .before .before .before .before .before .before .before .args .table .now)
+    (c .before .before .before .before .before .before .before .before .before .before .before .args .k)
+    (c .before .before .before .before .before .before .before .before .row-start .result)
+    (c .before .before .before .before .before .before .until .result) (c .before .before .before .before .before .before .until .ensures .0)
+    (c .before .before .before .before .before .before .before .before .row-start .ensures .0) in (
+      omega (arith, c .before .before .put-all2 .ensures .end, ap length same, long),
+      c .before .before .put-all2 .ensures .bytes
+          ∙ ap (sets (c .before .before .before .before .before .before .before .before .before .before .before .args .out .now) 0) same,
+    )
 
 pub fit-row-spec : {M : Type 1} → statement M
 fit-row-spec =

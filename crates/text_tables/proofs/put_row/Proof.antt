@@ -36,13 +36,23 @@ part-put-all-end : tie.Need-part-put-all-end
 part-put-all-end c = search needs
 
 put-all-requires : tie.Need-put-all-requires
-put-all-requires c κs = omega (arith, c .before .before .before .before .before .before .before .pre, ap length (row-is (c .before .before .before .before .before .before .before .args .table .now) (c .before .before .before .before .before .before .before .args .k) (c .before .before .before .before .row-start .result) (c .before .before .until .result) (c .before .before .until .ensures .0) (c .before .before .before .before .row-start .ensures .0)))
+put-all-requires c κs = omega (
+  arith,
+  c .before .before .before .before .before .before .before .pre,
+  ap length (row-is (c .before .before .before .before .before .before .before .args .table .now)
+      (c .before .before .before .before .before .before .before .args .k) (c .before .before .before .before .row-start .result)
+      (c .before .before .until .result) (c .before .before .until .ensures .0) (c .before .before .before .before .row-start .ensures .0)),
+)
 
 same-length : tie.Need-same-length
 same-length c = search needs
 
 returns : tie.Need-returns
-returns c = as-text (row-is (c .before .before .before .before .before .before .before .before .before .before .args .table .now) (c .before .before .before .before .before .before .before .before .before .before .args .k) (c .before .before .before .before .before .before .before .row-start .result) (c .before .before .before .before .before .until .result) (c .before .before .before .before .before .until .ensures .0) (c .before .before .before .before .before .before .before .row-start .ensures .0)) (c .before .before .put-all .ensures)
+returns c = as-text (row-is (c .before .before .before .before .before .before .before .before .before .before .args .table .now)
+    (c .before .before .before .before .before .before .before .before .before .before .args .k)
+    (c .before .before .before .before .before .before .before .row-start .result) (c .before .before .before .before .before .until .result)
+    (c .before .before .before .before .before .until .ensures .0) (c .before .before .before .before .before .before .before .row-start .ensures .0))
+    (c .before .before .put-all .ensures)
 
 pub put-row-spec : {M : Type 1} → statement M
 put-row-spec =

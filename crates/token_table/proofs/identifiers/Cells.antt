@@ -33,10 +33,21 @@ no-name : (c d : ℕ) (s : List ℕ) (o : Scanned) → isDigit d ≡ true → fu
 no-name c d s o e =
     let h = digit-range d e in
     let not : (k : ℕ) → 58 < k → eqb k d ≡ false = λ k l. ne-eqb k d (λ q. omega arith) in
-    simp (not 66 (omega arith), not 79 (omega arith), not 82 (omega arith), not 65 (omega arith), not 73 (omega arith), not 70 (omega arith), not 85 (omega arith), not 86 (omega arith), and-false)
+    simp (
+      not 66 (omega arith),
+      not 79 (omega arith),
+      not 82 (omega arith),
+      not 65 (omega arith),
+      not 73 (omega arith),
+      not 70 (omega arith),
+      not 85 (omega arith),
+      not 86 (omega arith),
+      and-false,
+    )
 
 on-list : (c d : ℕ) (cs : List ℕ) (p : ℕ) → isLetter c ≡ true → isDigit d ≡ true
-    → runLexeme isWord wordToken (c ∷ d ∷ cs) p ≡ lexeme p (suc (runLen isWord (d ∷ cs))) (cellWord (cellAfterLetter (take (runLen isWord (d ∷ cs)) (d ∷ cs)) (letterBank c)))
+    → runLexeme isWord wordToken (c ∷ d ∷ cs) p ≡ lexeme p (suc (runLen isWord (d ∷ cs)))
+    (cellWord (cellAfterLetter (take (runLen isWord (d ∷ cs)) (d ∷ cs)) (letterBank c)))
 unfolding wordToken otherWord namedRule
 on-list c d cs p l e = rw (l, digit-word d e) (ap (lexeme p (suc (suc (runLen isWord cs)))) (no-name c d (take (runLen isWord cs) cs) _ e))
 
@@ -72,7 +83,8 @@ module _ (s : List ℕ) (at : ℕ) (letter : isLetter (getD s at 0) ≡ true) (d
       let two : suc (at + 1) ≡ at + 2 = omega arith in
       ap digitsOf there ∙ rw digit (ap (λ (k : ℕ). getD s (at + 1) 0 ∷ digitsOf (drop k s)) two)
 
-  pub value-of : {v d : ℕ} → d ≡ getD s (at + 1) 0 → v ≡ min (decimalFrom (d - 48) (digitsOf (drop (at + 2) s))) decimalLimit → v ≡ min (decimalFrom 0 (digitsOf rest)) decimalLimit
+  pub value-of : {v d : ℕ} → d ≡ getD s (at + 1) 0 → v ≡ min (decimalFrom (d - 48) (digitsOf (drop (at + 2) s))) decimalLimit
+      → v ≡ min (decimalFrom 0 (digitsOf rest)) decimalLimit
   value-of {d = d} e q =
       let ds = digitsOf (drop (at + 2) s) in
       let z : 0 * 10 + (getD s (at + 1) 0 - 48) ≡ d - 48 = omega (arith, e) in
@@ -81,7 +93,8 @@ module _ (s : List ℕ) (at : ℕ) (letter : isLetter (getD s at 0) ≡ true) (d
   pub end-of : {e : ℕ} → e ≡ at + 2 + length (digitsOf (drop (at + 2) s)) → e ≡ at + 1 + length (digitsOf rest)
   end-of q = rw more-digits (omega (arith, q))
 
-  module _ (b : Bank) (bank : letterBank (getD s at 0) ≡ Of b) {v e x : ℕ} (value : v ≡ min (decimalFrom 0 (digitsOf rest)) decimalLimit) (ends : e ≡ at + 1 + length (digitsOf rest)) (next : x ≡ getD s e 0) where
+  module _ (b : Bank) (bank : letterBank (getD s at 0) ≡ Of b) {v e x : ℕ} (value : v ≡ min (decimalFrom 0 (digitsOf rest)) decimalLimit)
+      (ends : e ≡ at + 1 + length (digitsOf rest)) (next : x ≡ getD s e 0) where
     abbrev elements : ℕ
     elements = layoutOf b .elements
 
@@ -110,7 +123,8 @@ module _ (s : List ℕ) (at : ℕ) (letter : isLetter (getD s at 0) ≡ true) (d
       pub beyond : {w k : ℕ} → elements ≤ v → ((p : ℕ) → Lexes (Wrong 6 p) w k) → Lexes (runLexeme isWord wordToken (drop at s) at) w k
       beyond l h = no-cell (not-below run elements v only made (few b) l) h
 
-      pub zero-first : {w k : ℕ} → getD s (at + 1) 0 ≡ 48 → (e ≡ at + 2 → ⊥) → ((p : ℕ) → Lexes (Wrong 6 p) w k) → Lexes (runLexeme isWord wordToken (drop at s) at) w k
+      pub zero-first : {w k : ℕ} → getD s (at + 1) 0 ≡ 48 → (e ≡ at + 2 → ⊥) → ((p : ℕ) → Lexes (Wrong 6 p) w k)
+          → Lexes (runLexeme isWord wordToken (drop at s) at) w k
       zero-first z n h = no-cell (rw (leading run (first ∙ z) (λ q. n (omega (arith, size))))) h
 
       -- a leading zero stands alone

@@ -59,7 +59,8 @@ module _ (s : List ℕ) (at : ℕ) where
         let first : getD (run (at + 1)) 0 0 ≡ getD s at 0 = rw (z, drop-cons s at 0 inside) in
         one-byte (run (at + 1)) long ∙ ap (λ (c : ℕ). letterWord (letterBank c)) first
 
-    pub a-letter : (b : Bank) {w : ℕ} → letterBank (getD s at 0) ≡ Of b → w ≡ packFields 4 (bankNumber b) 0 0 → Lexes (runLexeme isWord wordToken (drop at s) at) w (at + 1)
+    pub a-letter : (b : Bank) {w : ℕ} → letterBank (getD s at 0) ≡ Of b → w ≡ packFields 4 (bankNumber b) 0 0
+        → Lexes (runLexeme isWord wordToken (drop at s) at) w (at + 1)
     a-letter b e k = whole-run isWord wordToken s at one (sym (letter-run ∙ ap letterWord e)) k
 
     pub no-letter : {w n : ℕ} → letterBank (getD s at 0) ≡ Other → ((p : ℕ) → Lexes (Wrong 6 p) w n) → Lexes (runLexeme isWord wordToken (drop at s) at) w n

@@ -24,7 +24,8 @@ use Rattle.tokens.proofs.Tests.{by-test, both, no}
 use Rattle.tokens.proofs.Runs.{run-most}
 use Rattle.tokens.proofs.Readings.{decimals, append}
 use Rattle.tokens.proofs.numerals.Mantissas.{Splits, whole, dotted, digits-stop}
-use Rattle.tokens.proofs.numerals.Lexemes.{decimal-lexeme, part-lexeme, no-part-lexeme, after-part-lexeme, other-lexeme, exponent-lexeme, signLen, exponentRun, exponentOf}
+use Rattle.tokens.proofs.numerals.Lexemes.{decimal-lexeme, part-lexeme, no-part-lexeme, after-part-lexeme, other-lexeme, exponent-lexeme, signLen}
+use Rattle.tokens.proofs.numerals.Lexemes.{exponentRun, exponentOf}
 use Rattle.tokens.proofs.numerals.Values.{nine-digits}
 use Rattle.token_table.specs.declared.numerals.Mantissa.{Mantissa}
 use Rattle.token_table.specs.private.Table.{packFields}
@@ -41,7 +42,8 @@ next-at : (s : List ℕ) (e c : ℕ) → getD s e 0 ≡ c → 0 < c → drop e s
 next-at s e c q h = drop-cons s e 0 (inside s e c (sym q) h) ∙ rw (q, add-one)
 
 split-at : (s : List ℕ) (at : ℕ) {e : ℕ} → e ≡ at + length (digitsOf (drop at s)) → drop at s ≡ digitsOf (drop at s) ++ drop e s
-split-at s at {e} q = digits-split (drop at s) ∙ ap (λ (l : List ℕ). digitsOf (drop at s) ++ l) (drop-drop (length (digitsOf (drop at s))) at s ∙ ap (λ (k : ℕ). drop k s) (sym q))
+split-at s at {e} q = digits-split (drop at s) ∙ ap (λ (l : List ℕ). digitsOf (drop at s) ++ l)
+    (drop-drop (length (digitsOf (drop at s))) at s ∙ ap (λ (k : ℕ). drop k s) (sym q))
 
 some-digits : (ds : List ℕ) → allDigits ds ≡ true → 0 < length ds → decimalDigits ds ≡ true
 some-digits [] e h = absurd (omega arith)
@@ -118,13 +120,15 @@ module _ {s : List ℕ} {at : ℕ} {m : Mantissa} (h : MantissaAt s at m) where
     -- where the digits start
     pub first-within : {b f : ℕ} → b ≡ getD s (m .end + 1) 0 → f ≡ m .end + 1 + cond (isSign b) 1 0 → f ≤ length s
     first-within {b} {f} sign start =
-        by-test (isSign b) (λ t. let q : f ≡ m .end + 1 + 1 = rw t at start in omega (arith, inside s (m .end + 1) b sign (some-sign b t))) (λ t. let q : f ≡ m .end + 1 + 0 = rw t at start in omega (arith, within-e))
+        by-test (isSign b) (λ t. let q : f ≡ m .end + 1 + 1 = rw t at start in omega (arith, inside s (m .end + 1) b sign (some-sign b t)))
+        (λ t. let q : f ≡ m .end + 1 + 0 = rw t at start in omega (arith, within-e))
       where
         some-sign : (c : ℕ) → isSign c ≡ true → 0 < c
         some-sign zero t = no t
         some-sign (suc c) t = omega arith
 
-    module _ {b f v e : ℕ} (sign : b ≡ getD s (m .end + 1) 0) (start : f ≡ m .end + 1 + cond (isSign b) 1 0) (value : v ≡ min (decimalFrom 0 (digitsOf (drop f s))) decimalLimit) (ends : e ≡ f + length (digitsOf (drop f s))) where
+    module _ {b f v e : ℕ} (sign : b ≡ getD s (m .end + 1) 0) (start : f ≡ m .end + 1 + cond (isSign b) 1 0)
+        (value : v ≡ min (decimalFrom 0 (digitsOf (drop f s))) decimalLimit) (ends : e ≡ f + length (digitsOf (drop f s))) where
       first-tail : getD tail 0 0 ≡ b
       first-tail = first-at s (m .end + 1) ∙ sym sign
 
@@ -137,7 +141,8 @@ module _ {s : List ℕ} {at : ℕ} {m : Mantissa} (h : MantissaAt s at m) where
 
       digits-at : withoutSign tail ≡ drop f s
       digits-at =
-          sign-is tail .1 ∙ ap (λ (c : ℕ). drop (cond (isSign c) 1 0) tail) first-tail ∙ drop-drop (cond (isSign b) 1 0) (m .end + 1) s ∙ ap (λ (k : ℕ). drop k s) (sym start)
+          sign-is tail .1 ∙ ap (λ (c : ℕ). drop (cond (isSign c) 1 0) tail) first-tail ∙ drop-drop (cond (isSign b) 1 0) (m .end + 1) s
+          ∙ ap (λ (k : ℕ). drop k s) (sym start)
 
       abbrev run : List ℕ
       run = take (runLen isRun (drop f s)) (drop f s)
@@ -145,7 +150,8 @@ module _ {s : List ℕ} {at : ℕ} {m : Mantissa} (h : MantissaAt s at m) where
       run-there : exponentRun tail ≡ run
       run-there = ap (λ (l : List ℕ). take (runLen isRun l) l) digits-at
 
-      lexed : numeralLexeme (drop at s) at ≡ lexeme at (length (h .bytes) + suc (signLen tail + runLen isRun (withoutSign tail))) (exponentOf (h .ds) (h .ps) tail)
+      lexed : numeralLexeme (drop at s) at ≡ lexeme at (length (h .bytes) + suc (signLen tail + runLen isRun (withoutSign tail)))
+          (exponentOf (h .ds) (h .ps) tail)
       lexed = ap (λ (l : List ℕ). numeralLexeme l at) there ∙ exponent-lexeme tail at (splits-of (69 ∷ tail) refl refl)
 
       no-number : {w k : ℕ} → decimalDigits run ≡ false → ((p : ℕ) → Lexes (Wrong 4 p) w k) → Lexes (numeralLexeme (drop at s) at) w k
@@ -163,7 +169,8 @@ module _ {s : List ℕ} {at : ℕ} {m : Mantissa} (h : MantissaAt s at m) where
         pub longer-exponent : {w k : ℕ} → isRun x ≡ true → ((p : ℕ) → Lexes (Wrong 4 p) w k) → Lexes (numeralLexeme (drop at s) at) w k
         longer-exponent t g = no-number (rw (run-more isRun digit-run (drop f s) refl (rw (behind s f ends next) at t), and-false)) g
 
-        pub exponent-run : {w : ℕ} → (e ≡ f → ⊥) → isRun x ≡ false → w ≡ scannedWord (literalOf (m .value) (m .digits) (m .places) (eqb b 45) v) → Lexes (numeralLexeme (drop at s) at) w e
+        pub exponent-run : {w : ℕ} → (e ≡ f → ⊥) → isRun x ≡ false → w ≡ scannedWord (literalOf (m .value) (m .digits) (m .places) (eqb b 45) v)
+            → Lexes (numeralLexeme (drop at s) at) w e
         exponent-run {w} n t q =
             let es = digitsOf (drop f s) in
             let is : run ≡ es = run-digits isRun digit-run (drop f s) (rw (behind s f ends next) at t) in
@@ -171,7 +178,8 @@ module _ {s : List ℕ} {at : ℕ} {m : Mantissa} (h : MantissaAt s at m) where
             let good : decimalDigits (exponentRun tail) ≡ true = rw (run-there, is) (some-digits es (digits-only (drop f s)) (omega (arith, ends))) in
             let r = literalOf (decimalValue (h .ds ++ h .ps)) (length (h .ds ++ h .ps)) (length (h .ps)) (eqb b 45) (decimalValue es) in
             let judge : exponentOf (h .ds) (h .ps) tail ≡ r = rw (good, first-tail, run-there, is) in
-            let size : at + (length (h .bytes) + suc (signLen tail + runLen isRun (withoutSign tail))) ≡ e = rw (digits-at, count, sign-size) (omega (arith, ends, start, h .ends)) in
+            let size : at + (length (h .bytes) + suc (signLen tail + runLen isRun (withoutSign tail))) ≡ e =
+            rw (digits-at, count, sign-size) (omega (arith, ends, start, h .ends)) in
             let word : w ≡ scannedWord r = q ∙ ap scannedWord (word-of (eqb b 45) (decimalValue es) value) in
             rw (lexed, judge) (lexes-as word (sym size) (judged at (length (h .bytes) + suc (signLen tail + runLen isRun (withoutSign tail))) r))
           where
@@ -289,11 +297,13 @@ module _ (s : List ℕ) (at : ℕ) (within : at < length s) (digit : isDigit (ge
               some-byte zero t = no t
               some-byte (suc c) t = omega arith
 
-          pub real-run : (l : e ≤ length s) {k : ℕ} → isRun x ≡ false → k ≡ scannedWord (literalOf w (e - at - 1) (e - dot - 1) false 0) → Lexes (numeralLexeme (drop at s) at) k e
+          pub real-run : (l : e ≤ length s) {k : ℕ} → isRun x ≡ false → k ≡ scannedWord (literalOf w (e - at - 1) (e - dot - 1) false 0)
+              → Lexes (numeralLexeme (drop at s) at) k e
           unfolding dotted-mantissa
           real-run l f q =
               let r = literalOf (decimalValue (ds ++ ps)) (length (ds ++ ps)) (length ps) false 0 in
-              let lexed : numeralLexeme (drop at s) at ≡ lexeme at (length bytes) r = ap (λ (u : List ℕ). numeralLexeme u at) split ∙ part-lexeme bytes ds ps (drop e s) at refl whole-digits part-digits (rw (first-at s e, ← next, f)) in
+              let lexed : numeralLexeme (drop at s) at ≡ lexeme at (length bytes) r = ap (λ (u : List ℕ). numeralLexeme u at) split
+              ∙ part-lexeme bytes ds ps (drop e s) at refl whole-digits part-digits (rw (first-at s e, ← next, f)) in
               let size : at + length bytes ≡ e = rw length-append (omega (arith, stop, ends)) in
               rw lexed (lexes-as (q ∙ ap scannedWord (word-of (dotted-mantissa l) false 0 refl)) (sym size) (judged at (length bytes) r))
 
@@ -302,20 +312,24 @@ module _ (s : List ℕ) (at : ℕ) (o : OtherNumeral s at) where
   abbrev next-byte : ℕ
   next-byte = getD (drop at s) (length (digitsOf (drop at s))) 0
 
-  pub rest-run : {e w : ℕ} {r : Scanned} → e ≡ at + runLen isRun (drop at s) → r ≡ (let u = take (e - at) (drop at s) in cond (isHexRun u) (hexOf (drop 2 u)) (Bad 4)) → w ≡ scannedWord r → Lexes (numeralLexeme (drop at s) at) w e
+  pub rest-run : {e w : ℕ} {r : Scanned} → e ≡ at + runLen isRun (drop at s)
+      → r ≡ (let u = take (e - at) (drop at s) in cond (isHexRun u) (hexOf (drop 2 u)) (Bad 4)) → w ≡ scannedWord r → Lexes (numeralLexeme (drop at s) at) w e
   rest-run {e} {w} {r} ends is word =
       let cs = drop at s in
       let n = runLen isRun cs in
       let k : e - at ≡ n = omega arith in
       let t = drop (at + length (digitsOf cs) + 1) s in
       let byte-is : getD s (at + length (digitsOf cs)) 0 ≡ next-byte = sym (getD-drop at s (length (digitsOf cs)) 0) in
-      let split : cs ≡ digitsOf cs ++ (next-byte ∷ t) = split-at s at refl ∙ ap (λ (l : List ℕ). digitsOf cs ++ l) (next-at s (at + length (digitsOf cs)) next-byte byte-is (some-byte next-byte (o .next))) in
+      let split : cs ≡ digitsOf cs ++ (next-byte ∷ t) = split-at s at refl
+      ∙ ap (λ (l : List ℕ). digitsOf cs ++ l) (next-at s (at + length (digitsOf cs)) next-byte byte-is (some-byte next-byte (o .next))) in
       let d : isDigit next-byte ≡ false = ap isDigit (sym byte-is) ∙ stop-at s at refl in
       let whole = some-digits (digitsOf cs) (digits-only cs) (first-digit s at (o .within) (o .starts)) in
       let lexed : numeralLexeme cs at ≡ (let u = take n cs in lexeme at n (cond (isHexRun u) (hexOf (drop 2 u)) (Bad 4))) =
-      subst (λ (l : List ℕ). numeralLexeme l at ≡ (let u = take (runLen isRun l) l in lexeme at (runLen isRun l) (cond (isHexRun u) (hexOf (drop 2 u)) (Bad 4)))) (sym split)
+      subst (λ (l : List ℕ). numeralLexeme l at ≡ (let u = take (runLen isRun l) l in
+      lexeme at (runLen isRun l) (cond (isHexRun u) (hexOf (drop 2 u)) (Bad 4)))) (sym split)
       (other-lexeme next-byte (digitsOf cs) t at whole d (rw (o .next)) (o .no-exponent) (no-dot next-byte (o .next))) in
-      let q : r ≡ (let u = take n cs in cond (isHexRun u) (hexOf (drop 2 u)) (Bad 4)) = is ∙ ap (λ (i : ℕ). let u = take i cs in cond (isHexRun u) (hexOf (drop 2 u)) (Bad 4)) k in
+      let q : r ≡ (let u = take n cs in cond (isHexRun u) (hexOf (drop 2 u)) (Bad 4)) = is
+      ∙ ap (λ (i : ℕ). let u = take i cs in cond (isHexRun u) (hexOf (drop 2 u)) (Bad 4)) k in
       rw lexed (lexes-as word ends (rw (← q) (judged at n r)))
     where
       some-byte : (c : ℕ) → isWord c ≡ true → 0 < c

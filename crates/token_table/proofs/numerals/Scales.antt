@@ -66,5 +66,6 @@ module _ (n count k : ℕ) (s : Bool) (e : ℕ) where
   pub large-exponent : 20 < e → packFields 0 0 5 0 ≡ scannedWord (literalOf n count k s e)
   large-exponent h = rw (lt-leb e 20 h, and-false)
 
-  pub literal-word : {p : ℕ} → count ≤ 9 → e ≤ 20 → k < count → p ≡ literalPattern n (scaleOf s e k) → packFields 2 0 p 0 ≡ scannedWord (literalOf n count k s e)
+  pub literal-word : {p : ℕ} → count ≤ 9 → e ≤ 20 → k < count → p ≡ literalPattern n (scaleOf s e k)
+      → packFields 2 0 p 0 ≡ scannedWord (literalOf n count k s e)
   literal-word h l m q = rw (q, le-leb count 9 h, le-leb e 20 l, scale-range s e k l (omega arith))

@@ -23,9 +23,11 @@ a-symbol at n m h =
     rw (ne-eqb n symbolCount other) (lexes-as refl (ap (λ (k : ℕ). at + k) (h .size)) (found (Symbol n) at (at + length (symbolBytes n))))
 
 -- what the bytes at a position say, once the first is known
-pub seen : (s : List ℕ) (at : ℕ) {a b n w e : ℕ} → at < length s → getD s at 0 ≡ a → b ≡ getD s (at + 1) 0 → n ≡ longest (a ∷ b ∷ getD s (at + 2) 0 ∷ []) → Lexes (symbolLexeme at n) w e → Lexes (symbolLexeme at (longest (drop at s))) w e
+pub seen : (s : List ℕ) (at : ℕ) {a b n w e : ℕ} → at < length s → getD s at 0 ≡ a → b ≡ getD s (at + 1) 0 → n ≡ longest (a ∷ b ∷ getD s (at + 2) 0 ∷ [])
+    → Lexes (symbolLexeme at n) w e → Lexes (symbolLexeme at (longest (drop at s))) w e
 seen s at {a} {b} {n} {w} {e} h p q r l =
-    let same : n ≡ longest (drop at s) = r ∙ ap (λ (k : ℕ). longest (a ∷ k ∷ getD s (at + 2) 0 ∷ [])) q ∙ ap (λ (k : ℕ). longest (k ∷ getD s (at + 1) 0 ∷ getD s (at + 2) 0 ∷ [])) (sym p) ∙ sym (three s at h) in
+    let same : n ≡ longest (drop at s) = r ∙ ap (λ (k : ℕ). longest (a ∷ k ∷ getD s (at + 2) 0 ∷ [])) q
+    ∙ ap (λ (k : ℕ). longest (k ∷ getD s (at + 1) 0 ∷ getD s (at + 2) 0 ∷ [])) (sym p) ∙ sym (three s at h) in
     subst (λ (k : ℕ). Lexes (symbolLexeme at k) w e) same l
 
 -- ---- a symbol that another one doubles

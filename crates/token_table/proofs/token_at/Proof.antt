@@ -15,7 +15,8 @@ numeral-at-requires : tie.Need-numeral-at-requires
 numeral-at-requires c κs = (c .before .before .before .before .pre .0, sym (c .before .is-digit .ensures) ∙ c .if1 .taken)
 
 returns : tie.Need-returns
-returns c = rw (← at-digit _ _ (c .before .before .before .before .before .pre .0) (sym (c .before .before .is-digit .ensures) ∙ c .before .if1 .taken)) (c .numeral-at .ensures)
+returns c = rw (← at-digit _ _ (c .before .before .before .before .before .pre .0) (sym (c .before .before .is-digit .ensures) ∙ c .before .if1 .taken))
+    (c .numeral-at .ensures)
 
 is-letter-requires : tie.Need-is-letter-requires
 is-letter-requires c κs = search needs
@@ -24,13 +25,17 @@ word-at-requires : tie.Need-word-at-requires
 word-at-requires c κs = (c .before .before .before .before .before .before .pre .0, sym (c .before .is-letter .ensures) ∙ c .if2 .taken)
 
 returns-2 : tie.Need-returns-2
-returns-2 c = rw (← at-letter _ _ (c .before .before .before .before .before .before .before .pre .0) (sym (c .before .before .before .before .is-digit .ensures) ∙ c .before .before .before .if1 .left) (sym (c .before .before .is-letter .ensures) ∙ c .before .if2 .taken)) (c .word-at .ensures)
+returns-2 c = rw (← at-letter _ _ (c .before .before .before .before .before .before .before .pre .0)
+    (sym (c .before .before .before .before .is-digit .ensures) ∙ c .before .before .before .if1 .left)
+    (sym (c .before .before .is-letter .ensures) ∙ c .before .if2 .taken)) (c .word-at .ensures)
 
 symbol-at-requires : tie.Need-symbol-at-requires
 symbol-at-requires c κs = search needs
 
 returns-3 : tie.Need-returns-3
-returns-3 c = rw (← at-other _ _ (c .before .before .before .before .before .before .before .pre .0) (sym (c .before .before .before .before .is-digit .ensures) ∙ c .before .before .before .if1 .left) (sym (c .before .before .is-letter .ensures) ∙ c .before .if2 .left)) (c .symbol-at .ensures)
+returns-3 c = rw (← at-other _ _ (c .before .before .before .before .before .before .before .pre .0)
+    (sym (c .before .before .before .before .is-digit .ensures) ∙ c .before .before .before .if1 .left)
+    (sym (c .before .before .is-letter .ensures) ∙ c .before .if2 .left)) (c .symbol-at .ensures)
 
 pub token-at-spec : {M : Type 1} → statement M
 token-at-spec =

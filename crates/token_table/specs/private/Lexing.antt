@@ -1,4 +1,5 @@
--- Only for the contracts of this crate's private functions: a lexeme as a word without its place and an end, and parts of numerals that were read at a position.
+-- Only for the contracts of this crate's private functions: a lexeme as a word without its place and an end, and parts of numerals that were read at a
+-- position.
 use mathlib.Core.Path.{_≡_}
 use mathlib.Core.Bool.{true, false, cond}
 use mathlib.Core.List.{List, _∷_, _++_}

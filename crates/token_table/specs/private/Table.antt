@@ -1,5 +1,5 @@
--- For the layers above: tokens with their places as words of 64 bits, and the tokens that a list of words holds. A formula's meaning does not rest on it: the reader's and the compiler's contracts
--- speak of the text.
+-- For the layers above: tokens with their places as words of 64 bits, and the tokens that a list of words holds. A formula's meaning does not rest on it:
+-- the reader's and the compiler's contracts speak of the text.
 use mathlib.Core.Path.{_≡_}
 use mathlib.Core.Bool.{cond}
 use mathlib.Core.List.{List, [], _∷_}

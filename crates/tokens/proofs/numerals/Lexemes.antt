@@ -12,10 +12,12 @@ use Rattle.memory.specs.Names.{isDigit, allDigits, digitsOf, decimalValue}
 use Rattle.tokens.specs.declared.Scanned.{Scanned}
 use Rattle.tokens.specs.declared.Scanned.the-variants.{Bad}
 use Rattle.tokens.specs.Bytes.{isRun, runLen, all}
-use Rattle.tokens.specs.Numerals.{nonEmpty, decimalDigits, decimalOf, hexOf, isHexRun, hasPart, isSign, withoutSign, literalOf, numeralOf, opensExponent, tailLen, numeralLen}
+use Rattle.tokens.specs.Numerals.{nonEmpty, decimalDigits, decimalOf, hexOf, isHexRun, hasPart, isSign, withoutSign, literalOf, numeralOf}
+use Rattle.tokens.specs.Numerals.{opensExponent, tailLen, numeralLen}
 use Rattle.tokens.specs.Scan.{Wrong, lexeme, numeralLexeme}
 use Rattle.tokens.proofs.Tests.{by-test, both, no}
-use Rattle.tokens.proofs.numerals.Mantissas.{Splits, whole, dotted, parts, shorter, take-past, length-is, literal, real-is, followed-is, dotted-is, not-all, runs}
+use Rattle.tokens.proofs.numerals.Mantissas.{Splits, whole, dotted, parts, shorter, take-past, length-is, literal, real-is, followed-is}
+use Rattle.tokens.proofs.numerals.Mantissas.{dotted-is, not-all, runs}
 
 -- ---- the byte that comes next
 no-run-digit : (c : ℕ) → isRun c ≡ false → isDigit c ≡ false
@@ -44,7 +46,8 @@ lexeme-is {m} {x = x} p s =
 alone : {m ds ps x : List ℕ} (p : ℕ) → Splits m ds ps x → isRun (getD x 0 0) ≡ false → numeralLexeme (m ++ x) p ≡ lexeme p (length m) (numeralOf m)
 alone {m} {x = x} p s f = lexeme-is p s ∙ rw (no-tail x f, add-zero, append-nil)
 
-pub decimal-lexeme : (ds x : List ℕ) (p : ℕ) → decimalDigits ds ≡ true → isRun (getD x 0 0) ≡ false → numeralLexeme (ds ++ x) p ≡ lexeme p (length ds) (decimalOf ds)
+pub decimal-lexeme : (ds x : List ℕ) (p : ℕ) → decimalDigits ds ≡ true → isRun (getD x 0 0) ≡ false
+    → numeralLexeme (ds ++ x) p ≡ lexeme p (length ds) (decimalOf ds)
 decimal-lexeme ds x p e f = alone {m = ds} {x = x} p (whole refl refl e (no-run-digit (getD x 0 0) f) (no-run-part x f)) f ∙ rw e
 
 pub part-lexeme : (m ds ps x : List ℕ) (p : ℕ) → m ≡ ds ++ (46 ∷ ps) → decimalDigits ds ≡ true → decimalDigits ps ≡ true → isRun (getD x 0 0) ≡ false
@@ -66,13 +69,15 @@ no-part-lexeme ds t p e f =
     let s : Splits ds ds [] (46 ∷ t) = whole refl refl e refl f in
     lexeme-is p s ∙ ap (lexeme p (length ds + suc (runLen isRun t))) (followed-is 46 (take (runLen isRun t) t) (shorter (suc (runLen isRun t)) s) refl)
 
-pub after-part-lexeme : (m ds ps : List ℕ) (c : ℕ) (t : List ℕ) (p : ℕ) → m ≡ ds ++ (46 ∷ ps) → decimalDigits ds ≡ true → decimalDigits ps ≡ true → isDigit c ≡ false
+pub after-part-lexeme : (m ds ps : List ℕ) (c : ℕ) (t : List ℕ) (p : ℕ) → m ≡ ds ++ (46 ∷ ps) → decimalDigits ds ≡ true → decimalDigits ps ≡ true
+    → isDigit c ≡ false
     → isRun c ≡ true → eqb c 69 ≡ false → numeralLexeme (m ++ (c ∷ t)) p ≡ Wrong 4 p
 after-part-lexeme m ds ps c t p q e g d r n =
     let s : Splits m ds ps (c ∷ t) = dotted q e g d in
     lexeme-is p s
     ∙ ap (λ (k : ℕ). lexeme p (length m + k) (numeralOf (m ++ take k (c ∷ t)))) (tail-is c t r n)
-    ∙ ap (lexeme p (length m + suc (runLen isRun t))) (dotted-is m ds ps (c ∷ take (runLen isRun t) t) (parts (shorter (suc (runLen isRun t)) s)) q e ∙ strays c ds ps (take (runLen isRun t) t) n)
+    ∙ ap (lexeme p (length m + suc (runLen isRun t))) (dotted-is m ds ps (c ∷ take (runLen isRun t) t) (parts (shorter (suc (runLen isRun t)) s)) q e
+    ∙ strays c ds ps (take (runLen isRun t) t) n)
 
 -- ---- hexadecimal, or none
 pub run-past : (ds x : List ℕ) → all isRun ds ≡ true → runLen isRun (ds ++ x) ≡ length ds + runLen isRun x
@@ -82,7 +87,8 @@ run-past (d ∷ ds) x e =
     let z : suc (length ds) + runLen isRun x ≡ suc (length ds + runLen isRun x) = omega arith in
     rw (h .0, z, run-past ds x (h .1))
 
-other-is : (c : ℕ) (ds t : List ℕ) → Splits ds ds [] (c ∷ t) → isDigit c ≡ false → eqb c 69 ≡ false → numeralOf (ds ++ (c ∷ t)) ≡ cond (isHexRun (ds ++ (c ∷ t))) (hexOf (drop 2 (ds ++ (c ∷ t)))) (Bad 4)
+other-is : (c : ℕ) (ds t : List ℕ) → Splits ds ds [] (c ∷ t) → isDigit c ≡ false → eqb c 69 ≡ false
+    → numeralOf (ds ++ (c ∷ t)) ≡ cond (isHexRun (ds ++ (c ∷ t))) (hexOf (drop 2 (ds ++ (c ∷ t)))) (Bad 4)
 other-is c ds t s d n =
     let r : Bad 4 ≡ _ = sym (real-is (parts s) ∙ strays c ds [] t n) in
     rw (not-all ds c t d, and-false) (ap (cond (isHexRun (ds ++ (c ∷ t))) (hexOf (drop 2 (ds ++ (c ∷ t))))) (sym r))
@@ -94,9 +100,11 @@ other-lexeme c ds t p e d r n k =
     let cs = ds ++ (c ∷ t) in
     let s : Splits ds ds [] (c ∷ t) = whole refl refl e d (rw k) in
     let l : numeralLen cs ≡ runLen isRun cs = length-is s ∙ rw (tail-is c t r n, run-past ds (c ∷ t) (runs ds (both (nonEmpty ds) (allDigits ds) e .1)), r) in
-    let w : take (runLen isRun cs) cs ≡ ds ++ (c ∷ take (runLen isRun t) t) = rw (run-past ds (c ∷ t) (runs ds (both (nonEmpty ds) (allDigits ds) e .1)), r) (take-past ds (c ∷ t) (suc (runLen isRun t))) in
+    let w : take (runLen isRun cs) cs ≡ ds ++ (c ∷ take (runLen isRun t) t) =
+    rw (run-past ds (c ∷ t) (runs ds (both (nonEmpty ds) (allDigits ds) e .1)), r) (take-past ds (c ∷ t) (suc (runLen isRun t))) in
     let v = take (runLen isRun cs) cs in
-    let g : numeralOf v ≡ cond (isHexRun v) (hexOf (drop 2 v)) (Bad 4) = rw w (other-is c ds (take (runLen isRun t) t) (shorter (suc (runLen isRun t)) s) d n) in
+    let g : numeralOf v ≡ cond (isHexRun v) (hexOf (drop 2 v)) (Bad 4) =
+    rw w (other-is c ds (take (runLen isRun t) t) (shorter (suc (runLen isRun t)) s) d n) in
     ap (λ (i : ℕ). lexeme p i (numeralOf (take i cs))) l ∙ ap (lexeme p (runLen isRun cs)) g
 
 -- ---- an exponent
@@ -110,7 +118,8 @@ exponentRun y = take (runLen isRun (withoutSign y)) (withoutSign y)
 
 abbrev pub exponentOf : List ℕ → List ℕ → List ℕ → Scanned
 exponentOf ds ps y =
-    cond (decimalDigits (exponentRun y)) (literalOf (decimalValue (ds ++ ps)) (length (ds ++ ps)) (length ps) (eqb (getD y 0 0) 45) (decimalValue (exponentRun y))) (Bad 4)
+    cond (decimalDigits (exponentRun y)) (literalOf (decimalValue (ds ++ ps)) (length (ds ++ ps)) (length ps) (eqb (getD y 0 0) 45)
+    (decimalValue (exponentRun y))) (Bad 4)
 
 no-minus : (c : ℕ) → isSign c ≡ false → eqb c 45 ≡ false
 no-minus c f = by-test (eqb c 45) (λ e. no (sym f ∙ rw (e, or-true))) (λ e. e)
@@ -120,17 +129,20 @@ kept : (k c : ℕ) (t : List ℕ) → isSign c ≡ false → (withoutSign (take 
 kept zero c t f = (refl, refl)
 kept (suc k) c t f = (rw f, no-minus c f)
 
-exponent-tail : (ds ps y : List ℕ) → (tailLen (69 ∷ y) ≡ suc (signLen y + runLen isRun (withoutSign y))) × (literal ds ps (take (tailLen (69 ∷ y)) (69 ∷ y)) ≡ exponentOf ds ps y)
+exponent-tail : (ds ps y : List ℕ) → (tailLen (69 ∷ y) ≡ suc (signLen y + runLen isRun (withoutSign y)))
+    × (literal ds ps (take (tailLen (69 ∷ y)) (69 ∷ y)) ≡ exponentOf ds ps y)
 exponent-tail ds ps [] = (refl, refl)
 exponent-tail ds ps (c ∷ t) = by-test (isSign c) signed plain
   where
-    signed : isSign c ≡ true → (tailLen (69 ∷ c ∷ t) ≡ suc (signLen (c ∷ t) + runLen isRun (withoutSign (c ∷ t)))) × (literal ds ps (take (tailLen (69 ∷ c ∷ t)) (69 ∷ c ∷ t)) ≡ exponentOf ds ps (c ∷ t))
+    signed : isSign c ≡ true → (tailLen (69 ∷ c ∷ t) ≡ suc (signLen (c ∷ t) + runLen isRun (withoutSign (c ∷ t))))
+        × (literal ds ps (take (tailLen (69 ∷ c ∷ t)) (69 ∷ c ∷ t)) ≡ exponentOf ds ps (c ∷ t))
     signed e =
         let k : 2 + runLen isRun t ≡ suc (suc (runLen isRun t)) = omega arith in
         let j : suc (1 + runLen isRun t) ≡ suc (suc (runLen isRun t)) = omega arith in
         (rw (e, k, j), rw (e, k, e))
 
-    plain : isSign c ≡ false → (tailLen (69 ∷ c ∷ t) ≡ suc (signLen (c ∷ t) + runLen isRun (withoutSign (c ∷ t)))) × (literal ds ps (take (tailLen (69 ∷ c ∷ t)) (69 ∷ c ∷ t)) ≡ exponentOf ds ps (c ∷ t))
+    plain : isSign c ≡ false → (tailLen (69 ∷ c ∷ t) ≡ suc (signLen (c ∷ t) + runLen isRun (withoutSign (c ∷ t))))
+        × (literal ds ps (take (tailLen (69 ∷ c ∷ t)) (69 ∷ c ∷ t)) ≡ exponentOf ds ps (c ∷ t))
     plain f =
         let j : 0 + runLen isRun (c ∷ t) ≡ runLen isRun (c ∷ t) = omega arith in
         let h = kept (runLen isRun (c ∷ t)) c t f in

@@ -13,7 +13,9 @@ use Rattle.memory.proofs.names.Decimals.{digit-range, digits-split, digits-only
 use Rattle.tokens.specs.declared.Scanned.{Scanned}
 use Rattle.tokens.specs.declared.Scanned.the-variants.{Bad}
 use Rattle.tokens.specs.Bytes.{isRun, runLen, all}
-use Rattle.tokens.specs.Numerals.{nonEmpty, decimalDigits, decimalOf, hexOf, isHexRun, behindDigits, hasPart, partOf, behindPart, fractionDigits, behindMantissa, isSign, withoutSign, isExponent, isNegative, exponentSize, literalOf, realOf, numeralOf, opensExponent, tailLen, numeralLen}
+use Rattle.tokens.specs.Numerals.{nonEmpty, decimalDigits, decimalOf, hexOf, isHexRun, behindDigits, hasPart, partOf, behindPart}
+use Rattle.tokens.specs.Numerals.{fractionDigits, behindMantissa, isSign, withoutSign, isExponent, isNegative, exponentSize, literalOf, realOf}
+use Rattle.tokens.specs.Numerals.{numeralOf, opensExponent, tailLen, numeralLen}
 use Rattle.tokens.specs.Scan.{Wrong, lexeme, numeralLexeme}
 use Rattle.tokens.proofs.Tests.{by-test, both, no}
 
@@ -116,7 +118,8 @@ literal ds ps x = cond (isExponent x) (literalOf (decimalValue (ds ++ ps)) (leng
 
 pub real-is : {cs ds ps x : List ℕ} → Parts cs ds ps x → realOf cs ≡ literal ds ps x
 real-is {cs} {ds} {ps} p =
-    ap (λ (l : List ℕ). literal l (fractionDigits cs) (behindMantissa cs)) (p .digits) ∙ ap (λ (l : List ℕ). literal ds l (behindMantissa cs)) (p .part) ∙ ap (literal ds ps) (p .rest)
+    ap (λ (l : List ℕ). literal l (fractionDigits cs) (behindMantissa cs)) (p .digits) ∙ ap (λ (l : List ℕ). literal ds l (behindMantissa cs)) (p .part)
+    ∙ ap (literal ds ps) (p .rest)
 
 pub numeral-is : {cs ds ps x : List ℕ} → Parts cs ds ps x → decimalDigits cs ≡ false → isHexRun cs ≡ false → numeralOf cs ≡ literal ds ps x
 numeral-is p n h = rw (n, h) (real-is p)

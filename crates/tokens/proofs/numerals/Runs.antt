@@ -45,7 +45,15 @@ front c cs d = go (behindDigits (c ∷ cs)) (digits-split (c ∷ cs)) (digits-st
         let e : decimalDigits part ≡ true = rw (k .1, digits-only t) in
         let m = digitsOf (c ∷ cs) ++ (46 ∷ part) in
         let there : b ∷ t ≡ 46 ∷ (part ++ rest) = rw (eqb-true b 46 (k .0)) (ap (λ (l : List ℕ). 46 ∷ l) (digits-split t)) in
-        record { mantissa = m; digits = digitsOf (c ∷ cs); part = part; rest = rest; is = q ∙ ap (λ (l : List ℕ). digitsOf (c ∷ cs) ++ l) there ∙ sym (append-assoc (digitsOf (c ∷ cs)) (46 ∷ part) rest); splits = dotted refl some e (digits-stop t) })
+        record {
+          mantissa = m;
+          digits = digitsOf (c ∷ cs);
+          part = part;
+          rest = rest;
+          is = q ∙ ap (λ (l : List ℕ). digitsOf (c ∷ cs) ++ l) there
+              ∙ sym (append-assoc (digitsOf (c ∷ cs)) (46 ∷ part) rest);
+          splits = dotted refl some e (digits-stop t);
+        })
         (λ h. record { mantissa = digitsOf (c ∷ cs); digits = digitsOf (c ∷ cs); part = []; rest = b ∷ t; is = q; splits = whole refl refl some f h })
 
 -- ---- a mantissa, by both descriptions
@@ -64,7 +72,8 @@ module _ {m ds ps x : List ℕ} where
 
   all-run : Splits m ds ps x → all isRun m ≡ true
   all-run (whole q z e f n) = rw q (runs ds (both (nonEmpty ds) (allDigits ds) e .1))
-  all-run (dotted q e g f) = rw q (all-append isRun ds (46 ∷ ps) (runs ds (both (nonEmpty ds) (allDigits ds) e .1)) (runs ps (both (nonEmpty ps) (allDigits ps) g .1)))
+  all-run (dotted q e g f) = rw q (all-append isRun ds (46 ∷ ps) (runs ds (both (nonEmpty ds) (allDigits ds) e .1))
+      (runs ps (both (nonEmpty ps) (allDigits ps) g .1)))
 
 some-length : (s : List ℕ) → Starts isDigit s → 0 < length s
 some-length (c ∷ cs) (first e) = omega arith
@@ -122,7 +131,11 @@ module _ {m ds ps x : List ℕ} (s : Splits m ds ps x) where
   unsigned-run : opensExponent x ≡ false → NumeralRun (m ++ take (runLen isRun x) x) (drop (runLen isRun x) x)
   unsigned-run f =
       plain
-      (record { starts = starts-is s (take (runLen isRun x) x); every = all-append isRun m (take (runLen isRun x) x) (all-run s) (run-every isRun x); stops = run-stops isRun x })
+      (record {
+        starts = starts-is s (take (runLen isRun x) x);
+        every = all-append isRun m (take (runLen isRun x) x) (all-run s) (run-every isRun x);
+        stops = run-stops isRun x;
+      })
       (λ n k q. by n k q)
     where
       by : (n : List ℕ) → Mantissa n → m ++ take (runLen isRun x) x ≡ n ++ (69 ∷ []) → Stops isSign (drop (runLen isRun x) x)
@@ -130,7 +143,8 @@ module _ {m ds ps x : List ℕ} (s : Splits m ds ps x) where
           let r = drop (runLen isRun x) x in
           let h = before-e r k in
           let same : m ++ x ≡ n ++ (69 ∷ r) =
-          ap (λ (l : List ℕ). m ++ l) (sym (take-append-drop (runLen isRun x) x)) ∙ sym (append-assoc m (take (runLen isRun x) x) r) ∙ ap (λ (l : List ℕ). l ++ r) q ∙ append-assoc n (69 ∷ []) r in
+          ap (λ (l : List ℕ). m ++ l) (sym (take-append-drop (runLen isRun x) x)) ∙ sym (append-assoc m (take (runLen isRun x) x) r)
+          ∙ ap (λ (l : List ℕ). l ++ r) q ∙ append-assoc n (69 ∷ []) r in
           let tail : x ≡ 69 ∷ r = sym (parts s .rest) ∙ ap behindMantissa same ∙ parts (h .splits) .rest in
           no-sign r (rw tail at f)
 
@@ -144,7 +158,8 @@ module _ {m ds ps x : List ℕ} (s : Splits m ds ps x) where
   cut-run = rw (length-is s, take-past m x (tailLen x), drop-past m x (tailLen x)) splits-run
 
 pub numeral-run : (c : ℕ) (cs : List ℕ) → isDigit c ≡ true → NumeralRun (take (numeralLen (c ∷ cs)) (c ∷ cs)) (drop (numeralLen (c ∷ cs)) (c ∷ cs))
-numeral-run c cs d = let f = front c cs d in subst (λ (s : List ℕ). NumeralRun (take (numeralLen s) s) (drop (numeralLen s) s)) (sym (f .is)) (cut-run (f .splits))
+numeral-run c cs d = let f = front c cs d in subst (λ (s : List ℕ). NumeralRun (take (numeralLen s) s) (drop (numeralLen s) s)) (sym (f .is))
+    (cut-run (f .splits))
 
 -- ---- and back
 pub run-starts : {w r : List ℕ} → NumeralRun w r → Starts isDigit w
@@ -171,7 +186,8 @@ module _ {w r : List ℕ} (h : LongestRun isDigit isRun w r) (n : (m : List ℕ)
   plain-len {m} {x = x} s q =
       by-test (opensExponent x) (λ e. absurd (not-opened s q (opens x e)))
       (λ e. let t : tailLen x ≡ runLen isRun x = rw e in
-      ap numeralLen q ∙ length-is s ∙ ap (λ (k : ℕ). length m + k) t ∙ sym (run-past m x (all-run s)) ∙ ap (runLen isRun) (sym q) ∙ run-length isRun w r (h .every) (h .stops))
+      ap numeralLen q ∙ length-is s ∙ ap (λ (k : ℕ). length m + k) t ∙ sym (run-past m x (all-run s)) ∙ ap (runLen isRun) (sym q)
+      ∙ run-length isRun w r (h .every) (h .stops))
 
 started : {w : List ℕ} (r : List ℕ) → Starts isDigit w → Front (w ++ r)
 started r (first {c = c} {cs = cs} e) = front c (cs ++ r) e

@@ -22,7 +22,8 @@ use Rattle.tokens.specs.declared.Token.the-variants.{Number}
 use Rattle.tokens.specs.declared.Scanned.{Scanned}
 use Rattle.tokens.specs.declared.Scanned.the-variants.{Good, Bad}
 use Rattle.tokens.specs.Bytes.{isHex, all}
-use Rattle.tokens.specs.Numerals.{nonEmpty, decimalDigits, hexFrom, isHexRun, behindMantissa, isExponent, mantissaDigits, exponentSize, scaleOf, literalNumber, literalScale, realOf, numeralOf}
+use Rattle.tokens.specs.Numerals.{nonEmpty, decimalDigits, hexFrom, isHexRun, behindMantissa, isExponent, mantissaDigits, exponentSize, scaleOf}
+use Rattle.tokens.specs.Numerals.{literalNumber, literalScale, realOf, numeralOf}
 use Rattle.tokens.proofs.Tests.{by-test, both, digit-small}
 use Rattle.tokens.proofs.Readings.{decimals, below}
 
@@ -37,7 +38,8 @@ module _ (w : List ℕ) (x : Float) where
   literal-is : realOf w ≡ Good (Number (Real x)) → nearestDecimal (literalNumber w) (literalScale w) ≡ x
   literal-is = by (isExponent (behindMantissa w)) (leb (length (mantissaDigits w)) 9 && leb (exponentSize (behindMantissa w)) 20)
     where
-      by : (s t : Bool) → cond s (cond t (Good (Number (Real (nearestDecimal (literalNumber w) (literalScale w))))) (Bad 5)) (Bad 4) ≡ Good (Number (Real x)) → nearestDecimal (literalNumber w) (literalScale w) ≡ x
+      by : (s t : Bool) → cond s (cond t (Good (Number (Real (nearestDecimal (literalNumber w) (literalScale w))))) (Bad 5)) (Bad 4)
+          ≡ Good (Number (Real x)) → nearestDecimal (literalNumber w) (literalScale w) ≡ x
       by true true q = cc
       by true false q = absurd (no-real q)
       by false t q = absurd (no-real q)
@@ -54,10 +56,12 @@ module _ (w : List ℕ) (x : Float) where
   is-literal : numeralOf w ≡ Good (Number (Real x)) → nearestDecimal (literalNumber w) (literalScale w) ≡ x
   is-literal q =
       by-test (decimalDigits w) (λ e. absurd (no-decimal (pos (decimalValue w)) (leb (decimalValue w) 2147483647) (rw e at q)))
-      (λ e. by-test (isHexRun w) (λ h. absurd (no-hex (signedOf 32 (hexFrom 0 (drop 2 w))) (nonEmpty (drop 2 w) && all isHex (drop 2 w)) (leb (length (drop 2 w)) 8) (rw (e, h) at q))) (λ h. literal-is (rw (e, h) at q)))
+      (λ e. by-test (isHexRun w) (λ h. absurd (no-hex (signedOf 32 (hexFrom 0 (drop 2 w))) (nonEmpty (drop 2 w) && all isHex (drop 2 w))
+      (leb (length (drop 2 w)) 8) (rw (e, h) at q))) (λ h. literal-is (rw (e, h) at q)))
 
 pub real-literal : (w : List ℕ) (x : Float) → numeralOf w ≡ Good (Number (Real x)) → Rounds (scaledDecimal (literalNumber w) (literalScale w)) x
-real-literal w x q = subst (Rounds (scaledDecimal (literalNumber w) (literalScale w))) (is-literal w x q) (literal-laws .rounds (literalNumber w) (literalScale w))
+real-literal w x q = subst (Rounds (scaledDecimal (literalNumber w) (literalScale w))) (is-literal w x q)
+    (literal-laws .rounds (literalNumber w) (literalScale w))
 
 -- ---- the number of at most nine digits
 as-all : (ds : List ℕ) → allDigits ds ≡ true → all isDigit ds ≡ true
@@ -94,7 +98,8 @@ scale-range false e k h l = positive e k h l
 scale-range true zero k h l = positive 0 k h l
 scale-range true (suc e) k h l = subst (λ (z : ℤ). isScale (z -ℤ pos k) ≡ true) (sym (minus e)) (negative e k (omega arith) l)
 
-pub literal-single : (s : Bool) (ds : List ℕ) (e k : ℕ) → allDigits ds ≡ true → length ds ≤ 9 → e ≤ 20 → k ≤ 8 → Single (nearestDecimal (decimalValue ds) (scaleOf s e k))
+pub literal-single : (s : Bool) (ds : List ℕ) (e k : ℕ) → allDigits ds ≡ true → length ds ≤ 9 → e ≤ 20 → k ≤ 8
+    → Single (nearestDecimal (decimalValue ds) (scaleOf s e k))
 literal-single s ds e k d n h l = literal-laws .single (decimalValue ds) (scaleOf s e k) (nine-digits ds d n) (scale-range s e k h l)
 
 -- ---- a numeral is a number, or 4 or 5

@@ -1,4 +1,5 @@
--- For the contracts of functions that no reader calls: the names of functions of one length, one after another, and the number of the function that a word names.
+-- For the contracts of functions that no reader calls: the names of functions of one length, one after another, and the number of the function that a word
+-- names.
 use mathlib.Core.Path.{_≡_}
 use mathlib.Core.Bool.{cond}
 use mathlib.Core.List.{List, [], _∷_, _++_}

@@ -38,4 +38,5 @@ returns : tie.Need-returns Inv-loop μ-loop
 returns c = tt
 
 pub results-spec : {M : Type 1} → statement M
-results-spec = tie.close (tie.spec Inv-loop μ-loop loop-holds operand-requires apply-requires put-outcome-requires add-n loop-less loop-again write-requires returns)
+results-spec = tie.close (tie.spec Inv-loop μ-loop loop-holds operand-requires apply-requires put-outcome-requires add-n loop-less loop-again write-requires
+    returns)

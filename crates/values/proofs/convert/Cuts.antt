@@ -2,7 +2,8 @@
 use mathlib.Core.Path.{_≡_, refl, sym, ap, _∙_}
 use mathlib.Core.Bool.{Bool, true, false, false≢true}
 use Prim.Native.Nat.{ℕ, zero, suc, _*_, _/_, _^_, _≤_, _<_}
-use native.Mathlib.Nat.{le-refl, le-trans, lt-of-lt-of-le, mul-comm, min-eq-left, le-of-suc-le-suc, le-div-iff-mul-le, div-lt-iff-lt-mul, div-le-of-le-mul, div-div-eq-div-mul, mul-div-mul-right}
+use native.Mathlib.Nat.{le-refl, le-trans, lt-of-lt-of-le, mul-comm, min-eq-left, le-of-suc-le-suc, le-div-iff-mul-le, div-lt-iff-lt-mul}
+use native.Mathlib.Nat.{div-le-of-le-mul, div-div-eq-div-mul, mul-div-mul-right}
 use native.Mathlib.Omega.{arith}
 use lib.Dec.{T, lit<}
 use lib.IntN.{ℤ, pos, negsuc, negℤ}

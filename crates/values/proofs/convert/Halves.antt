@@ -2,7 +2,8 @@
 use mathlib.Core.Path.{_≡_, refl, sym, ap, _∙_}
 use mathlib.Core.Bool.{Bool, true, false}
 use Prim.Native.Nat.{ℕ, zero, suc, _+_, _*_, _/_, _%_, _^_, _≤_, _<_}
-use native.Mathlib.Nat.{zero-lt-suc, le-of-lt, le-add-right, mul-comm, mul-assoc, mul-left-comm, mul-pos, mul-le-mul-right, add-div-right, div-div-eq-div-mul, mul-div-mul-left, mul-div-mul-right}
+use native.Mathlib.Nat.{zero-lt-suc, le-of-lt, le-add-right, mul-comm, mul-assoc, mul-left-comm, mul-pos, mul-le-mul-right, add-div-right}
+use native.Mathlib.Nat.{div-div-eq-div-mul, mul-div-mul-left, mul-div-mul-right}
 use native.Mathlib.Omega.{arith}
 use lib.IntN.{ℤ, pos, negsuc, _+ℤ_, negℤ-+ℤ}
 use lib.Signed.{quotZ, remZ}

@@ -20,7 +20,8 @@ digit-requires-5 : tie.Need-digit-requires-5
 digit-requires-5 c κs = search needs
 
 returns : tie.Need-returns
-returns c = five (c .before .before .before .before .before .args .n) _ _ _ _ _ (c .before .before .before .before .digit .ensures) (c .before .before .before .digit2 .ensures) (c .before .before .digit3 .ensures) (c .before .digit4 .ensures) (c .digit5 .ensures)
+returns c = five (c .before .before .before .before .before .args .n) _ _ _ _ _ (c .before .before .before .before .digit .ensures)
+    (c .before .before .before .digit2 .ensures) (c .before .before .digit3 .ensures) (c .before .digit4 .ensures) (c .digit5 .ensures)
 
 pub digits-of-spec : {M : Type 1} → statement M
 digits-of-spec =

@@ -26,7 +26,12 @@ mul-sum : tie.Need-mul-sum Inv-loop μ-loop
 mul-sum c = omega (arith, bound (c .before .before .before .loop .position) (c .wide .result) (c .before .before .before .loop .inv .low) (c .wide .ensures .1))
 
 add-sum : tie.Need-add-sum Inv-loop μ-loop
-add-sum c = omega (arith, bound (c .before .before .before .loop .position) (c .wide .result) (c .before .before .before .loop .inv .low) (c .wide .ensures .1), c .before .before .before .loop .inv .small)
+add-sum c = omega (
+  arith,
+  bound (c .before .before .before .loop .position) (c .wide .result) (c .before .before .before .loop .inv .low)
+      (c .wide .ensures .1),
+  c .before .before .before .loop .inv .small,
+)
 
 add-position : tie.Need-add-position Inv-loop μ-loop
 add-position c = search needs

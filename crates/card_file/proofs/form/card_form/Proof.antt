@@ -23,10 +23,15 @@ no-form-requires : tie.Need-no-form-requires
 no-form-requires c κs = search needs
 
 returns : tie.Need-returns
-returns c = c .no-form .ensures ∙ none-1 (c .before .before .before .before .before .before .args .s .now) (sym (c .before .enum-told .given .1) ∙ c .before .before .before .field-at .ensures)
+returns c = c .no-form .ensures ∙ none-1 (c .before .before .before .before .before .before .args .s .now)
+    (sym (c .before .enum-told .given .1) ∙ c .before .before .before .field-at .ensures)
 
 add-number-end : tie.Need-add-number-end
-add-number-end c = omega (arith, (one (c .before .before .before .before .before .before .args .s .now) _ (sym (c .before .digits .given .1) ∙ c .before .before .before .field-at .ensures)) .inside)
+add-number-end c = omega (
+  arith,
+  (one (c .before .before .before .before .before .before .args .s .now) _
+      (sym (c .before .digits .given .1) ∙ c .before .before .before .field-at .ensures)) .inside,
+)
 
 sub-card-number : tie.Need-sub-card-number
 sub-card-number c = search needs
@@ -35,19 +40,31 @@ part-card-number-start : tie.Need-part-card-number-start
 part-card-number-start c = search needs
 
 part-card-number-end : tie.Need-part-card-number-end
-part-card-number-end c = omega (arith, (one (c .before .before .before .before .before .before .args .s .now) _ (sym (c .before .digits .given .1) ∙ c .before .before .before .field-at .ensures)) .inside)
+part-card-number-end c = omega (
+  arith,
+  (one (c .before .before .before .before .before .before .args .s .now) _
+      (sym (c .before .digits .given .1) ∙ c .before .before .before .field-at .ensures)) .inside,
+)
 
 card-number-requires : tie.Need-card-number-requires
 card-number-requires c κs = search needs
 
 add-field-at : tie.Need-add-field-at
-add-field-at c = omega (arith, (one (c .before .before .before .before .before .before .before .before .args .s .now) _ (sym (c .before .before .before .digits .given .1) ∙ c .before .before .before .before .before .field-at .ensures)) .inside)
+add-field-at c = omega (
+  arith,
+  (one (c .before .before .before .before .before .before .before .before .args .s .now) _
+      (sym (c .before .before .before .digits .given .1) ∙ c .before .before .before .before .before .field-at .ensures)) .inside,
+)
 
 slice-aggregate-field-at-2 : tie.Need-slice-aggregate-field-at-2
 slice-aggregate-field-at-2 c = search needs
 
 field-at-requires-2 : tie.Need-field-at-requires-2
-field-at-requires-2 c κs = omega (arith, (one (c .before .before .before .before .before .before .before .before .before .args .s .now) _ (sym (c .before .before .before .before .digits .given .1) ∙ c .before .before .before .before .before .before .field-at .ensures)) .inside)
+field-at-requires-2 c κs = omega (
+  arith,
+  (one (c .before .before .before .before .before .before .before .before .before .args .s .now) _
+      (sym (c .before .before .before .before .digits .given .1) ∙ c .before .before .before .before .before .before .field-at .ensures)) .inside,
+)
 
 enum-known-target-size : tie.Need-enum-known-target-size
 enum-known-target-size c = search needs
@@ -59,22 +76,64 @@ no-form-requires-2 : tie.Need-no-form-requires-2
 no-form-requires-2 c κs = search needs
 
 returns-2 : tie.Need-returns-2
-returns-2 c = c .no-form2 .ensures ∙ none-2 (c .before .before .before .before .before .before .before .before .before .before .before .before .before .args .s .now) _ (one (c .before .before .before .before .before .before .before .before .before .before .before .before .before .args .s .now) _ (sym (c .before .before .before .before .before .before .before .before .digits .given .1) ∙ c .before .before .before .before .before .before .before .before .before .before .field-at .ensures)) (sym (c .before .enum-told2 .given .1) ∙ c .before .before .before .field-at2 .ensures)
+returns-2 c = c .no-form2 .ensures ∙ none-2 (c .before .before .before .before .before .before .before .before .before .before .before .before .before .args
+    .s .now) _ (one (c .before .before .before .before .before .before .before .before .before .before .before .before .before .args .s .now) _
+    (sym (c .before .before .before .before .before .before .before .before .digits .given .1)
+    ∙ c .before .before .before .before .before .before .before .before .before .before .field-at .ensures))
+    (sym (c .before .enum-told2 .given .1) ∙ c .before .before .before .field-at2 .ensures)
 
 add-target : tie.Need-add-target
-add-target c = omega (arith, (two (c .before .before .before .before .before .before .before .before .before .before .before .before .before .args .s .now) _ _ (one (c .before .before .before .before .before .before .before .before .before .before .before .before .before .args .s .now) _ (sym (c .before .before .before .before .before .before .before .before .digits .given .1) ∙ c .before .before .before .before .before .before .before .before .before .before .field-at .ensures)) (sym (c .before .target-size .given .1) ∙ c .before .before .before .field-at2 .ensures)) .inside, (two (c .before .before .before .before .before .before .before .before .before .before .before .before .before .args .s .now) _ _ (one (c .before .before .before .before .before .before .before .before .before .before .before .before .before .args .s .now) _ (sym (c .before .before .before .before .before .before .before .before .digits .given .1) ∙ c .before .before .before .before .before .before .before .before .before .before .field-at .ensures)) (sym (c .before .target-size .given .1) ∙ c .before .before .before .field-at2 .ensures)) .end)
+add-target c = omega (
+  arith,
+  (two (c .before .before .before .before .before .before .before .before .before .before .before .before .before .args .s .now)
+      _ _ (one (c .before .before .before .before .before .before .before .before .before .before .before .before .before .args .s .now) _
+      (sym (c .before .before .before .before .before .before .before .before .digits .given .1)
+      ∙ c .before .before .before .before .before .before .before .before .before .before .field-at .ensures))
+      (sym (c .before .target-size .given .1) ∙ c .before .before .before .field-at2 .ensures)) .inside,
+  (two (c .before .before .before .before .before .before .before .before .before .before .before .before .before .args .s .now) _ _
+      (one (c .before .before .before .before .before .before .before .before .before .before .before .before .before .args .s .now) _
+      (sym (c .before .before .before .before .before .before .before .before .digits .given .1)
+      ∙ c .before .before .before .before .before .before .before .before .before .before .field-at .ensures))
+      (sym (c .before .target-size .given .1) ∙ c .before .before .before .field-at2 .ensures)) .end,
+)
 
 add-target-end : tie.Need-add-target-end
-add-target-end c = omega (arith, (two (c .before .before .before .before .before .before .before .before .before .before .before .before .before .args .s .now) _ _ (one (c .before .before .before .before .before .before .before .before .before .before .before .before .before .args .s .now) _ (sym (c .before .before .before .before .before .before .before .before .digits .given .1) ∙ c .before .before .before .before .before .before .before .before .before .before .field-at .ensures)) (sym (c .before .target-size .given .1) ∙ c .before .before .before .field-at2 .ensures)) .inside, (two (c .before .before .before .before .before .before .before .before .before .before .before .before .before .args .s .now) _ _ (one (c .before .before .before .before .before .before .before .before .before .before .before .before .before .args .s .now) _ (sym (c .before .before .before .before .before .before .before .before .digits .given .1) ∙ c .before .before .before .before .before .before .before .before .before .before .field-at .ensures)) (sym (c .before .target-size .given .1) ∙ c .before .before .before .field-at2 .ensures)) .end)
+add-target-end c = omega (
+  arith,
+  (two (c .before .before .before .before .before .before .before .before .before .before .before .before .before .args .s
+      .now) _ _ (one (c .before .before .before .before .before .before .before .before .before .before .before .before .before .args .s .now) _
+      (sym (c .before .before .before .before .before .before .before .before .digits .given .1)
+      ∙ c .before .before .before .before .before .before .before .before .before .before .field-at .ensures))
+      (sym (c .before .target-size .given .1) ∙ c .before .before .before .field-at2 .ensures)) .inside,
+  (two (c .before .before .before .before .before .before .before .before .before .before .before .before .before .args .s .now) _ _
+      (one (c .before .before .before .before .before .before .before .before .before .before .before .before .before .args .s .now) _
+      (sym (c .before .before .before .before .before .before .before .before .digits .given .1)
+      ∙ c .before .before .before .before .before .before .before .before .before .before .field-at .ensures))
+      (sym (c .before .target-size .given .1) ∙ c .before .before .before .field-at2 .ensures)) .end,
+)
 
 add-field-at-2 : tie.Need-add-field-at-2
-add-field-at-2 c = omega (arith, (two (c .before .before .before .before .before .before .before .before .before .before .before .before .before .args .s .now) _ _ (one (c .before .before .before .before .before .before .before .before .before .before .before .before .before .args .s .now) _ (sym (c .before .before .before .before .before .before .before .before .digits .given .1) ∙ c .before .before .before .before .before .before .before .before .before .before .field-at .ensures)) (sym (c .before .target-size .given .1) ∙ c .before .before .before .field-at2 .ensures)) .inside)
+add-field-at-2 c = omega (
+  arith,
+  (two (c .before .before .before .before .before .before .before .before .before .before .before .before .before .args .s
+      .now) _ _ (one (c .before .before .before .before .before .before .before .before .before .before .before .before .before .args .s .now) _
+      (sym (c .before .before .before .before .before .before .before .before .digits .given .1)
+      ∙ c .before .before .before .before .before .before .before .before .before .before .field-at .ensures))
+      (sym (c .before .target-size .given .1) ∙ c .before .before .before .field-at2 .ensures)) .inside,
+)
 
 slice-aggregate-field-at-3 : tie.Need-slice-aggregate-field-at-3
 slice-aggregate-field-at-3 c = search needs
 
 field-at-requires-3 : tie.Need-field-at-requires-3
-field-at-requires-3 c κs = omega (arith, (two (c .before .before .before .before .before .before .before .before .before .before .before .before .before .before .args .s .now) _ _ (one (c .before .before .before .before .before .before .before .before .before .before .before .before .before .before .args .s .now) _ (sym (c .before .before .before .before .before .before .before .before .before .digits .given .1) ∙ c .before .before .before .before .before .before .before .before .before .before .before .field-at .ensures)) (sym (c .before .before .target-size .given .1) ∙ c .before .before .before .before .field-at2 .ensures)) .inside)
+field-at-requires-3 c κs = omega (
+  arith,
+  (two (c .before .before .before .before .before .before .before .before .before .before .before .before .before
+      .before .args .s .now) _ _ (one (c .before .before .before .before .before .before .before .before .before .before .before .before .before .before .args
+      .s .now) _ (sym (c .before .before .before .before .before .before .before .before .before .digits .given .1)
+      ∙ c .before .before .before .before .before .before .before .before .before .before .before .field-at .ensures))
+      (sym (c .before .before .target-size .given .1) ∙ c .before .before .before .before .field-at2 .ensures)) .inside,
+)
 
 enum-known-expr-size : tie.Need-enum-known-expr-size
 enum-known-expr-size c = search needs
@@ -86,22 +145,93 @@ no-form-requires-3 : tie.Need-no-form-requires-3
 no-form-requires-3 c κs = search needs
 
 returns-3 : tie.Need-returns-3
-returns-3 c = c .no-form3 .ensures ∙ none-3 (c .before .before .before .before .before .before .before .before .before .before .before .before .before .before .before .before .before .before .args .s .now) _ _ (two (c .before .before .before .before .before .before .before .before .before .before .before .before .before .before .before .before .before .before .args .s .now) _ _ (one (c .before .before .before .before .before .before .before .before .before .before .before .before .before .before .before .before .before .before .args .s .now) _ (sym (c .before .before .before .before .before .before .before .before .before .before .before .before .before .digits .given .1) ∙ c .before .before .before .before .before .before .before .before .before .before .before .before .before .before .before .field-at .ensures)) (sym (c .before .before .before .before .before .before .target-size .given .1) ∙ c .before .before .before .before .before .before .before .before .field-at2 .ensures)) (sym (c .before .enum-told3 .given .1) ∙ c .before .before .before .field-at3 .ensures)
+returns-3 c = c .no-form3 .ensures ∙ none-3 (c .before .before .before .before .before .before .before .before .before .before .before .before .before
+    .before .before .before .before .before .args .s .now) _ _ (two
+    (c .before .before .before .before .before .before .before .before .before .before .before .before .before .before .before .before .before .before .args
+    .s .now) _ _ (one (c .before .before .before .before .before .before .before .before .before .before .before .before .before .before .before .before
+    .before .before .args .s .now) _ (sym (c .before .before .before .before .before .before .before .before .before .before .before .before .before .digits
+    .given .1) ∙ c .before .before .before .before .before .before .before .before .before .before .before .before .before .before .before .field-at
+    .ensures)) (sym (c .before .before .before .before .before .before .target-size .given .1)
+    ∙ c .before .before .before .before .before .before .before .before .field-at2 .ensures))
+    (sym (c .before .enum-told3 .given .1) ∙ c .before .before .before .field-at3 .ensures)
 
 add-expr : tie.Need-add-expr
-add-expr c = omega (arith, (three (c .before .before .before .before .before .before .before .before .before .before .before .before .before .before .before .before .before .before .args .s .now) _ _ _ (two (c .before .before .before .before .before .before .before .before .before .before .before .before .before .before .before .before .before .before .args .s .now) _ _ (one (c .before .before .before .before .before .before .before .before .before .before .before .before .before .before .before .before .before .before .args .s .now) _ (sym (c .before .before .before .before .before .before .before .before .before .before .before .before .before .digits .given .1) ∙ c .before .before .before .before .before .before .before .before .before .before .before .before .before .before .before .field-at .ensures)) (sym (c .before .before .before .before .before .before .target-size .given .1) ∙ c .before .before .before .before .before .before .before .before .field-at2 .ensures)) (sym (c .before .expr-size .given .1) ∙ c .before .before .before .field-at3 .ensures)) .inside, (three (c .before .before .before .before .before .before .before .before .before .before .before .before .before .before .before .before .before .before .args .s .now) _ _ _ (two (c .before .before .before .before .before .before .before .before .before .before .before .before .before .before .before .before .before .before .args .s .now) _ _ (one (c .before .before .before .before .before .before .before .before .before .before .before .before .before .before .before .before .before .before .args .s .now) _ (sym (c .before .before .before .before .before .before .before .before .before .before .before .before .before .digits .given .1) ∙ c .before .before .before .before .before .before .before .before .before .before .before .before .before .before .before .field-at .ensures)) (sym (c .before .before .before .before .before .before .target-size .given .1) ∙ c .before .before .before .before .before .before .before .before .field-at2 .ensures)) (sym (c .before .expr-size .given .1) ∙ c .before .before .before .field-at3 .ensures)) .end)
+add-expr c = omega (
+  arith,
+  (three (c .before .before .before .before .before .before .before .before .before .before .before .before .before .before .before
+      .before .before .before .args .s .now) _ _ _ (two (c .before .before .before .before .before .before .before .before .before .before .before .before
+      .before .before .before .before .before .before .args .s .now) _ _
+      (one (c .before .before .before .before .before .before .before .before .before .before .before .before .before .before .before .before .before .before
+      .args .s .now) _ (sym (c .before .before .before .before .before .before .before .before .before .before .before .before .before .digits .given .1)
+      ∙ c .before .before .before .before .before .before .before .before .before .before .before .before .before .before .before .field-at .ensures))
+      (sym (c .before .before .before .before .before .before .target-size .given .1)
+      ∙ c .before .before .before .before .before .before .before .before .field-at2 .ensures))
+      (sym (c .before .expr-size .given .1) ∙ c .before .before .before .field-at3 .ensures)) .inside,
+  (three (c .before .before .before .before .before .before .before .before .before .before .before .before .before .before .before .before .before
+      .before .args .s .now) _ _ _ (two (c .before .before .before .before .before .before .before .before .before .before .before .before .before .before
+      .before .before .before .before .args .s .now) _ _ (one (c .before .before .before .before .before .before .before .before .before .before .before
+      .before .before .before .before .before .before .before .args .s .now) _
+      (sym (c .before .before .before .before .before .before .before .before .before .before .before .before .before .digits .given .1)
+      ∙ c .before .before .before .before .before .before .before .before .before .before .before .before .before .before .before .field-at .ensures))
+      (sym (c .before .before .before .before .before .before .target-size .given .1)
+      ∙ c .before .before .before .before .before .before .before .before .field-at2 .ensures))
+      (sym (c .before .expr-size .given .1) ∙ c .before .before .before .field-at3 .ensures)) .end,
+)
 
 add-expr-end : tie.Need-add-expr-end
-add-expr-end c = omega (arith, (three (c .before .before .before .before .before .before .before .before .before .before .before .before .before .before .before .before .before .before .args .s .now) _ _ _ (two (c .before .before .before .before .before .before .before .before .before .before .before .before .before .before .before .before .before .before .args .s .now) _ _ (one (c .before .before .before .before .before .before .before .before .before .before .before .before .before .before .before .before .before .before .args .s .now) _ (sym (c .before .before .before .before .before .before .before .before .before .before .before .before .before .digits .given .1) ∙ c .before .before .before .before .before .before .before .before .before .before .before .before .before .before .before .field-at .ensures)) (sym (c .before .before .before .before .before .before .target-size .given .1) ∙ c .before .before .before .before .before .before .before .before .field-at2 .ensures)) (sym (c .before .expr-size .given .1) ∙ c .before .before .before .field-at3 .ensures)) .inside, (three (c .before .before .before .before .before .before .before .before .before .before .before .before .before .before .before .before .before .before .args .s .now) _ _ _ (two (c .before .before .before .before .before .before .before .before .before .before .before .before .before .before .before .before .before .before .args .s .now) _ _ (one (c .before .before .before .before .before .before .before .before .before .before .before .before .before .before .before .before .before .before .args .s .now) _ (sym (c .before .before .before .before .before .before .before .before .before .before .before .before .before .digits .given .1) ∙ c .before .before .before .before .before .before .before .before .before .before .before .before .before .before .before .field-at .ensures)) (sym (c .before .before .before .before .before .before .target-size .given .1) ∙ c .before .before .before .before .before .before .before .before .field-at2 .ensures)) (sym (c .before .expr-size .given .1) ∙ c .before .before .before .field-at3 .ensures)) .end)
+add-expr-end c = omega (
+  arith,
+  (three (c .before .before .before .before .before .before .before .before .before .before .before .before .before .before
+      .before .before .before .before .args .s .now) _ _ _ (two (c .before .before .before .before .before .before .before .before .before .before .before
+      .before .before .before .before .before .before .before .args .s .now) _ _
+      (one (c .before .before .before .before .before .before .before .before .before .before .before .before .before .before .before .before .before .before
+      .args .s .now) _ (sym (c .before .before .before .before .before .before .before .before .before .before .before .before .before .digits .given .1)
+      ∙ c .before .before .before .before .before .before .before .before .before .before .before .before .before .before .before .field-at .ensures))
+      (sym (c .before .before .before .before .before .before .target-size .given .1)
+      ∙ c .before .before .before .before .before .before .before .before .field-at2 .ensures))
+      (sym (c .before .expr-size .given .1) ∙ c .before .before .before .field-at3 .ensures)) .inside,
+  (three (c .before .before .before .before .before .before .before .before .before .before .before .before .before .before .before .before .before
+      .before .args .s .now) _ _ _ (two (c .before .before .before .before .before .before .before .before .before .before .before .before .before .before
+      .before .before .before .before .args .s .now) _ _ (one (c .before .before .before .before .before .before .before .before .before .before .before
+      .before .before .before .before .before .before .before .args .s .now) _
+      (sym (c .before .before .before .before .before .before .before .before .before .before .before .before .before .digits .given .1)
+      ∙ c .before .before .before .before .before .before .before .before .before .before .before .before .before .before .before .field-at .ensures))
+      (sym (c .before .before .before .before .before .before .target-size .given .1)
+      ∙ c .before .before .before .before .before .before .before .before .field-at2 .ensures))
+      (sym (c .before .expr-size .given .1) ∙ c .before .before .before .field-at3 .ensures)) .end,
+)
 
 add-field-at-3 : tie.Need-add-field-at-3
-add-field-at-3 c = omega (arith, (three (c .before .before .before .before .before .before .before .before .before .before .before .before .before .before .before .before .before .before .args .s .now) _ _ _ (two (c .before .before .before .before .before .before .before .before .before .before .before .before .before .before .before .before .before .before .args .s .now) _ _ (one (c .before .before .before .before .before .before .before .before .before .before .before .before .before .before .before .before .before .before .args .s .now) _ (sym (c .before .before .before .before .before .before .before .before .before .before .before .before .before .digits .given .1) ∙ c .before .before .before .before .before .before .before .before .before .before .before .before .before .before .before .field-at .ensures)) (sym (c .before .before .before .before .before .before .target-size .given .1) ∙ c .before .before .before .before .before .before .before .before .field-at2 .ensures)) (sym (c .before .expr-size .given .1) ∙ c .before .before .before .field-at3 .ensures)) .inside)
+add-field-at-3 c = omega (
+  arith,
+  (three (c .before .before .before .before .before .before .before .before .before .before .before .before .before .before
+      .before .before .before .before .args .s .now) _ _ _ (two (c .before .before .before .before .before .before .before .before .before .before .before
+      .before .before .before .before .before .before .before .args .s .now) _ _
+      (one (c .before .before .before .before .before .before .before .before .before .before .before .before .before .before .before .before .before .before
+      .args .s .now) _ (sym (c .before .before .before .before .before .before .before .before .before .before .before .before .before .digits .given .1)
+      ∙ c .before .before .before .before .before .before .before .before .before .before .before .before .before .before .before .field-at .ensures))
+      (sym (c .before .before .before .before .before .before .target-size .given .1)
+      ∙ c .before .before .before .before .before .before .before .before .field-at2 .ensures))
+      (sym (c .before .expr-size .given .1) ∙ c .before .before .before .field-at3 .ensures)) .inside,
+)
 
 slice-aggregate-field-at-4 : tie.Need-slice-aggregate-field-at-4
 slice-aggregate-field-at-4 c = search needs
 
 field-at-requires-4 : tie.Need-field-at-requires-4
-field-at-requires-4 c κs = omega (arith, (three (c .before .before .before .before .before .before .before .before .before .before .before .before .before .before .before .before .before .before .before .args .s .now) _ _ _ (two (c .before .before .before .before .before .before .before .before .before .before .before .before .before .before .before .before .before .before .before .args .s .now) _ _ (one (c .before .before .before .before .before .before .before .before .before .before .before .before .before .before .before .before .before .before .before .args .s .now) _ (sym (c .before .before .before .before .before .before .before .before .before .before .before .before .before .before .digits .given .1) ∙ c .before .before .before .before .before .before .before .before .before .before .before .before .before .before .before .before .field-at .ensures)) (sym (c .before .before .before .before .before .before .before .target-size .given .1) ∙ c .before .before .before .before .before .before .before .before .before .field-at2 .ensures)) (sym (c .before .before .expr-size .given .1) ∙ c .before .before .before .before .field-at3 .ensures)) .inside)
+field-at-requires-4 c κs = omega (
+  arith,
+  (three (c .before .before .before .before .before .before .before .before .before .before .before .before .before
+      .before .before .before .before .before .before .args .s .now) _ _ _
+      (two (c .before .before .before .before .before .before .before .before .before .before .before .before .before .before .before .before .before .before
+      .before .args .s .now) _ _ (one (c .before .before .before .before .before .before .before .before .before .before .before .before .before .before
+      .before .before .before .before .before .args .s .now) _ (sym
+      (c .before .before .before .before .before .before .before .before .before .before .before .before .before .before .digits .given .1)
+      ∙ c .before .before .before .before .before .before .before .before .before .before .before .before .before .before .before .before .field-at .ensures))
+      (sym (c .before .before .before .before .before .before .before .target-size .given .1)
+      ∙ c .before .before .before .before .before .before .before .before .before .field-at2 .ensures))
+      (sym (c .before .before .expr-size .given .1) ∙ c .before .before .before .before .field-at3 .ensures)) .inside,
+)
 
 enum-known-check-size : tie.Need-enum-known-check-size
 enum-known-check-size c = search needs
@@ -113,19 +243,116 @@ no-form-requires-4 : tie.Need-no-form-requires-4
 no-form-requires-4 c κs = search needs
 
 returns-4 : tie.Need-returns-4
-returns-4 c = c .no-form4 .ensures ∙ none-4 (c .before .before .before .before .before .before .before .before .before .before .before .before .before .before .before .before .before .before .before .before .before .before .before .args .s .now) _ _ _ (three (c .before .before .before .before .before .before .before .before .before .before .before .before .before .before .before .before .before .before .before .before .before .before .before .args .s .now) _ _ _ (two (c .before .before .before .before .before .before .before .before .before .before .before .before .before .before .before .before .before .before .before .before .before .before .before .args .s .now) _ _ (one (c .before .before .before .before .before .before .before .before .before .before .before .before .before .before .before .before .before .before .before .before .before .before .before .args .s .now) _ (sym (c .before .before .before .before .before .before .before .before .before .before .before .before .before .before .before .before .before .before .digits .given .1) ∙ c .before .before .before .before .before .before .before .before .before .before .before .before .before .before .before .before .before .before .before .before .field-at .ensures)) (sym (c .before .before .before .before .before .before .before .before .before .before .before .target-size .given .1) ∙ c .before .before .before .before .before .before .before .before .before .before .before .before .before .field-at2 .ensures)) (sym (c .before .before .before .before .before .before .expr-size .given .1) ∙ c .before .before .before .before .before .before .before .before .field-at3 .ensures)) (sym (c .before .enum-told4 .given .1) ∙ c .before .before .before .field-at4 .ensures)
+returns-4 c = c .no-form4 .ensures ∙ none-4 (c .before .before .before .before .before .before .before .before .before .before .before .before .before
+    .before .before .before .before .before .before .before .before .before .before .args .s .now) _ _ _
+    (three (c .before .before .before .before .before .before .before .before .before .before .before .before .before .before .before .before .before
+    .before .before .before .before .before .before .args .s .now) _ _ _
+    (two (c .before .before .before .before .before .before .before .before .before .before .before .before .before .before .before .before .before .before
+    .before .before .before .before .before .args .s .now) _ _ (one
+    (c .before .before .before .before .before .before .before .before .before .before .before .before .before .before .before .before .before .before
+    .before .before .before .before .before .args .s .now) _ (sym
+    (c .before .before .before .before .before .before .before .before .before .before .before .before .before .before .before .before .before .before
+    .digits .given .1) ∙ c .before .before .before .before .before .before .before .before .before .before .before .before .before .before .before .before
+    .before .before .before .before .field-at .ensures)) (sym (c .before .before .before .before .before .before .before .before .before .before .before
+    .target-size .given .1) ∙ c .before .before .before .before .before .before .before .before .before .before .before .before .before .field-at2
+    .ensures)) (sym (c .before .before .before .before .before .before .expr-size .given .1)
+    ∙ c .before .before .before .before .before .before .before .before .field-at3 .ensures))
+    (sym (c .before .enum-told4 .given .1) ∙ c .before .before .before .field-at4 .ensures)
 
 add-check : tie.Need-add-check
-add-check c = omega (arith, (four (c .before .before .before .before .before .before .before .before .before .before .before .before .before .before .before .before .before .before .before .before .before .before .before .args .s .now) _ _ _ _ (three (c .before .before .before .before .before .before .before .before .before .before .before .before .before .before .before .before .before .before .before .before .before .before .before .args .s .now) _ _ _ (two (c .before .before .before .before .before .before .before .before .before .before .before .before .before .before .before .before .before .before .before .before .before .before .before .args .s .now) _ _ (one (c .before .before .before .before .before .before .before .before .before .before .before .before .before .before .before .before .before .before .before .before .before .before .before .args .s .now) _ (sym (c .before .before .before .before .before .before .before .before .before .before .before .before .before .before .before .before .before .before .digits .given .1) ∙ c .before .before .before .before .before .before .before .before .before .before .before .before .before .before .before .before .before .before .before .before .field-at .ensures)) (sym (c .before .before .before .before .before .before .before .before .before .before .before .target-size .given .1) ∙ c .before .before .before .before .before .before .before .before .before .before .before .before .before .field-at2 .ensures)) (sym (c .before .before .before .before .before .before .expr-size .given .1) ∙ c .before .before .before .before .before .before .before .before .field-at3 .ensures)) (sym (c .before .check-size .given .1) ∙ c .before .before .before .field-at4 .ensures)) .inside, (four (c .before .before .before .before .before .before .before .before .before .before .before .before .before .before .before .before .before .before .before .before .before .before .before .args .s .now) _ _ _ _ (three (c .before .before .before .before .before .before .before .before .before .before .before .before .before .before .before .before .before .before .before .before .before .before .before .args .s .now) _ _ _ (two (c .before .before .before .before .before .before .before .before .before .before .before .before .before .before .before .before .before .before .before .before .before .before .before .args .s .now) _ _ (one (c .before .before .before .before .before .before .before .before .before .before .before .before .before .before .before .before .before .before .before .before .before .before .before .args .s .now) _ (sym (c .before .before .before .before .before .before .before .before .before .before .before .before .before .before .before .before .before .before .digits .given .1) ∙ c .before .before .before .before .before .before .before .before .before .before .before .before .before .before .before .before .before .before .before .before .field-at .ensures)) (sym (c .before .before .before .before .before .before .before .before .before .before .before .target-size .given .1) ∙ c .before .before .before .before .before .before .before .before .before .before .before .before .before .field-at2 .ensures)) (sym (c .before .before .before .before .before .before .expr-size .given .1) ∙ c .before .before .before .before .before .before .before .before .field-at3 .ensures)) (sym (c .before .check-size .given .1) ∙ c .before .before .before .field-at4 .ensures)) .end)
+add-check c = omega (
+  arith,
+  (four (c .before .before .before .before .before .before .before .before .before .before .before .before .before .before .before
+      .before .before .before .before .before .before .before .before .args .s .now) _ _ _ _
+      (three (c .before .before .before .before .before .before .before .before .before .before .before .before .before .before .before .before .before
+      .before .before .before .before .before .before .args .s .now) _ _ _
+      (two (c .before .before .before .before .before .before .before .before .before .before .before .before .before .before .before .before .before .before
+      .before .before .before .before .before .args .s .now) _ _ (one
+      (c .before .before .before .before .before .before .before .before .before .before .before .before .before .before .before .before .before .before
+      .before .before .before .before .before .args .s .now) _ (sym
+      (c .before .before .before .before .before .before .before .before .before .before .before .before .before .before .before .before .before .before
+      .digits .given .1) ∙ c .before .before .before .before .before .before .before .before .before .before .before .before .before .before .before .before
+      .before .before .before .before .field-at .ensures)) (sym (c .before .before .before .before .before .before .before .before .before .before .before
+      .target-size .given .1) ∙ c .before .before .before .before .before .before .before .before .before .before .before .before .before .field-at2
+      .ensures)) (sym (c .before .before .before .before .before .before .expr-size .given .1)
+      ∙ c .before .before .before .before .before .before .before .before .field-at3 .ensures))
+      (sym (c .before .check-size .given .1) ∙ c .before .before .before .field-at4 .ensures)) .inside,
+  (four (c .before .before .before .before .before .before .before .before .before .before .before .before .before .before .before .before .before .before
+      .before .before .before .before .before .args .s .now) _ _ _ _
+      (three (c .before .before .before .before .before .before .before .before .before .before .before .before .before .before .before .before .before
+      .before .before .before .before .before .before .args .s .now) _ _ _
+      (two (c .before .before .before .before .before .before .before .before .before .before .before .before .before .before .before .before .before .before
+      .before .before .before .before .before .args .s .now) _ _ (one
+      (c .before .before .before .before .before .before .before .before .before .before .before .before .before .before .before .before .before .before
+      .before .before .before .before .before .args .s .now) _ (sym
+      (c .before .before .before .before .before .before .before .before .before .before .before .before .before .before .before .before .before .before
+      .digits .given .1) ∙ c .before .before .before .before .before .before .before .before .before .before .before .before .before .before .before .before
+      .before .before .before .before .field-at .ensures)) (sym (c .before .before .before .before .before .before .before .before .before .before .before
+      .target-size .given .1) ∙ c .before .before .before .before .before .before .before .before .before .before .before .before .before .field-at2
+      .ensures)) (sym (c .before .before .before .before .before .before .expr-size .given .1)
+      ∙ c .before .before .before .before .before .before .before .before .field-at3 .ensures))
+      (sym (c .before .check-size .given .1) ∙ c .before .before .before .field-at4 .ensures)) .end,
+)
 
 add-check-end : tie.Need-add-check-end
-add-check-end c = omega (arith, (four (c .before .before .before .before .before .before .before .before .before .before .before .before .before .before .before .before .before .before .before .before .before .before .before .args .s .now) _ _ _ _ (three (c .before .before .before .before .before .before .before .before .before .before .before .before .before .before .before .before .before .before .before .before .before .before .before .args .s .now) _ _ _ (two (c .before .before .before .before .before .before .before .before .before .before .before .before .before .before .before .before .before .before .before .before .before .before .before .args .s .now) _ _ (one (c .before .before .before .before .before .before .before .before .before .before .before .before .before .before .before .before .before .before .before .before .before .before .before .args .s .now) _ (sym (c .before .before .before .before .before .before .before .before .before .before .before .before .before .before .before .before .before .before .digits .given .1) ∙ c .before .before .before .before .before .before .before .before .before .before .before .before .before .before .before .before .before .before .before .before .field-at .ensures)) (sym (c .before .before .before .before .before .before .before .before .before .before .before .target-size .given .1) ∙ c .before .before .before .before .before .before .before .before .before .before .before .before .before .field-at2 .ensures)) (sym (c .before .before .before .before .before .before .expr-size .given .1) ∙ c .before .before .before .before .before .before .before .before .field-at3 .ensures)) (sym (c .before .check-size .given .1) ∙ c .before .before .before .field-at4 .ensures)) .inside, (four (c .before .before .before .before .before .before .before .before .before .before .before .before .before .before .before .before .before .before .before .before .before .before .before .args .s .now) _ _ _ _ (three (c .before .before .before .before .before .before .before .before .before .before .before .before .before .before .before .before .before .before .before .before .before .before .before .args .s .now) _ _ _ (two (c .before .before .before .before .before .before .before .before .before .before .before .before .before .before .before .before .before .before .before .before .before .before .before .args .s .now) _ _ (one (c .before .before .before .before .before .before .before .before .before .before .before .before .before .before .before .before .before .before .before .before .before .before .before .args .s .now) _ (sym (c .before .before .before .before .before .before .before .before .before .before .before .before .before .before .before .before .before .before .digits .given .1) ∙ c .before .before .before .before .before .before .before .before .before .before .before .before .before .before .before .before .before .before .before .before .field-at .ensures)) (sym (c .before .before .before .before .before .before .before .before .before .before .before .target-size .given .1) ∙ c .before .before .before .before .before .before .before .before .before .before .before .before .before .field-at2 .ensures)) (sym (c .before .before .before .before .before .before .expr-size .given .1) ∙ c .before .before .before .before .before .before .before .before .field-at3 .ensures)) (sym (c .before .check-size .given .1) ∙ c .before .before .before .field-at4 .ensures)) .end)
+add-check-end c = omega (
+  arith,
+  (four (c .before .before .before .before .before .before .before .before .before .before .before .before .before .before
+      .before .before .before .before .before .before .before .before .before .args .s .now) _ _ _ _
+      (three (c .before .before .before .before .before .before .before .before .before .before .before .before .before .before .before .before .before
+      .before .before .before .before .before .before .args .s .now) _ _ _
+      (two (c .before .before .before .before .before .before .before .before .before .before .before .before .before .before .before .before .before .before
+      .before .before .before .before .before .args .s .now) _ _ (one
+      (c .before .before .before .before .before .before .before .before .before .before .before .before .before .before .before .before .before .before
+      .before .before .before .before .before .args .s .now) _ (sym
+      (c .before .before .before .before .before .before .before .before .before .before .before .before .before .before .before .before .before .before
+      .digits .given .1) ∙ c .before .before .before .before .before .before .before .before .before .before .before .before .before .before .before .before
+      .before .before .before .before .field-at .ensures)) (sym (c .before .before .before .before .before .before .before .before .before .before .before
+      .target-size .given .1) ∙ c .before .before .before .before .before .before .before .before .before .before .before .before .before .field-at2
+      .ensures)) (sym (c .before .before .before .before .before .before .expr-size .given .1)
+      ∙ c .before .before .before .before .before .before .before .before .field-at3 .ensures))
+      (sym (c .before .check-size .given .1) ∙ c .before .before .before .field-at4 .ensures)) .inside,
+  (four (c .before .before .before .before .before .before .before .before .before .before .before .before .before .before .before .before .before .before
+      .before .before .before .before .before .args .s .now) _ _ _ _
+      (three (c .before .before .before .before .before .before .before .before .before .before .before .before .before .before .before .before .before
+      .before .before .before .before .before .before .args .s .now) _ _ _
+      (two (c .before .before .before .before .before .before .before .before .before .before .before .before .before .before .before .before .before .before
+      .before .before .before .before .before .args .s .now) _ _ (one
+      (c .before .before .before .before .before .before .before .before .before .before .before .before .before .before .before .before .before .before
+      .before .before .before .before .before .args .s .now) _ (sym
+      (c .before .before .before .before .before .before .before .before .before .before .before .before .before .before .before .before .before .before
+      .digits .given .1) ∙ c .before .before .before .before .before .before .before .before .before .before .before .before .before .before .before .before
+      .before .before .before .before .field-at .ensures)) (sym (c .before .before .before .before .before .before .before .before .before .before .before
+      .target-size .given .1) ∙ c .before .before .before .before .before .before .before .before .before .before .before .before .before .field-at2
+      .ensures)) (sym (c .before .before .before .before .before .before .expr-size .given .1)
+      ∙ c .before .before .before .before .before .before .before .before .field-at3 .ensures))
+      (sym (c .before .check-size .given .1) ∙ c .before .before .before .field-at4 .ensures)) .end,
+)
 
 no-form-requires-5 : tie.Need-no-form-requires-5
 no-form-requires-5 c κs = search needs
 
 returns-5 : tie.Need-returns-5
-returns-5 c = c .no-form5 .ensures ∙ zero-number (c .before .before .before .before .before .before .before .before .before .before .before .before .before .before .before .before .before .before .before .before .before .before .before .before .before .args .s .now) _ _ _ _ _ (four (c .before .before .before .before .before .before .before .before .before .before .before .before .before .before .before .before .before .before .before .before .before .before .before .before .before .args .s .now) _ _ _ _ (three (c .before .before .before .before .before .before .before .before .before .before .before .before .before .before .before .before .before .before .before .before .before .before .before .before .before .args .s .now) _ _ _ (two (c .before .before .before .before .before .before .before .before .before .before .before .before .before .before .before .before .before .before .before .before .before .before .before .before .before .args .s .now) _ _ (one (c .before .before .before .before .before .before .before .before .before .before .before .before .before .before .before .before .before .before .before .before .before .before .before .before .before .args .s .now) _ (sym (c .before .before .before .before .before .before .before .before .before .before .before .before .before .before .before .before .before .before .before .before .digits .given .1) ∙ c .before .before .before .before .before .before .before .before .before .before .before .before .before .before .before .before .before .before .before .before .before .before .field-at .ensures)) (sym (c .before .before .before .before .before .before .before .before .before .before .before .before .before .target-size .given .1) ∙ c .before .before .before .before .before .before .before .before .before .before .before .before .before .before .before .field-at2 .ensures)) (sym (c .before .before .before .before .before .before .before .before .expr-size .given .1) ∙ c .before .before .before .before .before .before .before .before .before .before .field-at3 .ensures)) (sym (c .before .before .before .check-size .given .1) ∙ c .before .before .before .before .before .field-at4 .ensures)) (c .before .before .before .before .before .before .before .before .before .before .before .before .before .before .before .before .before .card-number .ensures) (c .before .if1 .taken)
+returns-5 c = c .no-form5 .ensures ∙ zero-number (c .before .before .before .before .before .before .before .before .before .before .before .before .before
+    .before .before .before .before .before .before .before .before .before .before .before .before .args .s .now) _ _ _ _ _
+    (four (c .before .before .before .before .before .before .before .before .before .before .before .before .before .before .before .before .before .before
+    .before .before .before .before .before .before .before .args .s .now) _ _ _ _
+    (three (c .before .before .before .before .before .before .before .before .before .before .before .before .before .before .before .before .before
+    .before .before .before .before .before .before .before .before .args .s .now) _ _ _
+    (two (c .before .before .before .before .before .before .before .before .before .before .before .before .before .before .before .before .before .before
+    .before .before .before .before .before .before .before .args .s .now) _ _
+    (one (c .before .before .before .before .before .before .before .before .before .before .before .before .before .before .before .before .before .before
+    .before .before .before .before .before .before .before .args .s .now) _
+    (sym (c .before .before .before .before .before .before .before .before .before .before .before .before .before .before .before .before .before .before
+    .before .before .digits .given .1) ∙ c .before .before .before .before .before .before .before .before .before .before .before .before .before .before
+    .before .before .before .before .before .before .before .before .field-at .ensures))
+    (sym (c .before .before .before .before .before .before .before .before .before .before .before .before .before .target-size .given .1)
+    ∙ c .before .before .before .before .before .before .before .before .before .before .before .before .before .before .before .field-at2 .ensures))
+    (sym (c .before .before .before .before .before .before .before .before .expr-size .given .1)
+    ∙ c .before .before .before .before .before .before .before .before .before .before .field-at3 .ensures))
+    (sym (c .before .before .before .check-size .given .1) ∙ c .before .before .before .before .before .field-at4 .ensures))
+    (c .before .before .before .before .before .before .before .before .before .before .before .before .before .before .before .before .before .card-number
+    .ensures) (c .before .if1 .taken)
 
 sub-is-check : tie.Need-sub-is-check
 sub-is-check c = search needs
@@ -134,7 +361,25 @@ part-is-check-start : tie.Need-part-is-check-start
 part-is-check-start c = search needs
 
 part-is-check-end : tie.Need-part-is-check-end
-part-is-check-end c = omega (arith, (four (c .before .before .before .before .before .before .before .before .before .before .before .before .before .before .before .before .before .before .before .before .before .before .before .before .args .s .now) _ _ _ _ (three (c .before .before .before .before .before .before .before .before .before .before .before .before .before .before .before .before .before .before .before .before .before .before .before .before .args .s .now) _ _ _ (two (c .before .before .before .before .before .before .before .before .before .before .before .before .before .before .before .before .before .before .before .before .before .before .before .before .args .s .now) _ _ (one (c .before .before .before .before .before .before .before .before .before .before .before .before .before .before .before .before .before .before .before .before .before .before .before .before .args .s .now) _ (sym (c .before .before .before .before .before .before .before .before .before .before .before .before .before .before .before .before .before .before .before .digits .given .1) ∙ c .before .before .before .before .before .before .before .before .before .before .before .before .before .before .before .before .before .before .before .before .before .field-at .ensures)) (sym (c .before .before .before .before .before .before .before .before .before .before .before .before .target-size .given .1) ∙ c .before .before .before .before .before .before .before .before .before .before .before .before .before .before .field-at2 .ensures)) (sym (c .before .before .before .before .before .before .before .expr-size .given .1) ∙ c .before .before .before .before .before .before .before .before .before .field-at3 .ensures)) (sym (c .before .before .check-size .given .1) ∙ c .before .before .before .before .field-at4 .ensures)) .inside)
+part-is-check-end c = omega (
+  arith,
+  (four (c .before .before .before .before .before .before .before .before .before .before .before .before .before .before
+      .before .before .before .before .before .before .before .before .before .before .args .s .now) _ _ _ _
+      (three (c .before .before .before .before .before .before .before .before .before .before .before .before .before .before .before .before .before
+      .before .before .before .before .before .before .before .args .s .now) _ _ _
+      (two (c .before .before .before .before .before .before .before .before .before .before .before .before .before .before .before .before .before .before
+      .before .before .before .before .before .before .args .s .now) _ _
+      (one (c .before .before .before .before .before .before .before .before .before .before .before .before .before .before .before .before .before .before
+      .before .before .before .before .before .before .args .s .now) _
+      (sym (c .before .before .before .before .before .before .before .before .before .before .before .before .before .before .before .before .before .before
+      .before .digits .given .1) ∙ c .before .before .before .before .before .before .before .before .before .before .before .before .before .before .before
+      .before .before .before .before .before .before .field-at .ensures))
+      (sym (c .before .before .before .before .before .before .before .before .before .before .before .before .target-size .given .1)
+      ∙ c .before .before .before .before .before .before .before .before .before .before .before .before .before .before .field-at2 .ensures))
+      (sym (c .before .before .before .before .before .before .before .expr-size .given .1)
+      ∙ c .before .before .before .before .before .before .before .before .before .field-at3 .ensures))
+      (sym (c .before .before .check-size .given .1) ∙ c .before .before .before .before .field-at4 .ensures)) .inside,
+)
 
 is-check-requires : tie.Need-is-check-requires
 is-check-requires c κs = search needs
@@ -143,13 +388,71 @@ no-form-requires-6 : tie.Need-no-form-requires-6
 no-form-requires-6 c κs = search needs
 
 returns-6 : tie.Need-returns-6
-returns-6 c = c .no-form6 .ensures ∙ no-check (c .before .before .before .before .before .before .before .before .before .before .before .before .before .before .before .before .before .before .before .before .before .before .before .before .before .before .before .before .args .s .now) _ _ _ _ _ (four (c .before .before .before .before .before .before .before .before .before .before .before .before .before .before .before .before .before .before .before .before .before .before .before .before .before .before .before .before .args .s .now) _ _ _ _ (three (c .before .before .before .before .before .before .before .before .before .before .before .before .before .before .before .before .before .before .before .before .before .before .before .before .before .before .before .before .args .s .now) _ _ _ (two (c .before .before .before .before .before .before .before .before .before .before .before .before .before .before .before .before .before .before .before .before .before .before .before .before .before .before .before .before .args .s .now) _ _ (one (c .before .before .before .before .before .before .before .before .before .before .before .before .before .before .before .before .before .before .before .before .before .before .before .before .before .before .before .before .args .s .now) _ (sym (c .before .before .before .before .before .before .before .before .before .before .before .before .before .before .before .before .before .before .before .before .before .before .before .digits .given .1) ∙ c .before .before .before .before .before .before .before .before .before .before .before .before .before .before .before .before .before .before .before .before .before .before .before .before .before .field-at .ensures)) (sym (c .before .before .before .before .before .before .before .before .before .before .before .before .before .before .before .before .target-size .given .1) ∙ c .before .before .before .before .before .before .before .before .before .before .before .before .before .before .before .before .before .before .field-at2 .ensures)) (sym (c .before .before .before .before .before .before .before .before .before .before .before .expr-size .given .1) ∙ c .before .before .before .before .before .before .before .before .before .before .before .before .before .field-at3 .ensures)) (sym (c .before .before .before .before .before .before .check-size .given .1) ∙ c .before .before .before .before .before .before .before .before .field-at4 .ensures)) (c .before .before .before .before .before .before .before .before .before .before .before .before .before .before .before .before .before .before .before .before .card-number .ensures) (c .before .before .is-check .ensures) (not-true _ (c .before .if2 .taken))
+returns-6 c = c .no-form6 .ensures ∙ no-check (c .before .before .before .before .before .before .before .before .before .before .before .before .before
+    .before .before .before .before .before .before .before .before .before .before .before .before .before .before .before .args .s .now) _ _ _ _ _
+    (four (c .before .before .before .before .before .before .before .before .before .before .before .before .before .before .before .before .before .before
+    .before .before .before .before .before .before .before .before .before .before .args .s .now) _ _ _ _
+    (three (c .before .before .before .before .before .before .before .before .before .before .before .before .before .before .before .before .before
+    .before .before .before .before .before .before .before .before .before .before .before .args .s .now) _ _ _
+    (two (c .before .before .before .before .before .before .before .before .before .before .before .before .before .before .before .before .before .before
+    .before .before .before .before .before .before .before .before .before .before .args .s .now) _ _
+    (one (c .before .before .before .before .before .before .before .before .before .before .before .before .before .before .before .before .before .before
+    .before .before .before .before .before .before .before .before .before .before .args .s .now) _
+    (sym (c .before .before .before .before .before .before .before .before .before .before .before .before .before .before .before .before .before .before
+    .before .before .before .before .before .digits .given .1) ∙ c .before .before .before .before .before .before .before .before .before .before .before
+    .before .before .before .before .before .before .before .before .before .before .before .before .before .before .field-at .ensures))
+    (sym (c .before .before .before .before .before .before .before .before .before .before .before .before .before .before .before .before .target-size
+    .given .1) ∙ c .before .before .before .before .before .before .before .before .before .before .before .before .before .before .before .before .before
+    .before .field-at2 .ensures)) (sym (c .before .before .before .before .before .before .before .before .before .before .before .expr-size .given .1)
+    ∙ c .before .before .before .before .before .before .before .before .before .before .before .before .before .field-at3 .ensures))
+    (sym (c .before .before .before .before .before .before .check-size .given .1)
+    ∙ c .before .before .before .before .before .before .before .before .field-at4 .ensures))
+    (c .before .before .before .before .before .before .before .before .before .before .before .before .before .before .before .before .before .before
+    .before .before .card-number .ensures) (c .before .before .is-check .ensures) (not-true _ (c .before .if2 .taken))
 
 add-t22 : tie.Need-add-t22
-add-t22 c = omega (arith, (four (c .before .before .before .before .before .before .before .before .before .before .before .before .before .before .before .before .before .before .before .before .before .before .before .before .before .before .before .args .s .now) _ _ _ _ (three (c .before .before .before .before .before .before .before .before .before .before .before .before .before .before .before .before .before .before .before .before .before .before .before .before .before .before .before .args .s .now) _ _ _ (two (c .before .before .before .before .before .before .before .before .before .before .before .before .before .before .before .before .before .before .before .before .before .before .before .before .before .before .before .args .s .now) _ _ (one (c .before .before .before .before .before .before .before .before .before .before .before .before .before .before .before .before .before .before .before .before .before .before .before .before .before .before .before .args .s .now) _ (sym (c .before .before .before .before .before .before .before .before .before .before .before .before .before .before .before .before .before .before .before .before .before .before .digits .given .1) ∙ c .before .before .before .before .before .before .before .before .before .before .before .before .before .before .before .before .before .before .before .before .before .before .before .before .field-at .ensures)) (sym (c .before .before .before .before .before .before .before .before .before .before .before .before .before .before .before .target-size .given .1) ∙ c .before .before .before .before .before .before .before .before .before .before .before .before .before .before .before .before .before .field-at2 .ensures)) (sym (c .before .before .before .before .before .before .before .before .before .before .expr-size .given .1) ∙ c .before .before .before .before .before .before .before .before .before .before .before .before .field-at3 .ensures)) (sym (c .before .before .before .before .before .check-size .given .1) ∙ c .before .before .before .before .before .before .before .field-at4 .ensures)) .inside)
+add-t22 c = omega (
+  arith,
+  (four (c .before .before .before .before .before .before .before .before .before .before .before .before .before .before .before
+      .before .before .before .before .before .before .before .before .before .before .before .before .args .s .now) _ _ _ _
+      (three (c .before .before .before .before .before .before .before .before .before .before .before .before .before .before .before .before .before
+      .before .before .before .before .before .before .before .before .before .before .args .s .now) _ _ _
+      (two (c .before .before .before .before .before .before .before .before .before .before .before .before .before .before .before .before .before .before
+      .before .before .before .before .before .before .before .before .before .args .s .now) _ _
+      (one (c .before .before .before .before .before .before .before .before .before .before .before .before .before .before .before .before .before .before
+      .before .before .before .before .before .before .before .before .before .args .s .now) _
+      (sym (c .before .before .before .before .before .before .before .before .before .before .before .before .before .before .before .before .before .before
+      .before .before .before .before .digits .given .1) ∙ c .before .before .before .before .before .before .before .before .before .before .before .before
+      .before .before .before .before .before .before .before .before .before .before .before .before .field-at .ensures))
+      (sym (c .before .before .before .before .before .before .before .before .before .before .before .before .before .before .before .target-size .given .1)
+      ∙ c .before .before .before .before .before .before .before .before .before .before .before .before .before .before .before .before .before .field-at2
+      .ensures)) (sym (c .before .before .before .before .before .before .before .before .before .before .expr-size .given .1)
+      ∙ c .before .before .before .before .before .before .before .before .before .before .before .before .field-at3 .ensures))
+      (sym (c .before .before .before .before .before .check-size .given .1)
+      ∙ c .before .before .before .before .before .before .before .field-at4 .ensures)) .inside,
+)
 
 returns-7 : tie.Need-returns-7
-returns-7 c = whole (c .before .before .before .before .before .before .before .before .before .before .before .before .before .before .before .before .before .before .before .before .before .before .before .before .before .before .before .args .s .now) _ _ _ _ _ (four (c .before .before .before .before .before .before .before .before .before .before .before .before .before .before .before .before .before .before .before .before .before .before .before .before .before .before .before .args .s .now) _ _ _ _ (three (c .before .before .before .before .before .before .before .before .before .before .before .before .before .before .before .before .before .before .before .before .before .before .before .before .before .before .before .args .s .now) _ _ _ (two (c .before .before .before .before .before .before .before .before .before .before .before .before .before .before .before .before .before .before .before .before .before .before .before .before .before .before .before .args .s .now) _ _ (one (c .before .before .before .before .before .before .before .before .before .before .before .before .before .before .before .before .before .before .before .before .before .before .before .before .before .before .before .args .s .now) _ (sym (c .before .before .before .before .before .before .before .before .before .before .before .before .before .before .before .before .before .before .before .before .before .before .digits .given .1) ∙ c .before .before .before .before .before .before .before .before .before .before .before .before .before .before .before .before .before .before .before .before .before .before .before .before .field-at .ensures)) (sym (c .before .before .before .before .before .before .before .before .before .before .before .before .before .before .before .target-size .given .1) ∙ c .before .before .before .before .before .before .before .before .before .before .before .before .before .before .before .before .before .field-at2 .ensures)) (sym (c .before .before .before .before .before .before .before .before .before .before .expr-size .given .1) ∙ c .before .before .before .before .before .before .before .before .before .before .before .before .field-at3 .ensures)) (sym (c .before .before .before .before .before .check-size .given .1) ∙ c .before .before .before .before .before .before .before .field-at4 .ensures)) (c .before .before .before .before .before .before .before .before .before .before .before .before .before .before .before .before .before .before .before .card-number .ensures) (c .before .is-check .ensures) (c .before .before .before .if1 .left) (not-false _ (c .if2 .left))
+returns-7 c = whole (c .before .before .before .before .before .before .before .before .before .before .before .before .before .before .before .before
+    .before .before .before .before .before .before .before .before .before .before .before .args .s .now) _ _ _ _ _
+    (four (c .before .before .before .before .before .before .before .before .before .before .before .before .before .before .before .before .before .before
+    .before .before .before .before .before .before .before .before .before .args .s .now) _ _ _ _
+    (three (c .before .before .before .before .before .before .before .before .before .before .before .before .before .before .before .before .before
+    .before .before .before .before .before .before .before .before .before .before .args .s .now) _ _ _
+    (two (c .before .before .before .before .before .before .before .before .before .before .before .before .before .before .before .before .before .before
+    .before .before .before .before .before .before .before .before .before .args .s .now) _ _
+    (one (c .before .before .before .before .before .before .before .before .before .before .before .before .before .before .before .before .before .before
+    .before .before .before .before .before .before .before .before .before .args .s .now) _
+    (sym (c .before .before .before .before .before .before .before .before .before .before .before .before .before .before .before .before .before .before
+    .before .before .before .before .digits .given .1) ∙ c .before .before .before .before .before .before .before .before .before .before .before .before
+    .before .before .before .before .before .before .before .before .before .before .before .before .field-at .ensures))
+    (sym (c .before .before .before .before .before .before .before .before .before .before .before .before .before .before .before .target-size .given .1)
+    ∙ c .before .before .before .before .before .before .before .before .before .before .before .before .before .before .before .before .before .field-at2
+    .ensures)) (sym (c .before .before .before .before .before .before .before .before .before .before .expr-size .given .1)
+    ∙ c .before .before .before .before .before .before .before .before .before .before .before .before .field-at3 .ensures))
+    (sym (c .before .before .before .before .before .check-size .given .1) ∙ c .before .before .before .before .before .before .before .field-at4 .ensures))
+    (c .before .before .before .before .before .before .before .before .before .before .before .before .before .before .before .before .before .before
+    .before .card-number .ensures) (c .before .is-check .ensures) (c .before .before .before .if1 .left) (not-false _ (c .if2 .left))
 
 pub card-form-spec : {M : Type 1} → statement M
 card-form-spec =

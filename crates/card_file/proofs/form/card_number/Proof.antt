@@ -15,7 +15,8 @@ enum-told : tie.Need-enum-told
 enum-told c = search needs
 
 returns : tie.Need-returns
-returns c = number-is (c .before .before .before .before .before .args .text .now) (sym (c .before .n .given .1) ∙ c .before .before .before .number-below .ensures)
+returns c = number-is (c .before .before .before .before .before .args .text .now)
+    (sym (c .before .n .given .1) ∙ c .before .before .before .number-below .ensures)
 
 returns-2 : tie.Need-returns-2
 returns-2 c = no-number (c .before .before .before .before .args .text .now) (sym (c .enum-told .given .1) ∙ c .before .before .number-below .ensures)

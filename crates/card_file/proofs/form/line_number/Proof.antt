@@ -22,7 +22,11 @@ returns : tie.Need-returns
 returns c = no-line (c .before .before .before .before .before .args .s .now) (sym (c .enum-told .given .1) ∙ c .before .before .field-at .ensures)
 
 add-end : tie.Need-add-end
-add-end c = omega (arith, line-in (c .before .before .before .before .before .before .args .s .now) _ (sym (c .before .digits .given .1) ∙ c .before .before .before .field-at .ensures) .inside)
+add-end c = omega (
+  arith,
+  line-in (c .before .before .before .before .before .before .args .s .now) _
+      (sym (c .before .digits .given .1) ∙ c .before .before .before .field-at .ensures) .inside,
+)
 
 sub-card-number : tie.Need-sub-card-number
 sub-card-number c = search needs
@@ -31,13 +35,18 @@ part-card-number-start : tie.Need-part-card-number-start
 part-card-number-start c = search needs
 
 part-card-number-end : tie.Need-part-card-number-end
-part-card-number-end c = omega (arith, line-in (c .before .before .before .before .before .before .args .s .now) _ (sym (c .before .digits .given .1) ∙ c .before .before .before .field-at .ensures) .inside)
+part-card-number-end c = omega (
+  arith,
+  line-in (c .before .before .before .before .before .before .args .s .now) _
+      (sym (c .before .digits .given .1) ∙ c .before .before .before .field-at .ensures) .inside,
+)
 
 card-number-requires : tie.Need-card-number-requires
 card-number-requires c κs = search needs
 
 returns-2 : tie.Need-returns-2
-returns-2 c = c .card-number .ensures ∙ line-number (c .before .before .before .before .before .before .before .before .args .s .now) _ (sym (c .before .before .before .digits .given .1) ∙ c .before .before .before .before .before .field-at .ensures)
+returns-2 c = c .card-number .ensures ∙ line-number (c .before .before .before .before .before .before .before .before .args .s .now) _
+    (sym (c .before .before .before .digits .given .1) ∙ c .before .before .before .before .before .field-at .ensures)
 
 pub line-number-spec : {M : Type 1} → statement M
 line-number-spec =

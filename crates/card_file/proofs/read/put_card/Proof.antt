@@ -85,7 +85,8 @@ same-length : tie.Need-same-length
 same-length c = search needs
 
 returns : tie.Need-returns
-returns c = put-five (c .before .before .before .before .before .before .args .words .now) (c .before .before .before .before .before .before .args .to) _ _ _ _ _
+returns c = put-five (c .before .before .before .before .before .before .args .words .now)
+    (c .before .before .before .before .before .before .args .to) _ _ _ _ _
 
 pub put-card-spec : {M : Type 1} → statement M
 put-card-spec =

@@ -46,7 +46,9 @@ refused-words-requires : tie.Need-refused-words-requires Inv-loop μ-loop
 refused-words-requires c κs = search needs
 
 returns : tie.Need-returns Inv-loop μ-loop
-returns c = c .refused-words .ensures ∙ stopped-at (c .before .before .before .before .before .before .before .before .loop .inv) (c .before .before .before .before .before .before .before .loop-test .taken) (sym (c .before .before .answer .given .1) ∙ c .before .before .before .before .judged .ensures)
+returns c = c .refused-words .ensures ∙ stopped-at (c .before .before .before .before .before .before .before .before .loop .inv)
+    (c .before .before .before .before .before .before .before .loop-test .taken)
+    (sym (c .before .before .answer .given .1) ∙ c .before .before .before .before .judged .ensures)
 
 enum-told : tie.Need-enum-told Inv-loop μ-loop
 enum-told c = search needs
@@ -58,19 +60,69 @@ cast-put-card : tie.Need-cast-put-card Inv-loop μ-loop
 cast-put-card c = let b = bounds (c .before .before .before .before .before .before .before .loop .inv) in omega (arith, b .at-low, b .last-low)
 
 put-card-requires : tie.Need-put-card-requires Inv-loop μ-loop
-put-card-requires c κs = (room (c .before .before .before .before .before .before .before .loop .inv) (taken-at (c .before .before .before .before .before .before .before .before .before .before .args .file .now) (c .before .before .before .before .before .before .before .loop .at) (c .before .before .before .before .before .before .before .loop .last) (c .before .before .before .before .card-form .result) (c .before .before .before .before .card-form .ensures) (sym (c .before .enum-told .given .1) ∙ c .before .before .before .judged .ensures)), small (c .before .before .before .before .before .before .before .loop .inv) (taken-at (c .before .before .before .before .before .before .before .before .before .before .args .file .now) (c .before .before .before .before .before .before .before .loop .at) (c .before .before .before .before .before .before .before .loop .last) (c .before .before .before .before .card-form .result) (c .before .before .before .before .card-form .ensures) (sym (c .before .enum-told .given .1) ∙ c .before .before .before .judged .ensures)))
+put-card-requires c κs = (
+  room (c .before .before .before .before .before .before .before .loop .inv)
+      (taken-at (c .before .before .before .before .before .before .before .before .before .before .args .file .now)
+      (c .before .before .before .before .before .before .before .loop .at) (c .before .before .before .before .before .before .before .loop .last)
+      (c .before .before .before .before .card-form .result) (c .before .before .before .before .card-form .ensures)
+      (sym (c .before .enum-told .given .1) ∙ c .before .before .before .judged .ensures)),
+  small (c .before .before .before .before .before .before .before .loop .inv)
+      (taken-at (c .before .before .before .before .before .before .before .before .before .before .args .file .now)
+      (c .before .before .before .before .before .before .before .loop .at) (c .before .before .before .before .before .before .before .loop .last)
+      (c .before .before .before .before .card-form .result) (c .before .before .before .before .card-form .ensures)
+      (sym (c .before .enum-told .given .1) ∙ c .before .before .before .judged .ensures)),
+)
 
 add-count : tie.Need-add-count Inv-loop μ-loop
 add-count c = let b = bounds (c .before .before .before .before .before .before .before .before .before .loop .inv) in omega (arith, b .count-low, b .last-low)
 
 add-at : tie.Need-add-at Inv-loop μ-loop
-add-at c = let g = again (c .before .before .before .before .before .before .before .before .before .before .loop .inv) (c .before .before .before .before .before .before .before .before .before .loop-test .taken) (taken-at (c .before .before .before .before .before .before .before .before .before .before .before .before .before .args .file .now) (c .before .before .before .before .before .before .before .before .before .before .loop .at) (c .before .before .before .before .before .before .before .before .before .before .loop .last) (c .before .before .before .before .before .before .before .card-form .result) (c .before .before .before .before .before .before .before .card-form .ensures) (sym (c .before .before .before .before .enum-told .given .1) ∙ c .before .before .before .before .before .before .judged .ensures)) (c .before .before .put-card .ensures) in omega (arith, g .inside)
+add-at c = let g = again (c .before .before .before .before .before .before .before .before .before .before .loop .inv)
+    (c .before .before .before .before .before .before .before .before .before .loop-test .taken)
+    (taken-at (c .before .before .before .before .before .before .before .before .before .before .before .before .before .args .file .now)
+    (c .before .before .before .before .before .before .before .before .before .before .loop .at)
+    (c .before .before .before .before .before .before .before .before .before .before .loop .last)
+    (c .before .before .before .before .before .before .before .card-form .result)
+    (c .before .before .before .before .before .before .before .card-form .ensures)
+    (sym (c .before .before .before .before .enum-told .given .1) ∙ c .before .before .before .before .before .before .judged .ensures))
+    (c .before .before .put-card .ensures) in omega (arith, g .inside)
 
 loop-less : tie.Need-loop-less Inv-loop μ-loop
-loop-less c = let g = again (c .before .before .before .before .before .before .before .before .before .before .loop .inv) (c .before .before .before .before .before .before .before .before .before .loop-test .taken) (taken-at (c .before .before .before .before .before .before .before .before .before .before .before .before .before .args .file .now) (c .before .before .before .before .before .before .before .before .before .before .loop .at) (c .before .before .before .before .before .before .before .before .before .before .loop .last) (c .before .before .before .before .before .before .before .card-form .result) (c .before .before .before .before .before .before .before .card-form .ensures) (sym (c .before .before .before .before .enum-told .given .1) ∙ c .before .before .before .before .before .before .judged .ensures)) (c .before .before .put-card .ensures) in omega (arith, g .inside, card-some ((taken-at (c .before .before .before .before .before .before .before .before .before .before .before .before .before .args .file .now) (c .before .before .before .before .before .before .before .before .before .before .loop .at) (c .before .before .before .before .before .before .before .before .before .before .loop .last) (c .before .before .before .before .before .before .before .card-form .result) (c .before .before .before .before .before .before .before .card-form .ensures) (sym (c .before .before .before .before .enum-told .given .1) ∙ c .before .before .before .before .before .before .judged .ensures)) .c), (taken-at (c .before .before .before .before .before .before .before .before .before .before .before .before .before .args .file .now) (c .before .before .before .before .before .before .before .before .before .before .loop .at) (c .before .before .before .before .before .before .before .before .before .before .loop .last) (c .before .before .before .before .before .before .before .card-form .result) (c .before .before .before .before .before .before .before .card-form .ensures) (sym (c .before .before .before .before .enum-told .given .1) ∙ c .before .before .before .before .before .before .judged .ensures)) .end)
+loop-less c = let g = again (c .before .before .before .before .before .before .before .before .before .before .loop .inv)
+    (c .before .before .before .before .before .before .before .before .before .loop-test .taken)
+    (taken-at (c .before .before .before .before .before .before .before .before .before .before .before .before .before .args .file .now)
+    (c .before .before .before .before .before .before .before .before .before .before .loop .at)
+    (c .before .before .before .before .before .before .before .before .before .before .loop .last)
+    (c .before .before .before .before .before .before .before .card-form .result)
+    (c .before .before .before .before .before .before .before .card-form .ensures)
+    (sym (c .before .before .before .before .enum-told .given .1) ∙ c .before .before .before .before .before .before .judged .ensures))
+    (c .before .before .put-card .ensures) in omega (
+      arith,
+      g .inside,
+      card-some ((taken-at (c .before .before .before .before .before .before .before .before .before .before .before .before .before .args .file .now)
+          (c .before .before .before .before .before .before .before .before .before .before .loop .at)
+          (c .before .before .before .before .before .before .before .before .before .before .loop .last)
+          (c .before .before .before .before .before .before .before .card-form .result)
+          (c .before .before .before .before .before .before .before .card-form .ensures)
+          (sym (c .before .before .before .before .enum-told .given .1) ∙ c .before .before .before .before .before .before .judged .ensures)) .c),
+      (taken-at (c .before .before .before .before .before .before .before .before .before .before .before .before .before .args .file .now)
+          (c .before .before .before .before .before .before .before .before .before .before .loop .at)
+          (c .before .before .before .before .before .before .before .before .before .before .loop .last)
+          (c .before .before .before .before .before .before .before .card-form .result)
+          (c .before .before .before .before .before .before .before .card-form .ensures)
+          (sym (c .before .before .before .before .enum-told .given .1) ∙ c .before .before .before .before .before .before .judged .ensures)) .end,
+    )
 
 loop-again : tie.Need-loop-again Inv-loop μ-loop
-loop-again c = again (c .before .before .before .before .before .before .before .before .before .before .loop .inv) (c .before .before .before .before .before .before .before .before .before .loop-test .taken) (taken-at (c .before .before .before .before .before .before .before .before .before .before .before .before .before .args .file .now) (c .before .before .before .before .before .before .before .before .before .before .loop .at) (c .before .before .before .before .before .before .before .before .before .before .loop .last) (c .before .before .before .before .before .before .before .card-form .result) (c .before .before .before .before .before .before .before .card-form .ensures) (sym (c .before .before .before .before .enum-told .given .1) ∙ c .before .before .before .before .before .before .judged .ensures)) (c .before .before .put-card .ensures)
+loop-again c = again (c .before .before .before .before .before .before .before .before .before .before .loop .inv)
+    (c .before .before .before .before .before .before .before .before .before .loop-test .taken)
+    (taken-at (c .before .before .before .before .before .before .before .before .before .before .before .before .before .args .file .now)
+    (c .before .before .before .before .before .before .before .before .before .before .loop .at)
+    (c .before .before .before .before .before .before .before .before .before .before .loop .last)
+    (c .before .before .before .before .before .before .before .card-form .result)
+    (c .before .before .before .before .before .before .before .card-form .ensures)
+    (sym (c .before .before .before .before .enum-told .given .1) ∙ c .before .before .before .before .before .before .judged .ensures))
+    (c .before .before .put-card .ensures)
 
 array-write-words : tie.Need-array-write-words Inv-loop μ-loop
 array-write-words c = omega (arith, long (c .before .loop .inv))

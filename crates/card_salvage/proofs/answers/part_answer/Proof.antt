@@ -23,10 +23,18 @@ enum-known-a : tie.Need-enum-known-a
 enum-known-a c = search needs
 
 returns-2 : tie.Need-returns-2
-returns-2 c = kept (c .before .before .before .before .before .before .before .args .part .now) _ _ (c .before .before .before .before .before .card-form .ensures) (let e : c .before .before .before .before .before .card-form .result .end ≡ length (c .before .before .before .before .before .before .before .args .part .now) = omega (arith, c .before .before .before .if1 .left) in e) (sym (c .enum-told .given .1) ∙ c .before .before .judged .ensures)
+returns-2 c = kept (c .before .before .before .before .before .before .before .args .part .now) _ _
+    (c .before .before .before .before .before .card-form .ensures)
+    (let e : c .before .before .before .before .before .card-form .result .end
+    ≡ length (c .before .before .before .before .before .before .before .args .part .now) = omega (arith, c .before .before .before .if1 .left) in e)
+    (sym (c .enum-told .given .1) ∙ c .before .before .judged .ensures)
 
 returns-3 : tie.Need-returns-3
-returns-3 c = left (c .before .before .before .before .before .before .before .before .args .part .now) _ _ (c .before .before .before .before .before .before .card-form .ensures) (let e : c .before .before .before .before .before .before .card-form .result .end ≡ length (c .before .before .before .before .before .before .before .before .args .part .now) = omega (arith, c .before .before .before .before .if1 .left) in e) (sym (c .before .a .given .1) ∙ c .before .before .before .judged .ensures)
+returns-3 c = left (c .before .before .before .before .before .before .before .before .args .part .now) _ _
+    (c .before .before .before .before .before .before .card-form .ensures)
+    (let e : c .before .before .before .before .before .before .card-form .result .end
+    ≡ length (c .before .before .before .before .before .before .before .before .args .part .now) =
+    omega (arith, c .before .before .before .before .if1 .left) in e) (sym (c .before .a .given .1) ∙ c .before .before .before .judged .ensures)
 
 pub part-answer-spec : {M : Type 1} → statement M
 part-answer-spec =

@@ -29,7 +29,8 @@ same-bytes-requires : tie.Need-same-bytes-requires
 same-bytes-requires c κs = search needs
 
 returns-2 : tie.Need-returns-2
-returns-2 c = key-there (c .before .before .before .before .before .args .file .now) (c .before .before .before .before .before .args .at) (c .same-bytes .ensures)
+returns-2 c = key-there (c .before .before .before .before .before .args .file .now) (c .before .before .before .before .before .args .at)
+    (c .same-bytes .ensures)
 
 pub card-begins-spec : {M : Type 1} → statement M
 card-begins-spec =

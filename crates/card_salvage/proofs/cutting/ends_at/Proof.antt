@@ -19,7 +19,8 @@ card-begins-requires : tie.Need-card-begins-requires
 card-begins-requires c κs = search needs
 
 returns-2 : tie.Need-returns-2
-returns-2 c = line-end _ (drop (c .before .before .before .before .args .at + 1) (c .before .before .before .before .args .file .now)) (c .before .if1 .left) (c .card-begins .ensures)
+returns-2 c = line-end _ (drop (c .before .before .before .before .args .at + 1) (c .before .before .before .before .args .file .now))
+    (c .before .if1 .left) (c .card-begins .ensures)
 
 pub ends-at-spec : {M : Type 1} → statement M
 ends-at-spec =

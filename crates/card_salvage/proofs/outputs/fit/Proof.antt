@@ -13,7 +13,8 @@ add-if3 : tie.Need-add-if3
 add-if3 c = omega (arith, c .before .if1 .taken)
 
 returns : tie.Need-returns
-returns c = roomy (c .before .before .before .before .args .file .now) (c .before .before .if1 .taken) (leb-true _ _ (c .before .if2 .taken)) (leb-true _ _ (c .if3 .taken))
+returns c = roomy (c .before .before .before .before .args .file .now) (c .before .before .if1 .taken) (leb-true _ _ (c .before .if2 .taken))
+    (leb-true _ _ (c .if3 .taken))
 
 measure-requires : tie.Need-measure-requires
 measure-requires c κs = search needs

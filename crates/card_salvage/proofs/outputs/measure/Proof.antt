@@ -45,19 +45,32 @@ named-size-requires : tie.Need-named-size-requires Inv-loop μ-loop
 named-size-requires c κs = search needs
 
 returns : tie.Need-returns Inv-loop μ-loop
-returns c = no-room (c .before .before .before .before .before .before .before .loop .inv) (taken (c .before .before .before .before .before .before .before .loop .last) (c .before .before .before .before .before .part-end .ensures) (c .before .before .before .part-answer .ensures)) (c .before .before .kept-size .ensures) (c .if1 .taken)
+returns c = no-room (c .before .before .before .before .before .before .before .loop .inv)
+    (taken (c .before .before .before .before .before .before .before .loop .last) (c .before .before .before .before .before .part-end .ensures)
+    (c .before .before .before .part-answer .ensures)) (c .before .before .kept-size .ensures) (c .if1 .taken)
 
 returns-2 : tie.Need-returns-2 Inv-loop μ-loop
-returns-2 c = no-room-named (c .before .before .before .before .before .before .before .before .loop .inv) (taken (c .before .before .before .before .before .before .before .before .loop .last) (c .before .before .before .before .before .before .part-end .ensures) (c .before .before .before .before .part-answer .ensures)) (c .before .before .named-size .ensures) (c .if2 .taken)
+returns-2 c = no-room-named (c .before .before .before .before .before .before .before .before .loop .inv)
+    (taken (c .before .before .before .before .before .before .before .before .loop .last)
+    (c .before .before .before .before .before .before .part-end .ensures) (c .before .before .before .before .part-answer .ensures))
+    (c .before .before .named-size .ensures) (c .if2 .taken)
 
 last-kept-requires : tie.Need-last-kept-requires Inv-loop μ-loop
 last-kept-requires c κs = search needs
 
 loop-less : tie.Need-loop-less Inv-loop μ-loop
-loop-less c = omega (arith, c .before .before .before .before .before .before .before .part-end .ensures .order, c .before .before .before .before .before .before .before .before .loop-test .taken)
+loop-less c = omega (
+  arith,
+  c .before .before .before .before .before .before .before .part-end .ensures .order,
+  c .before .before .before .before .before .before .before .before .loop-test .taken,
+)
 
 loop-again : tie.Need-loop-again Inv-loop μ-loop
-loop-again c = next (c .before .before .before .before .before .before .before .before .before .loop .inv) (taken (c .before .before .before .before .before .before .before .before .before .loop .last) (c .before .before .before .before .before .before .before .part-end .ensures) (c .before .before .before .before .before .part-answer .ensures)) (c .before .before .before .before .kept-size .ensures) (c .before .before .before .named-size .ensures) (c .before .before .if1 .left) (c .before .if2 .left) (c .last-kept .ensures)
+loop-again c = next (c .before .before .before .before .before .before .before .before .before .loop .inv)
+    (taken (c .before .before .before .before .before .before .before .before .before .loop .last)
+    (c .before .before .before .before .before .before .before .part-end .ensures) (c .before .before .before .before .before .part-answer .ensures))
+    (c .before .before .before .before .kept-size .ensures) (c .before .before .before .named-size .ensures) (c .before .before .if1 .left)
+    (c .before .if2 .left) (c .last-kept .ensures)
 
 returns-3 : tie.Need-returns-3 Inv-loop μ-loop
 returns-3 c = end (c .before .loop .inv) (c .loop-test .left)

@@ -17,7 +17,8 @@ returns : tie.Need-returns
 returns c = search needs
 
 returns-2 : tie.Need-returns-2
-returns-2 c = name-there (c .before .before .before .before .args .first) (c .before .before .before .before .args .size) (c .before .before .answer .given .1) (c .name-size .ensures)
+returns-2 c = name-there (c .before .before .before .before .args .first) (c .before .before .before .before .args .size)
+    (c .before .before .answer .given .1) (c .name-size .ensures)
 
 pub named-size-spec : {M : Type 1} → statement M
 named-size-spec =

@@ -19,31 +19,89 @@ slice-aggregate-put-all-2 : tie.Need-slice-aggregate-put-all-2
 slice-aggregate-put-all-2 c = search needs
 
 put-all-requires-2 : tie.Need-put-all-requires-2
-put-all-requires-2 c κs = omega (arith, c .before .before .before .before .before .before .before .before .before .before .before .before .pre, c .before .before .before .before .before .before .before .before .put-all .ensures .end, c .before .before .before .before .put-decimal .ensures .1)
+put-all-requires-2 c κs = omega (
+  arith,
+  c .before .before .before .before .before .before .before .before .before .before .before .before .pre,
+  c .before .before .before .before .before .before .before .before .put-all .ensures .end,
+  c .before .before .before .before .put-decimal .ensures .1,
+)
 
 put-decimal-requires-2 : tie.Need-put-decimal-requires-2
-put-decimal-requires-2 c κs = omega (arith, c .before .before .before .before .before .before .before .before .before .before .before .before .before .before .before .before .pre, c .before .before .before .before .before .before .before .before .before .before .before .before .put-all .ensures .end, c .before .before .before .before .before .before .before .before .put-decimal .ensures .1, c .before .before .before .put-all2 .ensures .end)
+put-decimal-requires-2 c κs = omega (
+  arith,
+  c .before .before .before .before .before .before .before .before .before .before .before .before .before
+      .before .before .before .pre,
+  c .before .before .before .before .before .before .before .before .before .before .before .before .put-all .ensures .end,
+  c .before .before .before .before .before .before .before .before .put-decimal .ensures .1,
+  c .before .before .before .put-all2 .ensures .end,
+)
 
 slice-aggregate-put-all-3 : tie.Need-slice-aggregate-put-all-3
 slice-aggregate-put-all-3 c = search needs
 
 put-all-requires-3 : tie.Need-put-all-requires-3
-put-all-requires-3 c κs = omega (arith, c .before .before .before .before .before .before .before .before .before .before .before .before .before .before .before .before .before .before .before .before .before .pre, c .before .before .before .before .before .before .before .before .before .before .before .before .before .before .before .before .before .put-all .ensures .end, c .before .before .before .before .before .before .before .before .before .before .before .before .before .put-decimal .ensures .1, c .before .before .before .before .before .before .before .before .put-all2 .ensures .end, c .before .before .before .before .put-decimal2 .ensures .1)
+put-all-requires-3 c κs = omega (
+  arith,
+  c .before .before .before .before .before .before .before .before .before .before .before .before .before .before
+      .before .before .before .before .before .before .before .pre,
+  c .before .before .before .before .before .before .before .before .before .before .before .before .before .before .before .before .before .put-all
+      .ensures .end,
+  c .before .before .before .before .before .before .before .before .before .before .before .before .before .put-decimal .ensures .1,
+  c .before .before .before .before .before .before .before .before .put-all2 .ensures .end,
+  c .before .before .before .before .put-decimal2 .ensures .1,
+)
 
 put-decimal-requires-3 : tie.Need-put-decimal-requires-3
-put-decimal-requires-3 c κs = omega (arith, c .before .before .before .before .before .before .before .before .before .before .before .before .before .before .before .before .before .before .before .before .before .before .before .before .before .pre, c .before .before .before .before .before .before .before .before .before .before .before .before .before .before .before .before .before .before .before .before .before .put-all .ensures .end, c .before .before .before .before .before .before .before .before .before .before .before .before .before .before .before .before .before .put-decimal .ensures .1, c .before .before .before .before .before .before .before .before .before .before .before .before .put-all2 .ensures .end, c .before .before .before .before .before .before .before .before .put-decimal2 .ensures .1, c .before .before .before .put-all3 .ensures .end)
+put-decimal-requires-3 c κs = omega (
+  arith,
+  c .before .before .before .before .before .before .before .before .before .before .before .before .before
+      .before .before .before .before .before .before .before .before .before .before .before .before .pre,
+  c .before .before .before .before .before .before .before .before .before .before .before .before .before .before .before .before .before .before
+      .before .before .before .put-all .ensures .end,
+  c .before .before .before .before .before .before .before .before .before .before .before .before
+      .before .before .before .before .before .put-decimal .ensures .1,
+  c .before .before .before .before .before .before .before .before .before .before .before .before .put-all2 .ensures .end,
+  c .before .before .before .before .before .before .before .before .put-decimal2 .ensures .1,
+  c .before .before .before .put-all3 .ensures .end,
+)
 
 slice-aggregate-put-all-4 : tie.Need-slice-aggregate-put-all-4
 slice-aggregate-put-all-4 c = search needs
 
 put-all-requires-4 : tie.Need-put-all-requires-4
-put-all-requires-4 c κs = omega (arith, c .before .before .before .before .before .before .before .before .before .before .before .before .before .before .before .before .before .before .before .before .before .before .before .before .before .before .before .before .before .before .pre, c .before .before .before .before .before .before .before .before .before .before .before .before .before .before .before .before .before .before .before .before .before .before .before .before .before .before .put-all .ensures .end, c .before .before .before .before .before .before .before .before .before .before .before .before .before .before .before .before .before .before .before .before .before .before .put-decimal .ensures .1, c .before .before .before .before .before .before .before .before .before .before .before .before .before .before .before .before .before .put-all2 .ensures .end, c .before .before .before .before .before .before .before .before .before .before .before .before .before .put-decimal2 .ensures .1, c .before .before .before .before .before .before .before .before .put-all3 .ensures .end, c .before .before .before .before .put-decimal3 .ensures .1)
+put-all-requires-4 c κs = omega (
+  arith,
+  c .before .before .before .before .before .before .before .before .before .before .before .before .before .before
+      .before .before .before .before .before .before .before .before .before .before .before .before .before .before .before .before .pre,
+  c .before .before .before .before .before .before .before .before .before .before .before .before .before .before .before .before .before .before
+      .before .before .before .before .before .before .before .before .put-all .ensures .end,
+  c .before .before .before .before .before .before .before .before .before .before .before .before .before .before .before .before .before .before
+      .before .before .before .before .put-decimal .ensures .1,
+  c .before .before .before .before .before .before .before .before .before .before .before
+      .before .before .before .before .before .before .put-all2 .ensures .end,
+  c .before .before .before .before .before .before .before .before .before .before .before .before .before .put-decimal2 .ensures .1,
+  c .before .before .before .before .before .before .before .before .put-all3 .ensures .end,
+  c .before .before .before .before .put-decimal3 .ensures .1,
+)
 
 same-length : tie.Need-same-length
 same-length c = search needs
 
 returns : tie.Need-returns
-returns c = as-text (lines-of (c .before .before .before .before .before .before .before .before .before .before .before .before .before .before .before .before .before .before .before .before .before .before .before .before .before .before .before .before .before .before .before .before .before .args .first) (c .before .before .before .before .before .before .before .before .before .before .before .before .before .before .before .before .before .before .before .before .before .before .before .before .before .before .before .before .before .before .before .before .before .args .size) (c .before .before .before .before .before .before .before .before .before .before .before .before .before .before .before .before .before .before .before .before .before .before .before .before .before .before .before .before .before .before .before .before .before .args .answer)) (then (then (then (then (then (then (c .before .before .before .before .before .before .before .before .before .before .before .before .before .before .before .before .before .before .before .before .before .before .before .before .before .before .before .before .before .put-all .ensures) (c .before .before .before .before .before .before .before .before .before .before .before .before .before .before .before .before .before .before .before .before .before .before .before .before .before .put-decimal .ensures .0)) (c .before .before .before .before .before .before .before .before .before .before .before .before .before .before .before .before .before .before .before .before .put-all2 .ensures)) (c .before .before .before .before .before .before .before .before .before .before .before .before .before .before .before .before .put-decimal2 .ensures .0)) (c .before .before .before .before .before .before .before .before .before .before .before .put-all3 .ensures)) (c .before .before .before .before .before .before .before .put-decimal3 .ensures .0)) (c .before .before .put-all4 .ensures))
+returns c = as-text (lines-of (c .before .before .before .before .before .before .before .before .before .before .before .before .before .before .before
+    .before .before .before .before .before .before .before .before .before .before .before .before .before .before .before .before .before .before .args
+    .first) (c .before .before .before .before .before .before .before .before .before .before .before .before .before .before .before .before .before
+    .before .before .before .before .before .before .before .before .before .before .before .before .before .before .before .before .args .size)
+    (c .before .before .before .before .before .before .before .before .before .before .before .before .before .before .before .before .before .before
+    .before .before .before .before .before .before .before .before .before .before .before .before .before .before .before .args .answer))
+    (then (then (then (then (then (then (c .before .before .before .before .before .before .before .before .before .before .before .before .before .before
+    .before .before .before .before .before .before .before .before .before .before .before .before .before .before .before .put-all .ensures)
+    (c .before .before .before .before .before .before .before .before .before .before .before .before .before .before .before .before .before .before
+    .before .before .before .before .before .before .before .put-decimal .ensures .0))
+    (c .before .before .before .before .before .before .before .before .before .before .before .before .before .before .before .before .before .before
+    .before .before .put-all2 .ensures)) (c .before .before .before .before .before .before .before .before .before .before .before .before .before .before
+    .before .before .put-decimal2 .ensures .0)) (c .before .before .before .before .before .before .before .before .before .before .before .put-all3
+    .ensures)) (c .before .before .before .before .before .before .before .put-decimal3 .ensures .0)) (c .before .before .put-all4 .ensures))
 
 pub put-lines-spec : {M : Type 1} → statement M
 put-lines-spec =

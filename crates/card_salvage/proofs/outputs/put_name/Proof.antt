@@ -12,16 +12,24 @@ enum-known-answer : tie.Need-enum-known-answer
 enum-known-answer c = search needs
 
 put-lines-requires : tie.Need-put-lines-requires
-put-lines-requires c κs = omega (arith, c .before .before .before .before .before .pre, name-long (c .before .before .before .before .before .args .first) (c .before .before .before .before .before .args .size) (c .before .before .answer .given .1))
+put-lines-requires c κs = omega (
+  arith,
+  c .before .before .before .before .before .pre,
+  name-long (c .before .before .before .before .before .args .first) (c .before .before .before .before .before .args .size)
+      (c .before .before .answer .given .1),
+)
 
 returns : tie.Need-returns
-returns c = kept-name (c .before .before .before .args .out .now) (c .before .before .before .args .at) (c .before .before .before .args .first) (c .before .before .before .args .size) (c .enum-told .given .1)
+returns c = kept-name (c .before .before .before .args .out .now) (c .before .before .before .args .at) (c .before .before .before .args .first)
+    (c .before .before .before .args .size) (c .enum-told .given .1)
 
 same-length : tie.Need-same-length
 same-length c = search needs
 
 returns-2 : tie.Need-returns-2
-returns-2 c = put-name (c .before .before .before .before .before .before .before .before .args .first) (c .before .before .before .before .before .before .before .before .args .size) (c .before .before .before .before .before .answer .given .1) (c .before .before .put-lines .ensures)
+returns-2 c = put-name (c .before .before .before .before .before .before .before .before .args .first)
+    (c .before .before .before .before .before .before .before .before .args .size) (c .before .before .before .before .before .answer .given .1)
+    (c .before .before .put-lines .ensures)
 
 pub put-name-spec : {M : Type 1} → statement M
 put-name-spec =

@@ -43,22 +43,40 @@ part-put-kept-end : tie.Need-part-put-kept-end Inv-loop μ-loop
 part-put-kept-end c = omega (arith, c .before .before .before .part-end .ensures .order, c .before .before .before .part-end .ensures .inside)
 
 put-kept-requires : tie.Need-put-kept-requires Inv-loop μ-loop
-put-kept-requires c κs = room (c .before .before .before .before .before .before .loop .inv) (taken (c .before .before .before .before .before .before .loop .last) (c .before .before .before .before .part-end .ensures) (c .before .before .part-answer .ensures)) (c .before .before .before .before .before .before .before .before .before .before .pre .0)
+put-kept-requires c κs = room (c .before .before .before .before .before .before .loop .inv)
+    (taken (c .before .before .before .before .before .before .loop .last) (c .before .before .before .before .part-end .ensures)
+    (c .before .before .part-answer .ensures)) (c .before .before .before .before .before .before .before .before .before .before .pre .0)
 
 sub-put-name : tie.Need-sub-put-name Inv-loop μ-loop
-sub-put-name c = omega (arith, c .before .before .before .before .before .before .before .before .part-end .ensures .order, c .before .before .before .before .before .before .before .before .part-end .ensures .inside)
+sub-put-name c = omega (
+  arith,
+  c .before .before .before .before .before .before .before .before .part-end .ensures .order,
+  c .before .before .before .before .before .before .before .before .part-end .ensures .inside,
+)
 
 put-name-requires : tie.Need-put-name-requires Inv-loop μ-loop
-put-name-requires c κs = named-room (c .before .before .before .before .before .before .before .before .before .before .loop .inv) (taken (c .before .before .before .before .before .before .before .before .before .before .loop .last) (c .before .before .before .before .before .before .before .before .part-end .ensures) (c .before .before .before .before .before .before .part-answer .ensures)) (c .before .before .before .before .before .before .before .before .before .before .before .before .before .before .pre .1)
+put-name-requires c κs = named-room (c .before .before .before .before .before .before .before .before .before .before .loop .inv)
+    (taken (c .before .before .before .before .before .before .before .before .before .before .loop .last)
+    (c .before .before .before .before .before .before .before .before .part-end .ensures)
+    (c .before .before .before .before .before .before .part-answer .ensures))
+    (c .before .before .before .before .before .before .before .before .before .before .before .before .before .before .pre .1)
 
 last-kept-requires : tie.Need-last-kept-requires Inv-loop μ-loop
 last-kept-requires c κs = search needs
 
 loop-less : tie.Need-loop-less Inv-loop μ-loop
-loop-less c = omega (arith, c .before .before .before .before .before .before .before .before .before .before .before .before .part-end .ensures .order, c .before .before .before .before .before .before .before .before .before .before .before .before .before .loop-test .taken)
+loop-less c = omega (
+  arith,
+  c .before .before .before .before .before .before .before .before .before .before .before .before .part-end .ensures .order,
+  c .before .before .before .before .before .before .before .before .before .before .before .before .before .loop-test .taken,
+)
 
 loop-again : tie.Need-loop-again Inv-loop μ-loop
-loop-again c = next (c .before .before .before .before .before .before .before .before .before .before .before .before .before .before .loop .inv) (taken (c .before .before .before .before .before .before .before .before .before .before .before .before .before .before .loop .last) (c .before .before .before .before .before .before .before .before .before .before .before .before .part-end .ensures) (c .before .before .before .before .before .before .before .before .before .before .part-answer .ensures)) (c .before .before .before .before .before .before .before .put-kept .ensures) (c .before .before .before .put-name .ensures) (c .last-kept .ensures)
+loop-again c = next (c .before .before .before .before .before .before .before .before .before .before .before .before .before .before .loop .inv)
+    (taken (c .before .before .before .before .before .before .before .before .before .before .before .before .before .before .loop .last)
+    (c .before .before .before .before .before .before .before .before .before .before .before .before .part-end .ensures)
+    (c .before .before .before .before .before .before .before .before .before .before .part-answer .ensures))
+    (c .before .before .before .before .before .before .before .put-kept .ensures) (c .before .before .before .put-name .ensures) (c .last-kept .ensures)
 
 same-length : tie.Need-same-length Inv-loop μ-loop
 same-length c = long (c .before .loop .inv)

@@ -24,7 +24,8 @@ returns : tie.Need-returns
 returns c =
     let s = c .before .before .before .before .before .before .before in (
       λ d.
-          side-reads (s .args .g) (s .args .table .now) (s .args .at) (s .pre .0 .tokens) (s .pre .1) d (c .before .before .leaf .result) (s .pre .2) (c .before .before .before .word-at .ensures)
+          side-reads (s .args .g) (s .args .table .now) (s .args .at) (s .pre .0 .tokens) (s .pre .1) d (c .before .before .leaf .result) (s .pre .2)
+          (c .before .before .before .word-at .ensures)
           (c .before .before .leaf .ensures .0) (c .before .before .leaf .ensures .1),
       ap isDone (c .before .before .leaf .ensures .0),
     )

@@ -26,7 +26,9 @@ same-length c = search needs
 returns : tie.Need-returns
 returns c =
     let s = c .before .before .before .before .before .before .before .before in
-    being (c .before .before .ticked .ensures .0) (clock-done (s .pre .tokens) (sym (c .before .before .before .before .before .expected .ensures) ∙ c .before .before .before .before .if1 .taken) (c .before .before .ticked .ensures .1))
+    being (c .before .before .ticked .ensures .0) (clock-done (s .pre .tokens)
+    (sym (c .before .before .before .before .before .expected .ensures) ∙ c .before .before .before .before .if1 .taken)
+    (c .before .before .ticked .ensures .1))
 
 bad-requires : tie.Need-bad-requires
 bad-requires c κs = let s = c .before .before .before .before in omega (arith, s .pre .within, s .pre .small)

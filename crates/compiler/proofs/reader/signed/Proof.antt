@@ -9,7 +9,8 @@ use Rattle.compiler.proofs.reader.signed.Statement.{statement}
 use Rattle.compiler.proofs.reader.signed.Tie as tie
 
 abbrev Inv-loop : tie.InvT-loop
-Inv-loop table draft₀ at first inner read₀ i₀ draft read i = (at ≤ i) × (i ≤ first) × (length draft ≡ length draft₀) × Signed table first draft₀ inner i draft read
+Inv-loop table draft₀ at first inner read₀ i₀ draft read i = (at ≤ i) × (i ≤ first) × (length draft ≡ length draft₀)
+    × Signed table first draft₀ inner i draft read
 
 abbrev μ-loop : tie.MeasureT-loop
 μ-loop table draft₀ at first inner read₀ i₀ draft read i = i
@@ -35,8 +36,13 @@ loop-less c = search needs
 loop-again : tie.Need-loop-again Inv-loop μ-loop
 loop-again c =
     let l = c .before .before .before .before .before .before .loop in
-    let p = c .before .before .prefixed in
-    (omega arith, omega arith, p .kept .0 ∙ l .inv .2, signed-more (omega arith) (l .inv .3) (c .before .before .before .word-at .ensures) (p .ensures .0) (p .ensures .1))
+    let p = c .before .before .prefixed in (
+      omega arith,
+      omega arith,
+      p .kept .0 ∙ l .inv .2,
+      signed-more (omega arith) (l .inv .3) (c .before .before .before .word-at .ensures) (p .ensures .0)
+          (p .ensures .1),
+    )
 
 same-length : tie.Need-same-length Inv-loop μ-loop
 same-length c = c .before .loop .inv .2

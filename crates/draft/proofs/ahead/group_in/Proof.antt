@@ -14,7 +14,8 @@ group-of-requires : tie.Need-group-of-requires
 group-of-requires c κs = search needs
 
 returns : tie.Need-returns
-returns c = rw (← c .before .before .before .class-of .ensures, eq-eqb _ 6 (c .before .before .if1 .taken), ← c .before .operand-of .ensures) (c .group-of .ensures)
+returns c = rw (← c .before .before .before .class-of .ensures, eq-eqb _ 6 (c .before .before .if1 .taken), ← c .before .operand-of .ensures)
+    (c .group-of .ensures)
 
 returns-2 : tie.Need-returns-2
 returns-2 c = rw (← c .before .class-of .ensures, ne-eqb _ 6 (c .if1 .left))

@@ -33,10 +33,24 @@ group-in-requires : tie.Need-group-in-requires
 group-in-requires c κs = search needs
 
 returns-2 : tie.Need-returns-2
-returns-2 c = rw (← c .before .before .before .before .before .word-at .ensures, ← c .before .before .before .before .is-leaf .ensures, met (c .before .before .before .before .is-leaf .result) (c .before .before .before .if1 .left), ← c .before .before .word-at2 .ensures, ← c .before .group-in .ensures, eq-eqb _ 0 (c .if2 .taken))
+returns-2 c = rw (
+  ← c .before .before .before .before .before .word-at .ensures,
+  ← c .before .before .before .before .is-leaf .ensures,
+  met (c .before .before .before .before .is-leaf .result) (c .before .before .before .if1 .left),
+  ← c .before .before .word-at2 .ensures,
+  ← c .before .group-in .ensures,
+  eq-eqb _ 0 (c .if2 .taken),
+)
 
 returns-3 : tie.Need-returns-3
-returns-3 c = rw (← c .before .before .before .before .before .word-at .ensures, ← c .before .before .before .before .is-leaf .ensures, met (c .before .before .before .before .is-leaf .result) (c .before .before .before .if1 .left), ← c .before .before .word-at2 .ensures, ← c .before .group-in .ensures, ne-eqb _ 0 (c .if2 .left))
+returns-3 c = rw (
+  ← c .before .before .before .before .before .word-at .ensures,
+  ← c .before .before .before .before .is-leaf .ensures,
+  met (c .before .before .before .before .is-leaf .result) (c .before .before .before .if1 .left),
+  ← c .before .before .word-at2 .ensures,
+  ← c .before .group-in .ensures,
+  ne-eqb _ 0 (c .if2 .left),
+)
 
 pub is-alone-spec : {M : Type 1} → statement M
 is-alone-spec =

@@ -26,8 +26,15 @@ bank-kind-requires c κs = search needs
 
 returns-3 : tie.Need-returns-3
 returns-3 c =
-    let k = bank-kind (wordOperand (c .before .before .before .before .before .args .w)) (c .before .before .before .before .before .pre) (c .before .operand-of .ensures) (c .bank-kind .ensures) in
-    (rw (← c .before .before .before .before .class-of .ensures, ne-eqb _ 1 (c .before .before .before .if1 .left), ne-eqb _ 2 (c .before .before .if2 .left)) (k .0), k .1)
+    let k = bank-kind (wordOperand (c .before .before .before .before .before .args .w)) (c .before .before .before .before .before .pre)
+    (c .before .operand-of .ensures) (c .bank-kind .ensures) in (
+      rw (
+        ← c .before .before .before .before .class-of .ensures,
+        ne-eqb _ 1 (c .before .before .before .if1 .left),
+        ne-eqb _ 2 (c .before .before .if2 .left),
+      ) (k .0),
+      k .1,
+    )
 
 pub leaf-kind-spec : {M : Type 1} → statement M
 leaf-kind-spec =

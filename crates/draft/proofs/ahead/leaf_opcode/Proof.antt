@@ -23,7 +23,12 @@ add-result : tie.Need-add-result
 add-result c = search needs
 
 returns-3 : tie.Need-returns-3
-returns-3 c = rw (← c .before .before .before .class-of .ensures, ne-eqb _ 1 (c .before .before .if1 .left), ne-eqb _ 2 (c .before .if2 .left), ← c .operand-of .ensures)
+returns-3 c = rw (
+  ← c .before .before .before .class-of .ensures,
+  ne-eqb _ 1 (c .before .before .if1 .left),
+  ne-eqb _ 2 (c .before .if2 .left),
+  ← c .operand-of .ensures,
+)
 
 pub leaf-opcode-spec : {M : Type 1} → statement M
 leaf-opcode-spec =

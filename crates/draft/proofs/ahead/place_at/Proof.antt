@@ -17,7 +17,8 @@ returns : tie.Need-returns
 returns c = rw (← c .before .before .word-at .ensures, ← c .before .class-of .ensures, eq-eqb _ 0 (c .if1 .taken))
 
 returns-2 : tie.Need-returns-2
-returns-2 c = rw (← c .before .before .before .word-at .ensures, ← c .before .before .class-of .ensures, ne-eqb _ 0 (c .before .if1 .left)) (c .place-of .ensures)
+returns-2 c = rw (← c .before .before .before .word-at .ensures, ← c .before .before .class-of .ensures, ne-eqb _ 0 (c .before .if1 .left))
+    (c .place-of .ensures)
 
 pub place-at-spec : {M : Type 1} → statement M
 place-at-spec =

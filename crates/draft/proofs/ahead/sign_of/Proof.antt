@@ -19,10 +19,24 @@ is-symbol-requires-3 : tie.Need-is-symbol-requires-3
 is-symbol-requires-3 c κs = search needs
 
 returns-3 : tie.Need-returns-3
-returns-3 c = rw (← c .before .before .before .before .before .is-symbol .ensures, c .before .before .before .before .if1 .left, ← c .before .before .before .is-symbol2 .ensures, c .before .before .if2 .left, ← c .before .is-symbol3 .ensures, c .if3 .taken)
+returns-3 c = rw (
+  ← c .before .before .before .before .before .is-symbol .ensures,
+  c .before .before .before .before .if1 .left,
+  ← c .before .before .before .is-symbol2 .ensures,
+  c .before .before .if2 .left,
+  ← c .before .is-symbol3 .ensures,
+  c .if3 .taken,
+)
 
 returns-4 : tie.Need-returns-4
-returns-4 c = rw (← c .before .before .before .before .before .is-symbol .ensures, c .before .before .before .before .if1 .left, ← c .before .before .before .is-symbol2 .ensures, c .before .before .if2 .left, ← c .before .is-symbol3 .ensures, c .if3 .left)
+returns-4 c = rw (
+  ← c .before .before .before .before .before .is-symbol .ensures,
+  c .before .before .before .before .if1 .left,
+  ← c .before .before .before .is-symbol2 .ensures,
+  c .before .before .if2 .left,
+  ← c .before .is-symbol3 .ensures,
+  c .if3 .left,
+)
 
 pub sign-of-spec : {M : Type 1} → statement M
 sign-of-spec =

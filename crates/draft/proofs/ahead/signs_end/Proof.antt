@@ -30,12 +30,14 @@ add-end c = search needs
 
 loop-less : tie.Need-loop-less Inv-loop μ-loop
 loop-less c =
-    let h = sign-here (c .before .before .before .before .before .args .table .now) (c .before .before .before .loop .end) (c .before .before .word-at .ensures) (c .before .sign-of .ensures) (c .if1 .taken) in
+    let h = sign-here (c .before .before .before .before .before .args .table .now) (c .before .before .before .loop .end)
+    (c .before .before .word-at .ensures) (c .before .sign-of .ensures) (c .if1 .taken) in
     omega arith
 
 loop-again : tie.Need-loop-again Inv-loop μ-loop
 loop-again c =
-    let h = sign-here (c .before .before .before .before .before .args .table .now) (c .before .before .before .loop .end) (c .before .before .word-at .ensures) (c .before .sign-of .ensures) (c .if1 .taken) in
+    let h = sign-here (c .before .before .before .before .before .args .table .now) (c .before .before .before .loop .end)
+    (c .before .before .word-at .ensures) (c .before .sign-of .ensures) (c .if1 .taken) in
     (omega arith, omega arith, below-more _ _ (c .before .before .before .loop .inv .2) (λ k. h .1))
 
 returns : tie.Need-returns Inv-loop μ-loop
@@ -44,7 +46,8 @@ returns c =
       ahead = omega arith;
       within = omega arith;
       each = λ i h k. c .before .before .before .loop .inv .2 i k h;
-      stops = sign-stops (c .before .before .before .before .before .args .table .now) (c .before .before .before .loop .end) (c .before .before .word-at .ensures) (c .before .sign-of .ensures) (c .if1 .left);
+      stops = sign-stops (c .before .before .before .before .before .args .table .now) (c .before .before .before .loop .end)
+          (c .before .before .word-at .ensures) (c .before .sign-of .ensures) (c .if1 .left);
     }
 
 pub signs-end-spec : {M : Type 1} → statement M

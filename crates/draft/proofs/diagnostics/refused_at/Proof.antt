@@ -19,8 +19,11 @@ returns : tie.Need-returns
 returns c = search needs
 
 returns-2 : tie.Need-returns-2
-returns-2 c =
-    (rw (c .before .if1 .left) (word-diagnosed (c .before .before .args .w) (c .before .before .args .answer) (c .before .before .pre) (16 * c .place-of .result + c .before .before .args .answer) (omega (arith, c .place-of .ensures))), omega (arith, c .place-of .ensures))
+returns-2 c = (
+  rw (c .before .if1 .left) (word-diagnosed (c .before .before .args .w) (c .before .before .args .answer) (c .before .before .pre)
+      (16 * c .place-of .result + c .before .before .args .answer) (omega (arith, c .place-of .ensures))),
+  omega (arith, c .place-of .ensures),
+)
 
 pub refused-at-spec : {M : Type 1} → statement M
 refused-at-spec = tie.close (tie.spec place-of-requires mul-result add-result returns returns-2)

@@ -54,7 +54,8 @@ done-requires c κs =
     let n = functionOperator (s .args .f) in
     let m = wordOperand (s .args .first) in
     let h = match-function (s .args .f) (s .pre .0) in
-    let t = match-typed n m (s .pre .1 .few) (c .before .before .before .before .before .before .before .before .before .before .before .operator .ensures) (c .before .before .before .before .operand-of .ensures) h (c .before .before .before .match-kind .ensures) in
+    let t = match-typed n m (s .pre .1 .few) (c .before .before .before .before .before .before .before .before .before .before .before .operator .ensures)
+    (c .before .before .before .before .operand-of .ensures) h (c .before .before .before .match-kind .ensures) in
     (search needs, search needs, t .1, search needs)
 
 same-length : tie.Need-same-length
@@ -66,7 +67,8 @@ returns c =
     let n = functionOperator (s .args .f) in
     let m = wordOperand (s .args .first) in
     let h = match-function (s .args .f) (s .pre .0) in
-    let t = match-typed n m (s .pre .1 .few) (c .before .before .before .before .before .before .before .before .before .before .before .before .operator .ensures) (c .before .before .before .before .before .operand-of .ensures) h (c .before .before .before .before .match-kind .ensures) in
+    let t = match-typed n m (s .pre .1 .few) (c .before .before .before .before .before .before .before .before .before .before .before .before .operator
+    .ensures) (c .before .before .before .before .before .operand-of .ensures) h (c .before .before .before .before .match-kind .ensures) in
     (cc (t .0), cc (match-at n h, bank-at m (s .pre .1 .few)))
 
 pub matched-spec : {M : Type 1} → statement M

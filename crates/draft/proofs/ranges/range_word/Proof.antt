@@ -28,13 +28,24 @@ range-word-requires : tie.Need-range-word-requires
 range-word-requires c κs =
     let s = c .before .before .before .before .before in
     let h = small (s .args .first) (s .args .count) (s .pre) in
-    let e = span-is (s .args .first) (s .args .count) (s .pre) (c .before .before .before .before .operand-of .ensures) (c .before .before .bank-elements .ensures) (c .before .before .before .number-of .ensures) (c .before .number-of2 .ensures) (c .span-of .ensures) in
-    (omega (arith, s .pre .few, c .before .before .before .before .operand-of .ensures), omega (arith, h .0, c .before .before .before .number-of .ensures), omega (arith, h .1))
+    let e = span-is (s .args .first) (s .args .count) (s .pre) (c .before .before .before .before .operand-of .ensures)
+    (c .before .before .bank-elements .ensures) (c .before .before .before .number-of .ensures) (c .before .number-of2 .ensures) (c .span-of .ensures) in (
+      omega (arith, s .pre .few, c .before .before .before .before .operand-of .ensures),
+      omega (arith, h .0, c .before .before .before .number-of .ensures),
+      omega (arith, h .1),
+    )
 
 returns : tie.Need-returns
 returns c =
     let s = c .before .before .before .before .before .before in
-    cc (span-is (s .args .first) (s .args .count) (s .pre) (c .before .before .before .before .before .operand-of .ensures) (c .before .before .before .bank-elements .ensures) (c .before .before .before .before .number-of .ensures) (c .before .before .number-of2 .ensures) (c .before .span-of .ensures), c .range-word .ensures, c .before .before .before .before .before .operand-of .ensures, c .before .before .before .before .number-of .ensures)
+    cc (
+      span-is (s .args .first) (s .args .count) (s .pre) (c .before .before .before .before .before .operand-of .ensures)
+          (c .before .before .before .bank-elements .ensures) (c .before .before .before .before .number-of .ensures) (c .before .before .number-of2 .ensures)
+          (c .before .span-of .ensures),
+      c .range-word .ensures,
+      c .before .before .before .before .before .operand-of .ensures,
+      c .before .before .before .before .number-of .ensures,
+    )
 
 pub range-word-spec : {M : Type 1} → statement M
 range-word-spec =

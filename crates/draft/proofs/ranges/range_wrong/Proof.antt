@@ -28,7 +28,9 @@ wrong-count-requires c κs = search needs
 returns : tie.Need-returns
 returns c =
     let s = c .before .before .before .before .before .before in
-    let g = good-is (s .args .first) (s .args .count) (s .pre) (c .before .before .before .before .before .operand-of .ensures) (c .before .before .before .before .bank-elements .ensures) (c .before .before .before .number-of .ensures) (c .before .before .number-of2 .ensures) (c .before .is-within .ensures) in
+    let g = good-is (s .args .first) (s .args .count) (s .pre) (c .before .before .before .before .before .operand-of .ensures)
+    (c .before .before .before .before .bank-elements .ensures) (c .before .before .before .number-of .ensures) (c .before .before .number-of2 .ensures)
+    (c .before .is-within .ensures) in
     (cc g, c .wrong-count .ensures .1)
 
 pub range-wrong-spec : {M : Type 1} → statement M

@@ -45,7 +45,8 @@ done-requires c κs =
     let n = functionOperator (s .args .f) in
     let m = wordOperand (s .args .first) in
     let h = total-function (s .args .f) (s .pre .0) in
-    let t = total-typed n m (s .pre .1 .few) (c .before .before .before .before .before .before .before .before .operator .ensures) (c .before .before .operand-of .ensures) h (c .before .total-kind .ensures) in
+    let t = total-typed n m (s .pre .1 .few) (c .before .before .before .before .before .before .before .before .operator .ensures)
+    (c .before .before .operand-of .ensures) h (c .before .total-kind .ensures) in
     (search needs, search needs, t .1, search needs)
 
 same-length : tie.Need-same-length
@@ -57,7 +58,8 @@ returns c =
     let n = functionOperator (s .args .f) in
     let m = wordOperand (s .args .first) in
     let h = total-function (s .args .f) (s .pre .0) in
-    let t = total-typed n m (s .pre .1 .few) (c .before .before .before .before .before .before .before .before .before .operator .ensures) (c .before .before .before .operand-of .ensures) h (c .before .before .total-kind .ensures) in
+    let t = total-typed n m (s .pre .1 .few) (c .before .before .before .before .before .before .before .before .before .operator .ensures)
+    (c .before .before .before .operand-of .ensures) h (c .before .before .total-kind .ensures) in
     (cc (t .0), cc (total-at n h, bank-at m (s .pre .1 .few)))
 
 pub totalled-spec : {M : Type 1} → statement M

@@ -40,7 +40,9 @@ returns-4 : tie.Need-returns-4
 returns-4 c =
     c .scanned-form .ensures
     ∙ ap scannedForm (c .before .hexadecimal .ensures)
-    ∙ pattern (c .before .before .before .before .before .before .before .before .before .args .text .now) (c .before .before .before .before .before .before .before .if1 .left) (c .before .before .before .before .before .if2 .left) (c .before .before .before .if3 .left)
+    ∙ pattern (c .before .before .before .before .before .before .before .before .before .args .text .now)
+    (c .before .before .before .before .before .before .before .if1 .left) (c .before .before .before .before .before .if2 .left)
+    (c .before .before .before .if3 .left)
 
 pub hexadecimal-spec : {M : Type 1} → statement M
 hexadecimal-spec =

@@ -22,7 +22,12 @@ returns : tie.Need-returns
 returns c =
     let n = c .before .before .before .before .before .before .args .n in (
       as-text (ap (λ (k : ℕ). lowDigits 10 k n) (c .before .before .before .width-of .ensures)) (c .before .before .spell .ensures),
-      omega (arith, c .before .before .spell .ensures .end, length-digits 10 (c .before .before .before .width-of .result) n, c .before .before .before .width-of .ensures),
+      omega (
+        arith,
+        c .before .before .spell .ensures .end,
+        length-digits 10 (c .before .before .before .width-of .result) n,
+        c .before .before .before .width-of .ensures,
+      ),
     )
 
 pub put-decimal-spec : {M : Type 1} → statement M

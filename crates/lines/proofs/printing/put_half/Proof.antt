@@ -18,8 +18,10 @@ same-length c = search needs
 
 returns : tie.Need-returns
 returns c =
-    let a = c .before .before .before .before .before .before .args in
-    (rw (lt-ltb _ _ (c .before .before .before .before .if1 .taken)) (c .before .before .put-decimal .ensures .0), omega (arith, at-most 9 (a .n) (omega arith)))
+    let a = c .before .before .before .before .before .before .args in (
+      rw (lt-ltb _ _ (c .before .before .before .before .if1 .taken)) (c .before .before .put-decimal .ensures .0),
+      omega (arith, at-most 9 (a .n) (omega arith)),
+    )
 
 slice-aggregate-put-all : tie.Need-slice-aggregate-put-all
 slice-aggregate-put-all c = search needs
@@ -44,7 +46,8 @@ same-length-2 c = search needs
 returns-2 : tie.Need-returns-2
 returns-2 c =
     let a = c .before .before .before .before .before .before .before .before .before .before .before .args in (
-      rw (le-ltb _ _ (c .before .before .before .before .before .before .before .before .before .if1 .left)) (then (c .before .before .before .before .before .before .put-all .ensures) (c .before .before .put-decimal2 .ensures .0)),
+      rw (le-ltb _ _ (c .before .before .before .before .before .before .before .before .before .if1 .left))
+          (then (c .before .before .before .before .before .before .put-all .ensures) (c .before .before .put-decimal2 .ensures .0)),
       omega (arith, at-most 9 (2 * a .half - a .n) (omega arith)),
     )
 

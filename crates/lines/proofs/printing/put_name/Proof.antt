@@ -30,8 +30,11 @@ same-length c = search needs
 returns : tie.Need-returns
 returns c =
     let a = c .before .before .before .before .before .before .before .before .before .before .before in
-    let both = then (c .before .before .before .before .before .before .put-all .ensures) (c .before .before .put-decimal .ensures .0) in
-    (as-text (ap (λ (l : ℕ). l ∷ decimalText (a .args .element)) (c .before .before .before .before .before .before .before .before .before .letter .ensures)) both, omega (arith, at-most 2 (a .args .element) (a .pre .0)))
+    let both = then (c .before .before .before .before .before .before .put-all .ensures) (c .before .before .put-decimal .ensures .0) in (
+      as-text (ap (λ (l : ℕ). l ∷ decimalText (a .args .element)) (c .before .before .before .before .before .before .before .before .before .letter
+          .ensures)) both,
+      omega (arith, at-most 2 (a .args .element) (a .pre .0)),
+    )
 
 pub put-name-spec : {M : Type 1} → statement M
 put-name-spec =

@@ -31,11 +31,20 @@ digit-requires c κs = omega (arith, mod-lt (c .before .loop .rest) (c .before .
 
 add-out : tie.Need-add-out Inv-loop μ-loop
 add-out c =
-    let h : length (c .before .before .loop .out) ≡ length (c .before .before .before .before .args .out .now) = long (c .before .before .loop .inv) ∙ simp length-sets in
-    omega (arith, inside (c .before .before .before .before .args .base) (c .before .before .loop .rest) (c .before .before .loop .i) (c .before .before .loop .inv))
+    let h : length (c .before .before .loop .out) ≡ length (c .before .before .before .before .args .out .now) = long (c .before .before .loop .inv)
+    ∙ simp length-sets in
+    omega (
+      arith,
+      inside (c .before .before .before .before .args .base) (c .before .before .loop .rest) (c .before .before .loop .i)
+          (c .before .before .loop .inv),
+    )
 
 slice-write-out : tie.Need-slice-write-out Inv-loop μ-loop
-slice-write-out c = omega (arith, inside (c .before .before .before .before .args .base) (c .before .before .loop .rest) (c .before .before .loop .i) (c .before .before .loop .inv))
+slice-write-out c = omega (
+  arith,
+  inside (c .before .before .before .before .args .base) (c .before .before .loop .rest) (c .before .before .loop .i)
+      (c .before .before .loop .inv),
+)
 
 div-rest : tie.Need-div-rest Inv-loop μ-loop
 div-rest c = search needs

@@ -103,32 +103,38 @@ get32-requires-2 c κs =
 returns : tie.Need-returns
 returns c =
     let s = c .before .before .before .before .before in
-    Arms.got-bit (image s) (bank s) X (i s) (c .before .before .enum-told .given .1) (s .pre) is-x (c .before .place-of .ensures) (c .get-bit .ensures .0) (c .get-bit .ensures .1)
+    Arms.got-bit (image s) (bank s) X (i s) (c .before .before .enum-told .given .1) (s .pre) is-x (c .before .place-of .ensures) (c .get-bit .ensures .0)
+    (c .get-bit .ensures .1)
 
 returns-2 : tie.Need-returns-2
 returns-2 c =
     let s = c .before .before .before .before .before in
-    Arms.got-bit (image s) (bank s) C (i s) (c .before .before .enum-told2 .given .1) (s .pre) is-c (c .before .place-of2 .ensures) (c .get-bit2 .ensures .0) (c .get-bit2 .ensures .1)
+    Arms.got-bit (image s) (bank s) C (i s) (c .before .before .enum-told2 .given .1) (s .pre) is-c (c .before .place-of2 .ensures)
+    (c .get-bit2 .ensures .0) (c .get-bit2 .ensures .1)
 
 returns-3 : tie.Need-returns-3
 returns-3 c =
     let s = c .before .before .before .before .before in
-    Arms.got-word (image s) (bank s) «V» (i s) (c .before .before .enum-told3 .given .1) (s .pre) Arms.is-v (c .before .place-of3 .ensures) (c .get16 .ensures .0) (c .get16 .ensures .1)
+    Arms.got-word (image s) (bank s) «V» (i s) (c .before .before .enum-told3 .given .1) (s .pre) Arms.is-v (c .before .place-of3 .ensures)
+    (c .get16 .ensures .0) (c .get16 .ensures .1)
 
 returns-4 : tie.Need-returns-4
 returns-4 c =
     let s = c .before .before .before .before .before in
-    Arms.got-word (image s) (bank s) N (i s) (c .before .before .enum-told4 .given .1) (s .pre) Arms.is-n (c .before .place-of4 .ensures) (c .get162 .ensures .0) (c .get162 .ensures .1)
+    Arms.got-word (image s) (bank s) N (i s) (c .before .before .enum-told4 .given .1) (s .pre) Arms.is-n (c .before .place-of4 .ensures)
+    (c .get162 .ensures .0) (c .get162 .ensures .1)
 
 returns-5 : tie.Need-returns-5
 returns-5 c =
     let s = c .before .before .before .before .before in
-    Arms.got-word (image s) (bank s) D (i s) (c .before .before .enum-told5 .given .1) (s .pre) Arms.is-d (c .before .place-of5 .ensures) (c .get32 .ensures) (search needs)
+    Arms.got-word (image s) (bank s) D (i s) (c .before .before .enum-told5 .given .1) (s .pre) Arms.is-d (c .before .place-of5 .ensures)
+    (c .get32 .ensures) (search needs)
 
 returns-6 : tie.Need-returns-6
 returns-6 c =
     let s = c .before .before .before .before .before in
-    Arms.got-word (image s) (bank s) R (i s) (c .before .before .enum-told6 .given .1) (s .pre) Arms.is-r (c .before .place-of6 .ensures) (c .get322 .ensures) (search needs)
+    Arms.got-word (image s) (bank s) R (i s) (c .before .before .enum-told6 .given .1) (s .pre) Arms.is-r (c .before .place-of6 .ensures)
+    (c .get322 .ensures) (search needs)
 
 pub get-spec : {M : Type 1} → statement M
 get-spec =

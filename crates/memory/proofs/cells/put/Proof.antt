@@ -32,8 +32,11 @@ place-of-requires c κs =
 
 put-bit-requires : tie.Need-put-bit-requires
 put-bit-requires c κs =
-    let s = c .before .before .before .before .before in
-    (Arms.reach-bit (image s) (bank s) X (i s) (c .before .before .enum-told .given .1) (s .pre .0) is-x (c .place-of .ensures), omega arith, Arms.digit (image s) (bank s) X (i s) (c .before .before .enum-told .given .1) (s .pre .0) is-x (s .pre .1))
+    let s = c .before .before .before .before .before in (
+      Arms.reach-bit (image s) (bank s) X (i s) (c .before .before .enum-told .given .1) (s .pre .0) is-x (c .place-of .ensures),
+      omega arith,
+      Arms.digit (image s) (bank s) X (i s) (c .before .before .enum-told .given .1) (s .pre .0) is-x (s .pre .1),
+    )
 
 enum-told-2 : tie.Need-enum-told-2
 enum-told-2 c = search needs
@@ -45,8 +48,11 @@ place-of-requires-2 c κs =
 
 put-bit-requires-2 : tie.Need-put-bit-requires-2
 put-bit-requires-2 c κs =
-    let s = c .before .before .before .before .before in
-    (Arms.reach-bit (image s) (bank s) C (i s) (c .before .before .enum-told2 .given .1) (s .pre .0) is-c (c .place-of2 .ensures), omega arith, Arms.digit (image s) (bank s) C (i s) (c .before .before .enum-told2 .given .1) (s .pre .0) is-c (s .pre .1))
+    let s = c .before .before .before .before .before in (
+      Arms.reach-bit (image s) (bank s) C (i s) (c .before .before .enum-told2 .given .1) (s .pre .0) is-c (c .place-of2 .ensures),
+      omega arith,
+      Arms.digit (image s) (bank s) C (i s) (c .before .before .enum-told2 .given .1) (s .pre .0) is-c (s .pre .1),
+    )
 
 enum-told-3 : tie.Need-enum-told-3
 enum-told-3 c = search needs
@@ -106,7 +112,8 @@ same-length c = search needs
 returns : tie.Need-returns
 returns c =
     let s = c .before .before .before .before .before .before .before .before in
-    Arms.written-bit (image s) (bank s) X (i s) (c .before .before .before .before .before .enum-told .given .1) (s .pre .0) is-x (s .args .n) (c .before .before .before .place-of .ensures) (c .before .before .put-bit .ensures)
+    Arms.written-bit (image s) (bank s) X (i s) (c .before .before .before .before .before .enum-told .given .1) (s .pre .0) is-x (s .args .n)
+    (c .before .before .before .place-of .ensures) (c .before .before .put-bit .ensures)
 
 same-length-2 : tie.Need-same-length-2
 same-length-2 c = search needs
@@ -114,7 +121,8 @@ same-length-2 c = search needs
 returns-2 : tie.Need-returns-2
 returns-2 c =
     let s = c .before .before .before .before .before .before .before .before in
-    Arms.written-bit (image s) (bank s) C (i s) (c .before .before .before .before .before .enum-told2 .given .1) (s .pre .0) is-c (s .args .n) (c .before .before .before .place-of2 .ensures) (c .before .before .put-bit2 .ensures)
+    Arms.written-bit (image s) (bank s) C (i s) (c .before .before .before .before .before .enum-told2 .given .1) (s .pre .0) is-c (s .args .n)
+    (c .before .before .before .place-of2 .ensures) (c .before .before .put-bit2 .ensures)
 
 same-length-3 : tie.Need-same-length-3
 same-length-3 c = search needs
@@ -122,7 +130,8 @@ same-length-3 c = search needs
 returns-3 : tie.Need-returns-3
 returns-3 c =
     let s = c .before .before .before .before .before .before .before .before in
-    Arms.written-word (image s) (bank s) «V» (i s) (c .before .before .before .before .before .enum-told3 .given .1) (s .pre .0) Arms.is-v (s .args .n) (c .before .before .before .place-of3 .ensures) (c .before .before .put16 .ensures)
+    Arms.written-word (image s) (bank s) «V» (i s) (c .before .before .before .before .before .enum-told3 .given .1) (s .pre .0) Arms.is-v (s .args .n)
+    (c .before .before .before .place-of3 .ensures) (c .before .before .put16 .ensures)
 
 same-length-4 : tie.Need-same-length-4
 same-length-4 c = search needs
@@ -130,7 +139,8 @@ same-length-4 c = search needs
 returns-4 : tie.Need-returns-4
 returns-4 c =
     let s = c .before .before .before .before .before .before .before .before in
-    Arms.written-word (image s) (bank s) N (i s) (c .before .before .before .before .before .enum-told4 .given .1) (s .pre .0) Arms.is-n (s .args .n) (c .before .before .before .place-of4 .ensures) (c .before .before .put162 .ensures)
+    Arms.written-word (image s) (bank s) N (i s) (c .before .before .before .before .before .enum-told4 .given .1) (s .pre .0) Arms.is-n (s .args .n)
+    (c .before .before .before .place-of4 .ensures) (c .before .before .put162 .ensures)
 
 same-length-5 : tie.Need-same-length-5
 same-length-5 c = search needs
@@ -138,7 +148,8 @@ same-length-5 c = search needs
 returns-5 : tie.Need-returns-5
 returns-5 c =
     let s = c .before .before .before .before .before .before .before .before in
-    Arms.written-word (image s) (bank s) D (i s) (c .before .before .before .before .before .enum-told5 .given .1) (s .pre .0) Arms.is-d (s .args .n) (c .before .before .before .place-of5 .ensures) (c .before .before .put32 .ensures)
+    Arms.written-word (image s) (bank s) D (i s) (c .before .before .before .before .before .enum-told5 .given .1) (s .pre .0) Arms.is-d (s .args .n)
+    (c .before .before .before .place-of5 .ensures) (c .before .before .put32 .ensures)
 
 same-length-6 : tie.Need-same-length-6
 same-length-6 c = search needs
@@ -146,7 +157,8 @@ same-length-6 c = search needs
 returns-6 : tie.Need-returns-6
 returns-6 c =
     let s = c .before .before .before .before .before .before .before .before in
-    Arms.written-word (image s) (bank s) R (i s) (c .before .before .before .before .before .enum-told6 .given .1) (s .pre .0) Arms.is-r (s .args .n) (c .before .before .before .place-of6 .ensures) (c .before .before .put322 .ensures)
+    Arms.written-word (image s) (bank s) R (i s) (c .before .before .before .before .before .enum-told6 .given .1) (s .pre .0) Arms.is-r (s .args .n)
+    (c .before .before .before .place-of6 .ensures) (c .before .before .put322 .ensures)
 
 pub put-spec : {M : Type 1} → statement M
 put-spec =

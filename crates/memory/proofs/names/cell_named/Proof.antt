@@ -24,7 +24,8 @@ module _ (c : tie.After-number-below) where
   bank = c .before .before .before .before .before .bank .given .0 .0
 
   by-bank : namedRule word ≡ cellAfterLetter (drop 1 word) (Of bank)
-  by-bank = named word (search needs) (sym (c .before .before .before .before .before .bank .given .1) ∙ c .before .before .before .before .before .before .before .bank-of .ensures)
+  by-bank = named word (search needs) (sym (c .before .before .before .before .before .bank .given .1)
+      ∙ c .before .before .before .before .before .before .before .bank-of .ensures)
 
   by-number : c .number-below .result ≡ numberRule (layoutOf bank .elements) (drop 1 word)
   by-number =
@@ -49,7 +50,8 @@ enum-told c = search needs
 
 returns-2 : tie.Need-returns-2
 returns-2 c =
-    sym (named (c .before .before .before .before .before .before .args .word .now) (search needs) (sym (c .enum-told .given .1) ∙ c .before .before .bank-of .ensures))
+    sym (named (c .before .before .before .before .before .before .args .word .now) (search needs)
+    (sym (c .enum-told .given .1) ∙ c .before .before .bank-of .ensures))
 
 sub-number-below : tie.Need-sub-number-below
 sub-number-below c = search needs

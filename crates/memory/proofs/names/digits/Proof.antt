@@ -27,7 +27,8 @@ is-digit-requires : tie.Need-is-digit-requires Inv-loop μ-loop
 is-digit-requires c κs = search needs
 
 returns : tie.Need-returns Inv-loop μ-loop
-returns c = stop (c .before .before .before .before .loop .inv) (c .before .before .before .loop-test .taken) (sym (c .before .is-digit .ensures) ∙ not-true _ (c .if1 .taken))
+returns c = stop (c .before .before .before .before .loop .inv) (c .before .before .before .loop-test .taken)
+    (sym (c .before .is-digit .ensures) ∙ not-true _ (c .if1 .taken))
 
 -- ---- a digit was read
 module _ (c : tie.Else1 Inv-loop μ-loop) where
@@ -62,7 +63,8 @@ loop-less : tie.Need-loop-less Inv-loop μ-loop
 loop-less c = search needs
 
 loop-again : tie.Need-loop-again Inv-loop μ-loop
-loop-again c = rw (c .at-most-limit .ensures) (next (c .before .before .before .before .before .loop .inv) (c .before .before .before .before .loop-test .taken) (is-one (c .before)))
+loop-again c = rw (c .at-most-limit .ensures) (next (c .before .before .before .before .before .loop .inv)
+    (c .before .before .before .before .loop-test .taken) (is-one (c .before)))
 
 returns-2 : tie.Need-returns-2 Inv-loop μ-loop
 returns-2 c = end (c .before .loop .inv) (c .loop-test .left)

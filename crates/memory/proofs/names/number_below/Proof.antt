@@ -29,11 +29,16 @@ digits-requires c κs = search needs
 
 returns-3 : tie.Need-returns-3
 returns-3 c =
-    rw (not-digits (c .before .before .before .before .before .before .before .args .text .now) (c .before .before .before .before .before .before .before .args .bound) (λ e. c .if4 .taken (c .before .before .digits .ensures .1 .0 .0 ∙ zero-add _ ∙ e)))
+    rw (not-digits (c .before .before .before .before .before .before .before .args .text .now)
+    (c .before .before .before .before .before .before .before .args .bound)
+    (λ e. c .if4 .taken (c .before .before .digits .ensures .1 .0 .0 ∙ zero-add _ ∙ e)))
 
 returns-4 : tie.Need-returns-4
 returns-4 c =
-    rw (not-below (c .before .before .before .before .before .before .before .before .args .text .now) (c .before .before .before .before .before .before .before .before .args .bound) _ (sym (c .before .before .before .digits .ensures .1 .0 .0 ∙ zero-add _) ∙ c .before .if4 .left) (c .before .before .before .digits .ensures .0) (c .before .before .before .before .before .before .before .before .pre) (c .if5 .taken))
+    rw (not-below (c .before .before .before .before .before .before .before .before .args .text .now)
+    (c .before .before .before .before .before .before .before .before .args .bound) _
+    (sym (c .before .before .before .digits .ensures .1 .0 .0 ∙ zero-add _) ∙ c .before .if4 .left) (c .before .before .before .digits .ensures .0)
+    (c .before .before .before .before .before .before .before .before .pre) (c .if5 .taken))
 
 cast-t12 : tie.Need-cast-t12
 cast-t12 c = search needs
@@ -41,8 +46,11 @@ cast-t12 c = search needs
 returns-5 : tie.Need-returns-5
 returns-5 c =
     let ds = c .before .before .before .before .before .before .before .before .args .text .now in
-    let p = ⊎-elim (λ w. single ds (eqb-true _ 1 (not-false _ (w .1 .left)))) (λ w. no-zero ds (search needs) (omega (arith, w .left))) (c .before .before .before .before .if2 .came) in
-    let h = below ds (c .before .before .before .before .before .before .before .before .args .bound) _ (sym (c .before .before .before .digits .ensures .1 .0 .0 ∙ zero-add _) ∙ c .before .if4 .left) (c .before .before .before .digits .ensures .0) (c .before .before .before .before .before .before .before .before .pre) p (omega (arith, c .if5 .left)) in
+    let p = ⊎-elim (λ w. single ds (eqb-true _ 1 (not-false _ (w .1 .left)))) (λ w. no-zero ds (search needs) (omega (arith, w .left)))
+    (c .before .before .before .before .if2 .came) in
+    let h = below ds (c .before .before .before .before .before .before .before .before .args .bound) _
+    (sym (c .before .before .before .digits .ensures .1 .0 .0 ∙ zero-add _) ∙ c .before .if4 .left) (c .before .before .before .digits .ensures .0)
+    (c .before .before .before .before .before .before .before .before .pre) p (omega (arith, c .if5 .left)) in
     rw (h .0, h .1)
 
 pub number-below-spec : {M : Type 1} → statement M

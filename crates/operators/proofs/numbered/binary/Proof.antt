@@ -53,8 +53,10 @@ returns-3 c =
     let s = c .before .before .before .before .before .args in
     let m = c .before .before .before .match in
     let same : m .a ≡ s .a = ⊎-elim {C = m .a ≡ s .a} (λ w. w .5 ∙ sym (w .1 .given .1)) (λ w. w .2) (m .came) in
-    let pair : pairOf (s .a) (s .b) ≡ Reals (asReal (s .a)) (asReal (s .b)) = ⊎-elim (λ w. rw (w .1 .given .1, w .4 .given .1)) (λ w. rw (w .1 .given .1)) (m .came) in
-    c .of-singles .ensures (s .a) (s .b) (rw (c .before .before .as-real .ensures, c .before .as-real2 .ensures, same) pair) (c .before .before .before .before .if1 .left)
+    let pair : pairOf (s .a) (s .b) ≡ Reals (asReal (s .a)) (asReal (s .b)) =
+    ⊎-elim (λ w. rw (w .1 .given .1, w .4 .given .1)) (λ w. rw (w .1 .given .1)) (m .came) in
+    c .of-singles .ensures (s .a) (s .b) (rw (c .before .before .as-real .ensures, c .before .as-real2 .ensures, same) pair)
+    (c .before .before .before .before .if1 .left)
 
 pub binary-spec : {M : Type 1} → statement M
 binary-spec =

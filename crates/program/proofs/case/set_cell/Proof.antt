@@ -38,7 +38,8 @@ returns-2 c =
 put-requires : tie.Need-put-requires
 put-requires c κs =
     let a = c .before .before .before .before .before .before .before .before .before .before .before .before in
-    let name = sym (c .before .before .before .before .before .before .before .before .cell-named .ensures) ∙ c .before .before .before .before .before .before .bank .given .1 in
+    let name = sym (c .before .before .before .before .before .before .before .before .cell-named .ensures)
+    ∙ c .before .before .before .before .before .before .bank .given .1 in
     let form = sym (c .before .before .n .given .1) ∙ c .before .before .before .before .pattern-of .ensures in
     (has-named (a .args .memory .now) (a .args .key .now) (a .pre) name, holdable (a .args .value .now) form)
 
@@ -48,7 +49,8 @@ same-length c = search needs
 returns-3 : tie.Need-returns-3
 returns-3 c =
     let a = c .before .before .before .before .before .before .before .before .before .before .before .before .before .before .before .args in
-    let name = sym (c .before .before .before .before .before .before .before .before .before .before .before .cell-named .ensures) ∙ c .before .before .before .before .before .before .before .before .before .bank .given .1 in
+    let name = sym (c .before .before .before .before .before .before .before .before .before .before .before .cell-named .ensures)
+    ∙ c .before .before .before .before .before .before .before .before .before .bank .given .1 in
     let form = sym (c .before .before .before .before .before .n .given .1) ∙ c .before .before .before .before .before .before .before .pattern-of .ensures in
     set (a .memory .now) (a .value .now) name form (c .before .before .put .ensures)
 

@@ -9,10 +9,15 @@ until-requires : tie.Need-until-requires
 until-requires c κs = search needs
 
 returns : tie.Need-returns
-returns c = skipped (c .before .before .before .before .before .before .args .memory .now) (c .before .before .before .before .before .before .args .target .now) (c .before .before .before .before .before .before .args .text .now) (c .before .before .before .before .before .before .args .n) (c .before .before .before .before .before .before .args .line .now) (c .before .before .before .before .before .before .pre .1 .0 .0) (c .before .before .before .before .before .before .pre .1 .0 .1) (c .before .before .before .before .before .before .pre .1 .1) (c .before .until .ensures) (c .if1 .taken)
+returns c = skipped (c .before .before .before .before .before .before .args .memory .now)
+    (c .before .before .before .before .before .before .args .target .now) (c .before .before .before .before .before .before .args .text .now)
+    (c .before .before .before .before .before .before .args .n) (c .before .before .before .before .before .before .args .line .now)
+    (c .before .before .before .before .before .before .pre .1 .0 .0) (c .before .before .before .before .before .before .pre .1 .0 .1)
+    (c .before .before .before .before .before .before .pre .1 .1) (c .before .until .ensures) (c .if1 .taken)
 
 slice-aggregate-key : tie.Need-slice-aggregate-key
-slice-aggregate-key c = key-long (c .before .before .before .before .before .before .before .args .line .now) (c .before .before .until .result) (c .before .before .until .ensures .1)
+slice-aggregate-key c = key-long (c .before .before .before .before .before .before .before .args .line .now) (c .before .before .until .result)
+    (c .before .before .until .ensures .1)
 
 add-from : tie.Need-add-from
 add-from c = search needs
@@ -39,7 +44,19 @@ same-length : tie.Need-same-length
 same-length c = search needs
 
 returns-2 : tie.Need-returns-2
-returns-2 c = target-line (c .before .before .before .before .before .before .before .before .before .before .before .before .before .before .before .args .memory .now) (c .before .before .before .before .before .before .before .before .before .before .before .before .before .before .before .args .target .now) (c .before .before .before .before .before .before .before .before .before .before .before .before .before .before .before .args .text .now) (c .before .before .before .before .before .before .before .before .before .before .before .before .before .before .before .args .n) (c .before .before .before .before .before .before .before .before .before .before .before .before .before .before .before .args .line .now) (c .before .before .before .before .before .before .before .before .before .before .before .before .before .before .before .pre .1 .0 .0) (c .before .before .before .before .before .before .before .before .before .before .before .before .before .before .before .pre .1 .0 .1) (c .before .before .before .before .before .before .before .before .before .before .before .before .before .before .before .pre .1 .1) (c .before .before .before .before .before .before .before .before .before .before .until .ensures) (c .before .before .before .before .before .before .before .before .before .if1 .left) (value-of (c .before .before .before .before .before .before .before .before .before .before .before .before .before .before .before .args .line .now) (c .before .before .before .before .before .before .before .before .before .before .until .result)) (sym (c .before .before .before .before .if2 .taken) ∙ c .before .before .before .before .before .same-bytes .ensures) (c .before .before .put-all .ensures)
+returns-2 c = target-line (c .before .before .before .before .before .before .before .before .before .before .before .before .before .before .before .args
+    .memory .now) (c .before .before .before .before .before .before .before .before .before .before .before .before .before .before .before .args .target
+    .now) (c .before .before .before .before .before .before .before .before .before .before .before .before .before .before .before .args .text .now)
+    (c .before .before .before .before .before .before .before .before .before .before .before .before .before .before .before .args .n)
+    (c .before .before .before .before .before .before .before .before .before .before .before .before .before .before .before .args .line .now)
+    (c .before .before .before .before .before .before .before .before .before .before .before .before .before .before .before .pre .1 .0 .0)
+    (c .before .before .before .before .before .before .before .before .before .before .before .before .before .before .before .pre .1 .0 .1)
+    (c .before .before .before .before .before .before .before .before .before .before .before .before .before .before .before .pre .1 .1)
+    (c .before .before .before .before .before .before .before .before .before .before .until .ensures)
+    (c .before .before .before .before .before .before .before .before .before .if1 .left)
+    (value-of (c .before .before .before .before .before .before .before .before .before .before .before .before .before .before .before .args .line .now)
+    (c .before .before .before .before .before .before .before .before .before .before .until .result))
+    (sym (c .before .before .before .before .if2 .taken) ∙ c .before .before .before .before .before .same-bytes .ensures) (c .before .before .put-all .ensures)
 
 slice-aggregate-same-bytes-2 : tie.Need-slice-aggregate-same-bytes-2
 slice-aggregate-same-bytes-2 c = search needs
@@ -54,7 +71,23 @@ same-length-2 : tie.Need-same-length-2
 same-length-2 c = search needs
 
 returns-3 : tie.Need-returns-3
-returns-3 c = expr-line (c .before .before .before .before .before .before .before .before .before .before .before .before .before .before .before .before .before .before .args .memory .now) (c .before .before .before .before .before .before .before .before .before .before .before .before .before .before .before .before .before .before .args .target .now) (c .before .before .before .before .before .before .before .before .before .before .before .before .before .before .before .before .before .before .args .text .now) (c .before .before .before .before .before .before .before .before .before .before .before .before .before .before .before .before .before .before .args .n) (c .before .before .before .before .before .before .before .before .before .before .before .before .before .before .before .before .before .before .args .line .now) (c .before .before .before .before .before .before .before .before .before .before .before .before .before .before .before .before .before .before .pre .1 .0 .0) (c .before .before .before .before .before .before .before .before .before .before .before .before .before .before .before .before .before .before .pre .1 .0 .1) (c .before .before .before .before .before .before .before .before .before .before .before .before .before .before .before .before .before .before .pre .1 .1) (c .before .before .before .before .before .before .before .before .before .before .before .before .before .until .ensures) (c .before .before .before .before .before .before .before .before .before .before .before .before .if1 .left) (value-of (c .before .before .before .before .before .before .before .before .before .before .before .before .before .before .before .before .before .before .args .line .now) (c .before .before .before .before .before .before .before .before .before .before .before .before .before .until .result)) (sym (c .before .before .before .before .before .before .before .if2 .left) ∙ c .before .before .before .before .before .before .before .before .same-bytes .ensures) (sym (c .before .before .before .before .if3 .taken) ∙ c .before .before .before .before .before .same-bytes2 .ensures) (c .before .before .put-all2 .ensures)
+returns-3 c = expr-line (c .before .before .before .before .before .before .before .before .before .before .before .before .before .before .before .before
+    .before .before .args .memory .now) (c .before .before .before .before .before .before .before .before .before .before .before .before .before .before
+    .before .before .before .before .args .target .now) (c .before .before .before .before .before .before .before .before .before .before .before .before
+    .before .before .before .before .before .before .args .text .now)
+    (c .before .before .before .before .before .before .before .before .before .before .before .before .before .before .before .before .before .before .args
+    .n) (c .before .before .before .before .before .before .before .before .before .before .before .before .before .before .before .before .before .before
+    .args .line .now) (c .before .before .before .before .before .before .before .before .before .before .before .before .before .before .before .before
+    .before .before .pre .1 .0 .0) (c .before .before .before .before .before .before .before .before .before .before .before .before .before .before
+    .before .before .before .before .pre .1 .0 .1) (c .before .before .before .before .before .before .before .before .before .before .before .before
+    .before .before .before .before .before .before .pre .1 .1) (c .before .before .before .before .before .before .before .before .before .before .before
+    .before .before .until .ensures) (c .before .before .before .before .before .before .before .before .before .before .before .before .if1 .left)
+    (value-of (c .before .before .before .before .before .before .before .before .before .before .before .before .before .before .before .before .before
+    .before .args .line .now) (c .before .before .before .before .before .before .before .before .before .before .before .before .before .until .result))
+    (sym (c .before .before .before .before .before .before .before .if2 .left)
+    ∙ c .before .before .before .before .before .before .before .before .same-bytes .ensures)
+    (sym (c .before .before .before .before .if3 .taken) ∙ c .before .before .before .before .before .same-bytes2 .ensures)
+    (c .before .before .put-all2 .ensures)
 
 set-cell-requires : tie.Need-set-cell-requires
 set-cell-requires c κs = search needs
@@ -63,7 +96,23 @@ same-length-3 : tie.Need-same-length-3
 same-length-3 c = search needs
 
 returns-4 : tie.Need-returns-4
-returns-4 c = cell-line (c .before .before .before .before .before .before .before .before .before .before .before .before .before .before .before .before .before .before .args .memory .now) (c .before .before .before .before .before .before .before .before .before .before .before .before .before .before .before .before .before .before .args .target .now) (c .before .before .before .before .before .before .before .before .before .before .before .before .before .before .before .before .before .before .args .text .now) (c .before .before .before .before .before .before .before .before .before .before .before .before .before .before .before .before .before .before .args .n) (c .before .before .before .before .before .before .before .before .before .before .before .before .before .before .before .before .before .before .args .line .now) (c .before .before .before .before .before .before .before .before .before .before .before .before .before .before .before .before .before .before .pre .1 .0 .0) (c .before .before .before .before .before .before .before .before .before .before .before .before .before .before .before .before .before .before .pre .1 .0 .1) (c .before .before .before .before .before .before .before .before .before .before .before .before .before .before .before .before .before .before .pre .1 .1) (c .before .before .before .before .before .before .before .before .before .before .before .before .before .until .ensures) (c .before .before .before .before .before .before .before .before .before .before .before .before .if1 .left) (value-of (c .before .before .before .before .before .before .before .before .before .before .before .before .before .before .before .before .before .before .args .line .now) (c .before .before .before .before .before .before .before .before .before .before .before .before .before .until .result)) (sym (c .before .before .before .before .before .before .before .if2 .left) ∙ c .before .before .before .before .before .before .before .before .same-bytes .ensures) (sym (c .before .before .before .before .if3 .left) ∙ c .before .before .before .before .before .same-bytes2 .ensures) (c .before .before .set-cell .ensures)
+returns-4 c = cell-line (c .before .before .before .before .before .before .before .before .before .before .before .before .before .before .before .before
+    .before .before .args .memory .now) (c .before .before .before .before .before .before .before .before .before .before .before .before .before .before
+    .before .before .before .before .args .target .now) (c .before .before .before .before .before .before .before .before .before .before .before .before
+    .before .before .before .before .before .before .args .text .now)
+    (c .before .before .before .before .before .before .before .before .before .before .before .before .before .before .before .before .before .before .args
+    .n) (c .before .before .before .before .before .before .before .before .before .before .before .before .before .before .before .before .before .before
+    .args .line .now) (c .before .before .before .before .before .before .before .before .before .before .before .before .before .before .before .before
+    .before .before .pre .1 .0 .0) (c .before .before .before .before .before .before .before .before .before .before .before .before .before .before
+    .before .before .before .before .pre .1 .0 .1) (c .before .before .before .before .before .before .before .before .before .before .before .before
+    .before .before .before .before .before .before .pre .1 .1) (c .before .before .before .before .before .before .before .before .before .before .before
+    .before .before .until .ensures) (c .before .before .before .before .before .before .before .before .before .before .before .before .if1 .left)
+    (value-of (c .before .before .before .before .before .before .before .before .before .before .before .before .before .before .before .before .before
+    .before .args .line .now) (c .before .before .before .before .before .before .before .before .before .before .before .before .before .until .result))
+    (sym (c .before .before .before .before .before .before .before .if2 .left)
+    ∙ c .before .before .before .before .before .before .before .before .same-bytes .ensures)
+    (sym (c .before .before .before .before .if3 .left) ∙ c .before .before .before .before .before .same-bytes2 .ensures)
+    (c .before .before .set-cell .ensures)
 
 pub take-line-spec : {M : Type 1} → statement M
 take-line-spec =

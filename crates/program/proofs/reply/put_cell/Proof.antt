@@ -39,10 +39,14 @@ same-length c = search needs
 
 returns : tie.Need-returns
 returns c =
-    let name = c .before .before .before .before .before .before .before .before .before .before .before .before .before .before .before .before .put-name .ensures .0 in
+    let name = c .before .before .before .before .before .before .before .before .before .before .before .before .before .before .before .before .put-name
+    .ensures .0 in
     let equals = c .before .before .before .before .before .before .before .before .before .before .before .put-all .ensures in
-    let pattern = c .before .before .before .before .before .before .before .before .before .before .before .before .before .before .before .before .before .before .get .ensures .0 in
-    let value = as-text (ap (cellText (c .before .before .before .before .before .before .before .before .before .before .before .before .before .before .before .before .before .before .before .before .before .args .bank)) pattern) (c .before .before .before .before .before .before .before .put-value .ensures .0) in
+    let pattern = c .before .before .before .before .before .before .before .before .before .before .before .before .before .before .before .before .before
+    .before .get .ensures .0 in
+    let value = as-text (ap (cellText (c .before .before .before .before .before .before .before .before .before .before .before .before .before .before
+    .before .before .before .before .before .before .before .args .bank)) pattern)
+    (c .before .before .before .before .before .before .before .put-value .ensures .0) in
     (then (then (then name equals) value) (c .before .before .put-all2 .ensures), omega arith)
 
 pub put-cell-spec : {M : Type 1} → statement M

@@ -30,7 +30,8 @@ put-all-requires-2 c κs =
 
 put-decimal-requires-2 : tie.Need-put-decimal-requires-2
 put-decimal-requires-2 c κs =
-    let r = c .before .before .before .before .before .before .before .before .before .before .before .before .before .before .before .before .before .args .report in
+    let r = c .before .before .before .before .before .before .before .before .before .before .before .before .before .before .before .before .before .args
+    .report in
     omega (arith, at-most 9 (r .answer) (omega arith), at-most 19 (r .place) (omega arith))
 
 slice-aggregate-put-all-3 : tie.Need-slice-aggregate-put-all-3
@@ -38,7 +39,8 @@ slice-aggregate-put-all-3 c = search needs
 
 put-all-requires-3 : tie.Need-put-all-requires-3
 put-all-requires-3 c κs =
-    let r = c .before .before .before .before .before .before .before .before .before .before .before .before .before .before .before .before .before .before .before .before .before .before .args .report in
+    let r = c .before .before .before .before .before .before .before .before .before .before .before .before .before .before .before .before .before
+    .before .before .before .before .before .args .report in
     omega (arith, at-most 9 (r .answer) (omega arith), at-most 19 (r .place) (omega arith))
 
 same-length : tie.Need-same-length
@@ -46,9 +48,12 @@ same-length c = search needs
 
 returns : tie.Need-returns
 returns c =
-    let r = c .before .before .before .before .before .before .before .before .before .before .before .before .before .before .before .before .before .before .before .before .before .before .before .before .before .args .report in
-    let first = c .before .before .before .before .before .before .before .before .before .before .before .before .before .before .before .before .before .before .before .before .put-all .ensures in
-    let number = then first (c .before .before .before .before .before .before .before .before .before .before .before .before .before .before .before .before .put-decimal .ensures .0) in
+    let r = c .before .before .before .before .before .before .before .before .before .before .before .before .before .before .before .before .before
+    .before .before .before .before .before .before .before .before .args .report in
+    let first = c .before .before .before .before .before .before .before .before .before .before .before .before .before .before .before .before .before
+    .before .before .before .put-all .ensures in
+    let number = then first (c .before .before .before .before .before .before .before .before .before .before .before .before .before .before .before
+    .before .put-decimal .ensures .0) in
     let second = then number (c .before .before .before .before .before .before .before .before .before .before .before .put-all2 .ensures) in
     let place = then second (c .before .before .before .before .before .before .before .put-decimal2 .ensures .0) in
     (then place (c .before .before .put-all3 .ensures), omega (arith, at-most 9 (r .answer) (omega arith), at-most 19 (r .place) (omega arith)))

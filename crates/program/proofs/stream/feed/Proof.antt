@@ -9,7 +9,8 @@ use Rattle.program.proofs.stream.feed.Statement.{statement}
 use Rattle.program.proofs.stream.feed.Tie as tie
 
 abbrev Inv-loop : tie.InvT-loop
-Inv-loop piece memory₀ target₀ text₀ line₀ lengths₀ i₀ memory target text line lengths i = Feeding (afterBytes (progressIn memory₀ target₀ text₀ line₀ lengths₀) piece) piece memory target text line lengths i
+Inv-loop piece memory₀ target₀ text₀ line₀ lengths₀ i₀ memory target text line lengths i =
+    Feeding (afterBytes (progressIn memory₀ target₀ text₀ line₀ lengths₀) piece) piece memory target text line lengths i
 
 abbrev μ-loop : tie.MeasureT-loop
 μ-loop piece memory₀ target₀ text₀ line₀ lengths₀ i₀ memory target text line lengths i = length piece - i
@@ -30,7 +31,9 @@ loop-less : tie.Need-loop-less Inv-loop μ-loop
 loop-less c = search needs
 
 loop-again : tie.Need-loop-again Inv-loop μ-loop
-loop-again c = next (c .before .before .before .before .before .before .before .before .before .before .before .before .before .before .before .loop .inv) (c .before .before .before .before .before .before .before .before .before .before .before .before .before .before .loop-test .taken) (c .before .before .before .before .before .before .before .before .take-byte .ensures)
+loop-again c = next (c .before .before .before .before .before .before .before .before .before .before .before .before .before .before .before .loop .inv)
+    (c .before .before .before .before .before .before .before .before .before .before .before .before .before .before .loop-test .taken)
+    (c .before .before .before .before .before .before .before .before .take-byte .ensures)
 
 same-length : tie.Need-same-length Inv-loop μ-loop
 same-length c = c .before .loop .inv .ready .image ∙ sym (c .before .before .before .before .before .before .before .pre .image)

@@ -12,10 +12,18 @@ use Rattle.program.proofs.stream.finish.Statement.{statement}
 use Rattle.program.proofs.stream.finish.Tie as tie
 
 slice-aggregate-take-line : tie.Need-slice-aggregate-take-line
-slice-aggregate-take-line c = taken (c .before .before .before .before .before .before .args .line .now) (c .before .before .before .before .before .before .args .n .line) (omega (arith, c .before .before .before .before .before .before .pre .line, c .before .before .before .before .before .before .pre .lines))
+slice-aggregate-take-line c = taken (c .before .before .before .before .before .before .args .line .now)
+    (c .before .before .before .before .before .before .args .n .line)
+    (omega (arith, c .before .before .before .before .before .before .pre .line, c .before .before .before .before .before .before .pre .lines))
 
 take-line-requires : tie.Need-take-line-requires
-take-line-requires c κs = (c .before .before .before .before .before .before .before .before .before .pre .image, (within (c .before .before .before .before .before .before .before .before .before .pre), c .before .before .before .before .before .before .before .before .before .pre .inside))
+take-line-requires c κs = (
+  c .before .before .before .before .before .before .before .before .before .pre .image,
+  (
+    within (c .before .before .before .before .before .before .before .before .before .pre),
+    c .before .before .before .before .before .before .before .before .before .pre .inside,
+  ),
+)
 
 blank-code-requires : tie.Need-blank-code-requires
 blank-code-requires c κs = search needs
@@ -27,13 +35,17 @@ slice-reshare-prefix-compile-and-run : tie.Need-slice-reshare-prefix-compile-and
 slice-reshare-prefix-compile-and-run c = search needs
 
 slice-aggregate-compile-and-run : tie.Need-slice-aggregate-compile-and-run
-slice-aggregate-compile-and-run c = taken (c .before .before .before .before .before .before .before .before .before .take-line .last .1 .1 .0) (c .before .before .before .before .before .before .before .before .before .take-line .result .target) (c .before .before .before .before .before .before .before .before .before .take-line .ensures .0 .target)
+slice-aggregate-compile-and-run c = taken (c .before .before .before .before .before .before .before .before .before .take-line .last .1 .1 .0)
+    (c .before .before .before .before .before .before .before .before .before .take-line .result .target)
+    (c .before .before .before .before .before .before .before .before .before .take-line .ensures .0 .target)
 
 slice-reshare-prefix-compile-and-run-2 : tie.Need-slice-reshare-prefix-compile-and-run-2
 slice-reshare-prefix-compile-and-run-2 c = search needs
 
 slice-aggregate-compile-and-run-2 : tie.Need-slice-aggregate-compile-and-run-2
-slice-aggregate-compile-and-run-2 c = taken (c .before .before .before .before .before .before .before .before .before .before .take-line .last .1 .1 .1 .0) (c .before .before .before .before .before .before .before .before .before .before .take-line .result .text) (c .before .before .before .before .before .before .before .before .before .before .take-line .ensures .0 .text)
+slice-aggregate-compile-and-run-2 c = taken (c .before .before .before .before .before .before .before .before .before .before .take-line .last .1 .1 .1 .0)
+    (c .before .before .before .before .before .before .before .before .before .before .take-line .result .text)
+    (c .before .before .before .before .before .before .before .before .before .before .take-line .ensures .0 .text)
 
 slice-aggregate-compile-and-run-3 : tie.Need-slice-aggregate-compile-and-run-3
 slice-aggregate-compile-and-run-3 c = search needs
@@ -48,7 +60,21 @@ slice-aggregate-put-reply : tie.Need-slice-aggregate-put-reply
 slice-aggregate-put-reply c = search needs
 
 put-reply-requires : tie.Need-put-reply-requires
-put-reply-requires c κs = (search needs, (inside (caseIn (c .before .before .before .before .before .before .before .before .before .before .before .before .before .before .before .before .before .before .before .before .take-line .last .1 .0) (c .before .before .before .before .before .before .before .before .before .before .before .before .before .before .before .before .before .before .before .before .take-line .last .1 .1 .0) (c .before .before .before .before .before .before .before .before .before .before .before .before .before .before .before .before .before .before .before .before .take-line .last .1 .1 .1 .0) (c .before .before .before .before .before .before .before .before .before .before .before .before .before .before .before .before .before .before .before .before .take-line .result)) (c .before .before .before .before .before .before .before .before .before .before .before .before .before .blank-code .ensures .1) (c .before .before .before .before .before .before .before .before .before .before .before .before .blank-code2 .ensures .1) (c .before .before .before .before .before .before .compile-and-run .ensures .0), search needs))
+put-reply-requires c κs = (
+  search needs,
+  (
+    inside (caseIn (c .before .before .before .before .before .before .before .before .before .before .before .before
+        .before .before .before .before .before .before .before .before .take-line .last .1 .0)
+        (c .before .before .before .before .before .before .before .before .before .before .before .before .before .before .before .before .before .before
+        .before .before .take-line .last .1 .1 .0) (c .before .before .before .before .before .before .before .before .before .before .before .before .before
+        .before .before .before .before .before .before .before .take-line .last .1 .1 .1 .0)
+        (c .before .before .before .before .before .before .before .before .before .before .before .before .before .before .before .before .before .before
+        .before .before .take-line .result)) (c .before .before .before .before .before .before .before .before .before .before .before .before .before
+        .blank-code .ensures .1) (c .before .before .before .before .before .before .before .before .before .before .before .before .blank-code2 .ensures .1)
+        (c .before .before .before .before .before .before .compile-and-run .ensures .0),
+    search needs,
+  ),
+)
 
 array-share-prefix-bytes : tie.Need-array-share-prefix-bytes
 array-share-prefix-bytes c = search needs
@@ -73,14 +99,20 @@ same-length-4 c = search needs
 
 returns : tie.Need-returns
 returns c =
-    let a = c .before .before .before .before .before .before .before .before .before .before .before .before .before .before .before .before .before .before .before .before .before .before .before .before .before .before .before .before .before .before .before .before .before .before .before .before .before .args in
-    let line = c .before .before .before .before .before .before .before .before .before .before .before .before .before .before .before .before .before .before .before .before .before .before .before .before .before .before .before .take-line in
+    let a = c .before .before .before .before .before .before .before .before .before .before .before .before .before .before .before .before .before
+    .before .before .before .before .before .before .before .before .before .before .before .before .before .before .before .before .before .before
+    .before .before .args in
+    let line = c .before .before .before .before .before .before .before .before .before .before .before .before .before .before .before .before .before
+    .before .before .before .before .before .before .before .before .before .before .take-line in
     let ran = c .before .before .before .before .before .before .before .before .before .before .before .before .before .compile-and-run in
     let put = c .before .before .before .before .before .before .put-reply in
     let out = c .before .before .write-text in
     let s = caseIn (line .last .1 .0) (line .last .1 .1 .0) (line .last .1 .1 .1 .0) (line .result) in
     let e : take (put .result) (put .last .0) ≡ replyTo (caseAtEnd (progressIn (a .memory .now) (a .target .now) (a .text .now) (a .line .now) (a .n))) =
-    front (put .ensures .0) (put .ensures .1) ∙ text s (c .before .before .before .before .before .before .before .before .before .before .before .before .before .before .before .before .before .before .before .before .blank-code .ensures .1) (c .before .before .before .before .before .before .before .before .before .before .before .before .before .before .before .before .before .before .before .blank-code2 .ensures .1) (ran .ensures .0) (ran .ensures .1 .0) ∙ ap replyTo (line .ensures .1 .0) in
+    front (put .ensures .0) (put .ensures .1) ∙ text s (c .before .before .before .before .before .before .before .before .before .before .before .before
+    .before .before .before .before .before .before .before .before .blank-code .ensures .1)
+    (c .before .before .before .before .before .before .before .before .before .before .before .before .before .before .before .before .before .before
+    .before .blank-code2 .ensures .1) (ran .ensures .0) (ran .ensures .1 .0) ∙ ap replyTo (line .ensures .1 .0) in
     let short : length (take (put .result) (put .last .0)) ≤ 64 = rw length-take (omega (arith, put .ensures .1)) in
     record {
       count = out .ensures .0 ∙ ap (writtenLength (a .output .now)) e;

@@ -28,31 +28,39 @@ read-requires : tie.Need-read-requires Inv-loop μ-loop
 read-requires c κs = search needs
 
 same-length : tie.Need-same-length Inv-loop μ-loop
-same-length c = c .before .before .before .before .before .loop .inv .1 .ready .image ∙ sym (c .before .before .before .before .before .before .before .before .before .before .before .pre .0 .image)
+same-length c = c .before .before .before .before .before .loop .inv .1 .ready .image
+    ∙ sym (c .before .before .before .before .before .before .before .before .before .before .before .pre .0 .image)
 
 same-length-2 : tie.Need-same-length-2 Inv-loop μ-loop
-same-length-2 c = c .before .before .before .before .before .loop .inv .1 .ready .targets ∙ sym (c .before .before .before .before .before .before .before .before .before .before .before .pre .0 .targets)
+same-length-2 c = c .before .before .before .before .before .loop .inv .1 .ready .targets
+    ∙ sym (c .before .before .before .before .before .before .before .before .before .before .before .pre .0 .targets)
 
 same-length-3 : tie.Need-same-length-3 Inv-loop μ-loop
-same-length-3 c = c .before .before .before .before .before .loop .inv .1 .ready .texts ∙ sym (c .before .before .before .before .before .before .before .before .before .before .before .pre .0 .texts)
+same-length-3 c = c .before .before .before .before .before .loop .inv .1 .ready .texts
+    ∙ sym (c .before .before .before .before .before .before .before .before .before .before .before .pre .0 .texts)
 
 same-length-4 : tie.Need-same-length-4 Inv-loop μ-loop
-same-length-4 c = c .before .before .before .before .before .loop .inv .1 .ready .lines ∙ sym (c .before .before .before .before .before .before .before .before .before .before .before .pre .0 .lines)
+same-length-4 c = c .before .before .before .before .before .loop .inv .1 .ready .lines
+    ∙ sym (c .before .before .before .before .before .before .before .before .before .before .before .pre .0 .lines)
 
 returns : tie.Need-returns Inv-loop μ-loop
 returns c = missed
 
 same-length-5 : tie.Need-same-length-5 Inv-loop μ-loop
-same-length-5 c = c .before .before .before .before .before .before .loop .inv .1 .ready .image ∙ sym (c .before .before .before .before .before .before .before .before .before .before .before .before .pre .0 .image)
+same-length-5 c = c .before .before .before .before .before .before .loop .inv .1 .ready .image
+    ∙ sym (c .before .before .before .before .before .before .before .before .before .before .before .before .pre .0 .image)
 
 same-length-6 : tie.Need-same-length-6 Inv-loop μ-loop
-same-length-6 c = c .before .before .before .before .before .before .loop .inv .1 .ready .targets ∙ sym (c .before .before .before .before .before .before .before .before .before .before .before .before .pre .0 .targets)
+same-length-6 c = c .before .before .before .before .before .before .loop .inv .1 .ready .targets
+    ∙ sym (c .before .before .before .before .before .before .before .before .before .before .before .before .pre .0 .targets)
 
 same-length-7 : tie.Need-same-length-7 Inv-loop μ-loop
-same-length-7 c = c .before .before .before .before .before .before .loop .inv .1 .ready .texts ∙ sym (c .before .before .before .before .before .before .before .before .before .before .before .before .pre .0 .texts)
+same-length-7 c = c .before .before .before .before .before .before .loop .inv .1 .ready .texts
+    ∙ sym (c .before .before .before .before .before .before .before .before .before .before .before .before .pre .0 .texts)
 
 same-length-8 : tie.Need-same-length-8 Inv-loop μ-loop
-same-length-8 c = c .before .before .before .before .before .before .loop .inv .1 .ready .lines ∙ sym (c .before .before .before .before .before .before .before .before .before .before .before .before .pre .0 .lines)
+same-length-8 c = c .before .before .before .before .before .before .loop .inv .1 .ready .lines
+    ∙ sym (c .before .before .before .before .before .before .before .before .before .before .before .before .pre .0 .lines)
 
 returns-2 : tie.Need-returns-2 Inv-loop μ-loop
 returns-2 c = received (c .before .before .before .before .before .before .loop .inv .1)
@@ -79,7 +87,14 @@ loop-less : tie.Need-loop-less Inv-loop μ-loop
 loop-less c = search needs
 
 loop-again : tie.Need-loop-again Inv-loop μ-loop
-loop-again c = (search needs, more (c .before .before .before .before .before .before .before .before .before .before .before .before .before .before .before .before .before .before .before .before .before .before .loop .inv .1) (take (c .before .before .before .before .before .before .before .before .before .before .before .before .before .before .count .result) (c .before .before .before .before .before .before .before .before .before .before .before .before .before .before .before .before .before .before .before .read .last .1 .0)) (c .before .before .before .before .before .before .before .before .feed .ensures))
+loop-again c = (
+  search needs,
+  more (c .before .before .before .before .before .before .before .before .before .before .before .before .before .before
+      .before .before .before .before .before .before .before .before .loop .inv .1)
+      (take (c .before .before .before .before .before .before .before .before .before .before .before .before .before .before .count .result)
+      (c .before .before .before .before .before .before .before .before .before .before .before .before .before .before .before .before .before .before
+      .before .read .last .1 .0)) (c .before .before .before .before .before .before .before .before .feed .ensures),
+)
 
 same-length-9 : tie.Need-same-length-9 Inv-loop μ-loop
 same-length-9 c = c .before .loop .inv .1 .ready .image ∙ sym (c .before .before .before .before .before .before .before .pre .0 .image)

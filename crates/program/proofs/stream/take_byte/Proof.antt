@@ -9,10 +9,18 @@ slice-reshare-prefix-take-line : tie.Need-slice-reshare-prefix-take-line
 slice-reshare-prefix-take-line c = omega (arith, c .before .before .before .before .before .pre .line, c .before .before .before .before .before .pre .lines)
 
 slice-aggregate-take-line : tie.Need-slice-aggregate-take-line
-slice-aggregate-take-line c = taken (c .before .before .before .before .before .before .args .line .now) (c .before .before .before .before .before .before .args .n .line) (omega (arith, c .before .before .before .before .before .before .pre .line, c .before .before .before .before .before .before .pre .lines))
+slice-aggregate-take-line c = taken (c .before .before .before .before .before .before .args .line .now)
+    (c .before .before .before .before .before .before .args .n .line)
+    (omega (arith, c .before .before .before .before .before .before .pre .line, c .before .before .before .before .before .before .pre .lines))
 
 take-line-requires : tie.Need-take-line-requires
-take-line-requires c κs = (c .before .before .before .before .before .before .before .before .before .pre .image, (within (c .before .before .before .before .before .before .before .before .before .pre), c .before .before .before .before .before .before .before .before .before .pre .inside))
+take-line-requires c κs = (
+  c .before .before .before .before .before .before .before .before .before .pre .image,
+  (
+    within (c .before .before .before .before .before .before .before .before .before .pre),
+    c .before .before .before .before .before .before .before .before .before .pre .inside,
+  ),
+)
 
 same-length : tie.Need-same-length
 same-length c = search needs
@@ -27,10 +35,22 @@ same-length-4 : tie.Need-same-length-4
 same-length-4 c = search needs
 
 returns : tie.Need-returns
-returns c = ended (c .before .before .before .before .before .before .before .before .before .before .before .before .before .before .before .before .args .memory .now) (c .before .before .before .before .before .before .before .before .before .before .before .before .before .before .before .before .args .target .now) (c .before .before .before .before .before .before .before .before .before .before .before .before .before .before .before .before .args .text .now) (c .before .before .before .before .before .before .before .before .before .before .before .before .before .before .before .before .args .line .now) (c .before .before .before .before .before .before .before .before .before .before .before .before .before .before .before .before .args .n) (c .before .before .before .before .before .before .before .before .before .before .before .before .before .before .before .before .pre) (c .before .before .before .before .before .before .before .before .before .before .before .before .before .before .before .before .args .b) (c .before .before .before .before .before .before .before .before .before .before .before .if1 .taken) (c .before .before .before .before .before .before .take-line .kept .1 .0) (c .before .before .before .before .before .before .take-line .kept .1 .1 .0) (c .before .before .before .before .before .before .take-line .kept .1 .1 .1 .0) (c .before .before .before .before .before .before .take-line .ensures)
+returns c = ended (c .before .before .before .before .before .before .before .before .before .before .before .before .before .before .before .before .args
+    .memory .now) (c .before .before .before .before .before .before .before .before .before .before .before .before .before .before .before .before .args
+    .target .now) (c .before .before .before .before .before .before .before .before .before .before .before .before .before .before .before .before .args
+    .text .now) (c .before .before .before .before .before .before .before .before .before .before .before .before .before .before .before .before .args
+    .line .now) (c .before .before .before .before .before .before .before .before .before .before .before .before .before .before .before .before .args .n)
+    (c .before .before .before .before .before .before .before .before .before .before .before .before .before .before .before .before .pre)
+    (c .before .before .before .before .before .before .before .before .before .before .before .before .before .before .before .before .args .b)
+    (c .before .before .before .before .before .before .before .before .before .before .before .if1 .taken)
+    (c .before .before .before .before .before .before .take-line .kept .1 .0) (c .before .before .before .before .before .before .take-line .kept .1 .1 .0)
+    (c .before .before .before .before .before .before .take-line .kept .1 .1 .1 .0) (c .before .before .before .before .before .before .take-line .ensures)
 
 returns-2 : tie.Need-returns-2
-returns-2 c = full (c .before .before .before .before .before .before .args .memory .now) (c .before .before .before .before .before .before .args .target .now) (c .before .before .before .before .before .before .args .text .now) (c .before .before .before .before .before .before .args .line .now) (c .before .before .before .before .before .before .args .n) (c .before .before .before .before .before .before .pre) (c .before .before .before .before .before .before .args .b) (c .before .if1 .left) (c .if2 .taken)
+returns-2 c = full (c .before .before .before .before .before .before .args .memory .now)
+    (c .before .before .before .before .before .before .args .target .now) (c .before .before .before .before .before .before .args .text .now)
+    (c .before .before .before .before .before .before .args .line .now) (c .before .before .before .before .before .before .args .n)
+    (c .before .before .before .before .before .before .pre) (c .before .before .before .before .before .before .args .b) (c .before .if1 .left) (c .if2 .taken)
 
 slice-write-line : tie.Need-slice-write-line
 slice-write-line c = omega (arith, c .before .before .before .before .before .before .pre .line, c .before .before .before .before .before .before .pre .lines)
@@ -42,7 +62,10 @@ same-length-5 : tie.Need-same-length-5
 same-length-5 c = search needs
 
 returns-3 : tie.Need-returns-3
-returns-3 c = grown (c .before .before .before .before .before .before .args .memory .now) (c .before .before .before .before .before .before .args .target .now) (c .before .before .before .before .before .before .args .text .now) (c .before .before .before .before .before .before .args .line .now) (c .before .before .before .before .before .before .args .n) (c .before .before .before .before .before .before .pre) (c .before .before .before .before .before .before .args .b) (c .before .if1 .left) (c .if2 .left)
+returns-3 c = grown (c .before .before .before .before .before .before .args .memory .now)
+    (c .before .before .before .before .before .before .args .target .now) (c .before .before .before .before .before .before .args .text .now)
+    (c .before .before .before .before .before .before .args .line .now) (c .before .before .before .before .before .before .args .n)
+    (c .before .before .before .before .before .before .pre) (c .before .before .before .before .before .before .args .b) (c .before .if1 .left) (c .if2 .left)
 
 pub take-byte-spec : {M : Type 1} → statement M
 take-byte-spec =

@@ -49,7 +49,11 @@ slice-aggregate-finish-4 : tie.Need-slice-aggregate-finish-4
 slice-aggregate-finish-4 c = search needs
 
 finish-requires : tie.Need-finish-requires
-finish-requires c κs = (known (c .before .before .before .before .before .before .before .before .before .before .before .before .receive .ensures) (c .before .before .before .before .before .before .n .given .1) .ready, omega arith)
+finish-requires c κs = (
+  known (c .before .before .before .before .before .before .before .before .before .before .before .before .receive .ensures)
+      (c .before .before .before .before .before .before .n .given .1) .ready,
+  omega arith,
+)
 
 enum-told : tie.Need-enum-told
 enum-told c = search needs
@@ -64,7 +68,12 @@ same-length : tie.Need-same-length
 same-length c = search needs
 
 returns : tie.Need-returns
-returns c = (prints (known (c .before .before .before .before .before .before .before .before .before .before .before .before .before .before .before .before .before .before .receive .ensures) (c .before .before .before .before .before .before .before .before .before .before .before .before .n .given .1)) (c .before .before .before .before .before .finish .ensures .0), c .before .before .before .before .before .finish .ensures .1)
+returns c = (
+  prints (known (c .before .before .before .before .before .before .before .before .before .before .before .before .before .before .before
+      .before .before .before .receive .ensures) (c .before .before .before .before .before .before .before .before .before .before .before .before .n .given
+      .1)) (c .before .before .before .before .before .finish .ensures .0),
+  c .before .before .before .before .before .finish .ensures .1,
+)
 
 same-length-2 : tie.Need-same-length-2
 same-length-2 c = search needs

@@ -29,7 +29,10 @@ cast-digits : tie.Need-cast-digits
 cast-digits c = search needs
 
 digits-requires : tie.Need-digits-requires
-digits-requires c κs = (let l = second (c .before .args .text .now) (c .before .args .at) (c .before .pre .0 .1 .0) (digit (c .before)) in omega (arith, l), omega (arith, digit-range (c .before .args .first) (c .before .pre .1 .1)))
+digits-requires c κs = (
+  let l = second (c .before .args .text .now) (c .before .args .at) (c .before .pre .0 .1 .0) (digit (c .before)) in omega (arith, l),
+  omega (arith, digit-range (c .before .args .first) (c .before .pre .1 .1)),
+)
 
 is-word-requires : tie.Need-is-word-requires
 is-word-requires c κs = search needs
@@ -39,7 +42,15 @@ refused-requires c κs = search needs
 
 returns : tie.Need-returns
 returns c =
-    longer (c .before .before .before .before .before .args .text .now) (c .before .before .before .before .before .args .at) (c .before .before .before .before .before .pre .0 .1 .0) (digit (c .before .before .before .before .before)) (c .before .before .before .before .before .args .bank) (c .before .before .before .before .before .pre .0 .1 .1) (value-of (c .before .before .before .before .before .args .text .now) (c .before .before .before .before .before .args .at) (c .before .before .before .before .before .pre .0 .1 .0) (digit (c .before .before .before .before .before)) (c .before .before .before .before .before .pre .1 .0) (c .before .before .before .digits .ensures .0)) (end-of (c .before .before .before .before .before .args .text .now) (c .before .before .before .before .before .args .at) (c .before .before .before .before .before .pre .0 .1 .0) (digit (c .before .before .before .before .before)) (c .before .before .before .digits .ensures .1 .0 .0)) (c .before .before .before .digits .ensures .1 .1)
+    longer (c .before .before .before .before .before .args .text .now) (c .before .before .before .before .before .args .at)
+    (c .before .before .before .before .before .pre .0 .1 .0) (digit (c .before .before .before .before .before))
+    (c .before .before .before .before .before .args .bank) (c .before .before .before .before .before .pre .0 .1 .1)
+    (value-of (c .before .before .before .before .before .args .text .now) (c .before .before .before .before .before .args .at)
+    (c .before .before .before .before .before .pre .0 .1 .0) (digit (c .before .before .before .before .before))
+    (c .before .before .before .before .before .pre .1 .0) (c .before .before .before .digits .ensures .0))
+    (end-of (c .before .before .before .before .before .args .text .now) (c .before .before .before .before .before .args .at)
+    (c .before .before .before .before .before .pre .0 .1 .0) (digit (c .before .before .before .before .before))
+    (c .before .before .before .digits .ensures .1 .0 .0)) (c .before .before .before .digits .ensures .1 .1)
     (sym (c .before .before .is-word .ensures) ∙ c .before .if1 .taken) (c .refused .ensures)
 
 layout-of-requires : tie.Need-layout-of-requires
@@ -53,8 +64,26 @@ refused-requires-2 c κs = search needs
 
 returns-2 : tie.Need-returns-2
 returns-2 c =
-    beyond (c .before .before .before .before .before .before .before .before .args .text .now) (c .before .before .before .before .before .before .before .before .args .at) (c .before .before .before .before .before .before .before .before .pre .0 .1 .0) (digit (c .before .before .before .before .before .before .before .before)) (c .before .before .before .before .before .before .before .before .args .bank) (c .before .before .before .before .before .before .before .before .pre .0 .1 .1) (value-of (c .before .before .before .before .before .before .before .before .args .text .now) (c .before .before .before .before .before .before .before .before .args .at) (c .before .before .before .before .before .before .before .before .pre .0 .1 .0) (digit (c .before .before .before .before .before .before .before .before)) (c .before .before .before .before .before .before .before .before .pre .1 .0) (c .before .before .before .before .before .before .digits .ensures .0)) (end-of (c .before .before .before .before .before .before .before .before .args .text .now) (c .before .before .before .before .before .before .before .before .args .at) (c .before .before .before .before .before .before .before .before .pre .0 .1 .0) (digit (c .before .before .before .before .before .before .before .before)) (c .before .before .before .before .before .before .digits .ensures .1 .0 .0)) (c .before .before .before .before .before .before .digits .ensures .1 .1)
-    (sym (c .before .before .before .before .before .is-word .ensures) ∙ c .before .before .before .before .if1 .left) (omega (arith, c .before .if2 .taken, ap (λ (x : Layout). x .elements) (c .before .before .before .layout-of .ensures))) (c .refused2 .ensures)
+    beyond (c .before .before .before .before .before .before .before .before .args .text .now)
+    (c .before .before .before .before .before .before .before .before .args .at)
+    (c .before .before .before .before .before .before .before .before .pre .0 .1 .0)
+    (digit (c .before .before .before .before .before .before .before .before))
+    (c .before .before .before .before .before .before .before .before .args .bank)
+    (c .before .before .before .before .before .before .before .before .pre .0 .1 .1)
+    (value-of (c .before .before .before .before .before .before .before .before .args .text .now)
+    (c .before .before .before .before .before .before .before .before .args .at)
+    (c .before .before .before .before .before .before .before .before .pre .0 .1 .0)
+    (digit (c .before .before .before .before .before .before .before .before))
+    (c .before .before .before .before .before .before .before .before .pre .1 .0)
+    (c .before .before .before .before .before .before .digits .ensures .0))
+    (end-of (c .before .before .before .before .before .before .before .before .args .text .now)
+    (c .before .before .before .before .before .before .before .before .args .at)
+    (c .before .before .before .before .before .before .before .before .pre .0 .1 .0)
+    (digit (c .before .before .before .before .before .before .before .before))
+    (c .before .before .before .before .before .before .digits .ensures .1 .0 .0))
+    (c .before .before .before .before .before .before .digits .ensures .1 .1)
+    (sym (c .before .before .before .before .before .is-word .ensures) ∙ c .before .before .before .before .if1 .left)
+    (omega (arith, c .before .if2 .taken, ap (λ (x : Layout). x .elements) (c .before .before .before .layout-of .ensures))) (c .refused2 .ensures)
 
 add-if4 : tie.Need-add-if4
 add-if4 c = search needs
@@ -64,8 +93,27 @@ refused-requires-3 c κs = search needs
 
 returns-3 : tie.Need-returns-3
 returns-3 c =
-    zero-first (c .before .before .before .before .before .before .before .before .before .before .args .text .now) (c .before .before .before .before .before .before .before .before .before .before .args .at) (c .before .before .before .before .before .before .before .before .before .before .pre .0 .1 .0) (digit (c .before .before .before .before .before .before .before .before .before .before)) (c .before .before .before .before .before .before .before .before .before .before .args .bank) (c .before .before .before .before .before .before .before .before .before .before .pre .0 .1 .1) (value-of (c .before .before .before .before .before .before .before .before .before .before .args .text .now) (c .before .before .before .before .before .before .before .before .before .before .args .at) (c .before .before .before .before .before .before .before .before .before .before .pre .0 .1 .0) (digit (c .before .before .before .before .before .before .before .before .before .before)) (c .before .before .before .before .before .before .before .before .before .before .pre .1 .0) (c .before .before .before .before .before .before .before .before .digits .ensures .0)) (end-of (c .before .before .before .before .before .before .before .before .before .before .args .text .now) (c .before .before .before .before .before .before .before .before .before .before .args .at) (c .before .before .before .before .before .before .before .before .before .before .pre .0 .1 .0) (digit (c .before .before .before .before .before .before .before .before .before .before)) (c .before .before .before .before .before .before .before .before .digits .ensures .1 .0 .0)) (c .before .before .before .before .before .before .before .before .digits .ensures .1 .1)
-    (sym (c .before .before .before .before .before .before .before .is-word .ensures) ∙ c .before .before .before .before .before .before .if1 .left) (sym (c .before .before .before .before .before .before .before .before .before .before .pre .1 .0) ∙ c .before .before .if3 .taken) (c .before .if4 .taken) (c .refused3 .ensures)
+    zero-first (c .before .before .before .before .before .before .before .before .before .before .args .text .now)
+    (c .before .before .before .before .before .before .before .before .before .before .args .at)
+    (c .before .before .before .before .before .before .before .before .before .before .pre .0 .1 .0)
+    (digit (c .before .before .before .before .before .before .before .before .before .before))
+    (c .before .before .before .before .before .before .before .before .before .before .args .bank)
+    (c .before .before .before .before .before .before .before .before .before .before .pre .0 .1 .1)
+    (value-of (c .before .before .before .before .before .before .before .before .before .before .args .text .now)
+    (c .before .before .before .before .before .before .before .before .before .before .args .at)
+    (c .before .before .before .before .before .before .before .before .before .before .pre .0 .1 .0)
+    (digit (c .before .before .before .before .before .before .before .before .before .before))
+    (c .before .before .before .before .before .before .before .before .before .before .pre .1 .0)
+    (c .before .before .before .before .before .before .before .before .digits .ensures .0))
+    (end-of (c .before .before .before .before .before .before .before .before .before .before .args .text .now)
+    (c .before .before .before .before .before .before .before .before .before .before .args .at)
+    (c .before .before .before .before .before .before .before .before .before .before .pre .0 .1 .0)
+    (digit (c .before .before .before .before .before .before .before .before .before .before))
+    (c .before .before .before .before .before .before .before .before .digits .ensures .1 .0 .0))
+    (c .before .before .before .before .before .before .before .before .digits .ensures .1 .1)
+    (sym (c .before .before .before .before .before .before .before .is-word .ensures) ∙ c .before .before .before .before .before .before .if1 .left)
+    (sym (c .before .before .before .before .before .before .before .before .before .before .pre .1 .0) ∙ c .before .before .if3 .taken)
+    (c .before .if4 .taken) (c .refused3 .ensures)
 
 bank-number-requires : tie.Need-bank-number-requires
 bank-number-requires c κs = search needs
@@ -78,11 +126,32 @@ word-requires c κs = search needs
 
 returns-4 : tie.Need-returns-4
 returns-4 c =
-    let l : c .before .before .before .before .before .before .before .before .digits .result .value < layoutOf (c .before .before .before .before .before .before .before .before .before .before .args .bank) .elements = omega (arith, c .before .before .before .if2 .left, ap (λ (x : Layout). x .elements) (c .before .before .before .before .before .layout-of .ensures)) in
-    lexes-as (c .word .ensures ∙ ap (λ (k : ℕ). packFields 3 k (c .before .before .before .before .before .before .before .before .digits .result .value) 0) (c .before .bank-number .ensures)) refl
-    (cell (c .before .before .before .before .before .before .before .before .before .before .args .text .now) (c .before .before .before .before .before .before .before .before .before .before .args .at) (c .before .before .before .before .before .before .before .before .before .before .pre .0 .1 .0) (digit (c .before .before .before .before .before .before .before .before .before .before)) (c .before .before .before .before .before .before .before .before .before .before .args .bank) (c .before .before .before .before .before .before .before .before .before .before .pre .0 .1 .1) (value-of (c .before .before .before .before .before .before .before .before .before .before .args .text .now) (c .before .before .before .before .before .before .before .before .before .before .args .at) (c .before .before .before .before .before .before .before .before .before .before .pre .0 .1 .0) (digit (c .before .before .before .before .before .before .before .before .before .before)) (c .before .before .before .before .before .before .before .before .before .before .pre .1 .0) (c .before .before .before .before .before .before .before .before .digits .ensures .0)) (end-of (c .before .before .before .before .before .before .before .before .before .before .args .text .now) (c .before .before .before .before .before .before .before .before .before .before .args .at) (c .before .before .before .before .before .before .before .before .before .before .pre .0 .1 .0) (digit (c .before .before .before .before .before .before .before .before .before .before)) (c .before .before .before .before .before .before .before .before .digits .ensures .1 .0 .0)) (c .before .before .before .before .before .before .before .before .digits .ensures .1 .1)
+    let l : c .before .before .before .before .before .before .before .before .digits .result .value < layoutOf
+    (c .before .before .before .before .before .before .before .before .before .before .args .bank) .elements =
+    omega (arith, c .before .before .before .if2 .left, ap (λ (x : Layout). x .elements) (c .before .before .before .before .before .layout-of .ensures)) in
+    lexes-as (c .word .ensures ∙ ap (λ (k : ℕ). packFields 3 k (c .before .before .before .before .before .before .before .before .digits .result .value) 0)
+    (c .before .bank-number .ensures)) refl
+    (cell (c .before .before .before .before .before .before .before .before .before .before .args .text .now)
+    (c .before .before .before .before .before .before .before .before .before .before .args .at)
+    (c .before .before .before .before .before .before .before .before .before .before .pre .0 .1 .0)
+    (digit (c .before .before .before .before .before .before .before .before .before .before))
+    (c .before .before .before .before .before .before .before .before .before .before .args .bank)
+    (c .before .before .before .before .before .before .before .before .before .before .pre .0 .1 .1)
+    (value-of (c .before .before .before .before .before .before .before .before .before .before .args .text .now)
+    (c .before .before .before .before .before .before .before .before .before .before .args .at)
+    (c .before .before .before .before .before .before .before .before .before .before .pre .0 .1 .0)
+    (digit (c .before .before .before .before .before .before .before .before .before .before))
+    (c .before .before .before .before .before .before .before .before .before .before .pre .1 .0)
+    (c .before .before .before .before .before .before .before .before .digits .ensures .0))
+    (end-of (c .before .before .before .before .before .before .before .before .before .before .args .text .now)
+    (c .before .before .before .before .before .before .before .before .before .before .args .at)
+    (c .before .before .before .before .before .before .before .before .before .before .pre .0 .1 .0)
+    (digit (c .before .before .before .before .before .before .before .before .before .before))
+    (c .before .before .before .before .before .before .before .before .digits .ensures .1 .0 .0))
+    (c .before .before .before .before .before .before .before .before .digits .ensures .1 .1)
     (sym (c .before .before .before .before .before .before .before .is-word .ensures) ∙ c .before .before .before .before .before .before .if1 .left) l
-    (⊎-elim (λ w _. omega (arith, w .1 .left)) (λ w z. absurd (w .left (c .before .before .before .before .before .before .before .before .before .before .pre .1 .0 ∙ z))) (c .before .before .if3 .came)))
+    (⊎-elim (λ w _. omega (arith, w .1 .left)) (λ w z. absurd (w .left
+    (c .before .before .before .before .before .before .before .before .before .before .pre .1 .0 ∙ z))) (c .before .before .if3 .came)))
 
 pub cell-at-spec : {M : Type 1} → statement M
 cell-at-spec =

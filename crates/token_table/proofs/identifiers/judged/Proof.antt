@@ -32,13 +32,21 @@ refused-requires : tie.Need-refused-requires
 refused-requires c κs = search needs
 
 returns-2 : tie.Need-returns-2
-returns-2 c = no-name (c .before .before .before .before .before .before .before .args .text .now) (c .before .before .before .before .before .before .before .args .at) (c .before .before .before .before .before .before .before .pre .0) (c .before .before .before .before .before .before .before .pre .1) (c .before .before .before .before .before .run-end .ensures .0) (c .before .before .before .before .before .run-end .ensures .1) (c .before .before .before .before .if1 .left) (c .before .before .function .ensures) (c .before .if2 .taken) (c .refused .ensures)
+returns-2 c = no-name (c .before .before .before .before .before .before .before .args .text .now)
+    (c .before .before .before .before .before .before .before .args .at) (c .before .before .before .before .before .before .before .pre .0)
+    (c .before .before .before .before .before .before .before .pre .1) (c .before .before .before .before .before .run-end .ensures .0)
+    (c .before .before .before .before .before .run-end .ensures .1) (c .before .before .before .before .if1 .left) (c .before .before .function .ensures)
+    (c .before .if2 .taken) (c .refused .ensures)
 
 word-requires : tie.Need-word-requires
 word-requires c κs = search needs
 
 returns-3 : tie.Need-returns-3
-returns-3 c = a-name (c .before .before .before .before .before .before .before .args .text .now) (c .before .before .before .before .before .before .before .args .at) (c .before .before .before .before .before .before .before .pre .0) (c .before .before .before .before .before .before .before .pre .1) (c .before .before .before .before .before .run-end .ensures .0) (c .before .before .before .before .before .run-end .ensures .1) (c .before .before .before .before .if1 .left) (c .before .before .function .ensures) (c .before .if2 .left) (c .word .ensures)
+returns-3 c = a-name (c .before .before .before .before .before .before .before .args .text .now)
+    (c .before .before .before .before .before .before .before .args .at) (c .before .before .before .before .before .before .before .pre .0)
+    (c .before .before .before .before .before .before .before .pre .1) (c .before .before .before .before .before .run-end .ensures .0)
+    (c .before .before .before .before .before .run-end .ensures .1) (c .before .before .before .before .if1 .left) (c .before .before .function .ensures)
+    (c .before .if2 .left) (c .word .ensures)
 
 pub judged-spec : {M : Type 1} → statement M
 judged-spec =

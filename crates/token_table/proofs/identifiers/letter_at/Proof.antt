@@ -30,10 +30,17 @@ refused-requires : tie.Need-refused-requires
 refused-requires c κs = search needs
 
 returns : tie.Need-returns
-returns c = a-letter (c .before .before .before .before .before .before .before .before .args .text .now) (c .before .before .before .before .before .before .before .before .args .at) (c .before .before .before .before .before .before .before .before .pre .0) (c .before .before .before .before .before .before .before .before .pre .1) _ (sym (c .before .before .before .before .before .bank-of .ensures) ∙ c .before .before .before .bank .given .1) (rw (← c .before .bank-number .ensures) (c .word .ensures))
+returns c = a-letter (c .before .before .before .before .before .before .before .before .args .text .now)
+    (c .before .before .before .before .before .before .before .before .args .at)
+    (c .before .before .before .before .before .before .before .before .pre .0)
+    (c .before .before .before .before .before .before .before .before .pre .1) _
+    (sym (c .before .before .before .before .before .bank-of .ensures) ∙ c .before .before .before .bank .given .1)
+    (rw (← c .before .bank-number .ensures) (c .word .ensures))
 
 returns-2 : tie.Need-returns-2
-returns-2 c = no-letter (c .before .before .before .before .before .before .args .text .now) (c .before .before .before .before .before .before .args .at) (c .before .before .before .before .before .before .pre .0) (c .before .before .before .before .before .before .pre .1) (sym (c .before .before .before .bank-of .ensures) ∙ c .before .enum-told .given .1) (c .refused .ensures)
+returns-2 c = no-letter (c .before .before .before .before .before .before .args .text .now) (c .before .before .before .before .before .before .args .at)
+    (c .before .before .before .before .before .before .pre .0) (c .before .before .before .before .before .before .pre .1)
+    (sym (c .before .before .before .bank-of .ensures) ∙ c .before .enum-told .given .1) (c .refused .ensures)
 
 pub letter-at-spec : {M : Type 1} → statement M
 letter-at-spec =

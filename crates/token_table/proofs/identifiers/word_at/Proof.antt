@@ -35,7 +35,20 @@ enum-known-bank : tie.Need-enum-known-bank
 enum-known-bank c = search needs
 
 cell-at-requires : tie.Need-cell-at-requires
-cell-at-requires c κs = ((c .before .before .before .before .before .before .before .before .before .pre .0, (c .before .before .before .before .before .before .before .before .before .pre .1, sym (c .before .before .before .bank-of .ensures) ∙ c .before .bank .given .1)), (c .before .before .before .before .before .before .before .byte-at .ensures, sym (c .before .before .before .before .before .before .is-digit .ensures) ∙ not-false _ (c .before .before .before .before .before .if1 .left)))
+cell-at-requires c κs = (
+  (
+    c .before .before .before .before .before .before .before .before .before .pre .0,
+    (
+      c .before .before .before .before .before .before .before .before .before .pre .1,
+      sym (c .before .before .before .bank-of .ensures)
+          ∙ c .before .bank .given .1,
+    ),
+  ),
+  (
+    c .before .before .before .before .before .before .before .byte-at .ensures,
+    sym (c .before .before .before .before .before .before .is-digit .ensures) ∙ not-false _ (c .before .before .before .before .before .if1 .left),
+  ),
+)
 
 enum-told : tie.Need-enum-told
 enum-told c = search needs
@@ -48,7 +61,11 @@ returns-2 c = search needs
 
 returns-3 : tie.Need-returns-3
 returns-3 c =
-    no-bank (c .before .before .before .before .before .before .before .before .before .args .text .now) (c .before .before .before .before .before .before .before .before .before .args .at) (c .before .before .before .before .before .before .before .before .before .pre .1) (ap isDigit (sym (c .before .before .before .before .before .before .before .byte-at .ensures)) ∙ sym (c .before .before .before .before .before .before .is-digit .ensures) ∙ not-false _ (c .before .before .before .before .before .if1 .left))
+    no-bank (c .before .before .before .before .before .before .before .before .before .args .text .now)
+    (c .before .before .before .before .before .before .before .before .before .args .at)
+    (c .before .before .before .before .before .before .before .before .before .pre .1)
+    (ap isDigit (sym (c .before .before .before .before .before .before .before .byte-at .ensures))
+    ∙ sym (c .before .before .before .before .before .before .is-digit .ensures) ∙ not-false _ (c .before .before .before .before .before .if1 .left))
     (sym (c .before .before .before .bank-of .ensures) ∙ c .before .enum-told .given .1) (c .refused .ensures)
 
 pub word-at-spec : {M : Type 1} → statement M

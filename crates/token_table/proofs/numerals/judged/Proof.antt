@@ -23,7 +23,9 @@ hexadecimal-requires : tie.Need-hexadecimal-requires
 hexadecimal-requires c κs = search needs
 
 returns : tie.Need-returns
-returns c = rest-run (c .before .before .before .before .before .args .text .now) (c .before .before .before .before .before .args .at) (c .before .before .before .before .before .pre) (c .before .before .before .run-end .ensures .0) (c .before .other-numeral .ensures) (c .hexadecimal .ensures)
+returns c = rest-run (c .before .before .before .before .before .args .text .now) (c .before .before .before .before .before .args .at)
+    (c .before .before .before .before .before .pre) (c .before .before .before .run-end .ensures .0) (c .before .other-numeral .ensures)
+    (c .hexadecimal .ensures)
 
 pub judged-spec : {M : Type 1} → statement M
 judged-spec =

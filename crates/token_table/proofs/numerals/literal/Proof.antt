@@ -14,13 +14,16 @@ word-requires : tie.Need-word-requires
 word-requires c κs = search needs
 
 returns : tie.Need-returns
-returns c = c .word .ensures ∙ ten-digits (c .before .before .before .args .m .value) (c .before .before .before .args .m .digits) (c .before .before .before .args .m .places) (c .before .before .before .args .negative) (c .before .before .before .args .exponent) (c .before .if1 .taken)
+returns c = c .word .ensures ∙ ten-digits (c .before .before .before .args .m .value) (c .before .before .before .args .m .digits)
+    (c .before .before .before .args .m .places) (c .before .before .before .args .negative) (c .before .before .before .args .exponent) (c .before .if1 .taken)
 
 word-requires-2 : tie.Need-word-requires-2
 word-requires-2 c κs = search needs
 
 returns-2 : tie.Need-returns-2
-returns-2 c = c .word2 .ensures ∙ large-exponent (c .before .before .before .before .args .m .value) (c .before .before .before .before .args .m .digits) (c .before .before .before .before .args .m .places) (c .before .before .before .before .args .negative) (c .before .before .before .before .args .exponent) (c .before .if2 .taken)
+returns-2 c = c .word2 .ensures ∙ large-exponent (c .before .before .before .before .args .m .value) (c .before .before .before .before .args .m .digits)
+    (c .before .before .before .before .args .m .places) (c .before .before .before .before .args .negative)
+    (c .before .before .before .before .args .exponent) (c .before .if2 .taken)
 
 cast-scale : tie.Need-cast-scale
 cast-scale c = search needs
@@ -44,9 +47,23 @@ returns-3 : tie.Need-returns-3
 returns-3 c =
     let v = c .before .before .before .before .before .before .before .before .args .m .value in
     let scaled = ap (λ (z : ℤ). literalPattern v (toZ w32 (ofZ w32 z))) (c .before .before .before .scale .ensures) in
-    let read = read-scale (c .before .before .before .before .before .before .before .before .args .exponent) (omega (arith, c .before .before .before .before .before .if2 .left)) (c .before .before .before .before .before .before .before .before .args .m .places) (omega (arith, c .before .before .before .before .before .before .if1 .left, c .before .before .before .before .before .before .before .before .pre .1)) (c .before .before .before .before .before .before .before .before .args .negative) in
+    let read = read-scale (c .before .before .before .before .before .before .before .before .args .exponent)
+    (omega (arith, c .before .before .before .before .before .if2 .left))
+    (c .before .before .before .before .before .before .before .before .args .m .places)
+    (omega (
+      arith,
+      c .before .before .before .before .before .before .if1 .left,
+      c .before .before .before .before .before .before .before .before .pre .1,
+    ))
+    (c .before .before .before .before .before .before .before .before .args .negative) in
     c .word3 .ensures
-    ∙ literal-word (c .before .before .before .before .before .before .before .before .args .m .value) (c .before .before .before .before .before .before .before .before .args .m .digits) (c .before .before .before .before .before .before .before .before .args .m .places) (c .before .before .before .before .before .before .before .before .args .negative) (c .before .before .before .before .before .before .before .before .args .exponent) (omega (arith, c .before .before .before .before .before .before .if1 .left)) (omega (arith, c .before .before .before .before .before .if2 .left)) (c .before .before .before .before .before .before .before .before .pre .1) (c .before .pattern .ensures ∙ scaled ∙ ap (literalPattern v) read)
+    ∙ literal-word (c .before .before .before .before .before .before .before .before .args .m .value)
+    (c .before .before .before .before .before .before .before .before .args .m .digits)
+    (c .before .before .before .before .before .before .before .before .args .m .places)
+    (c .before .before .before .before .before .before .before .before .args .negative)
+    (c .before .before .before .before .before .before .before .before .args .exponent)
+    (omega (arith, c .before .before .before .before .before .before .if1 .left)) (omega (arith, c .before .before .before .before .before .if2 .left))
+    (c .before .before .before .before .before .before .before .before .pre .1) (c .before .pattern .ensures ∙ scaled ∙ ap (literalPattern v) read)
 
 pub literal-spec : {M : Type 1} → statement M
 literal-spec =

@@ -20,7 +20,12 @@ sub-t9 : tie.Need-sub-t9
 sub-t9 c = search needs
 
 exponent-at-requires : tie.Need-exponent-at-requires
-exponent-at-requires c κs = (whole-mantissa (c .before .before .before .before .args .text .now) (c .before .before .before .before .args .at) (c .before .before .before .before .pre .0) (c .before .before .before .before .pre .1) (c .before .before .digits .ensures .0) (c .before .before .digits .ensures .1 .0 .0) (c .before .before .digits .ensures .1 .0 .1), sym (c .before .before .digits .ensures .1 .1) ∙ c .if2 .taken)
+exponent-at-requires c κs = (
+  whole-mantissa (c .before .before .before .before .args .text .now) (c .before .before .before .before .args .at)
+      (c .before .before .before .before .pre .0) (c .before .before .before .before .pre .1) (c .before .before .digits .ensures .0)
+      (c .before .before .digits .ensures .1 .0 .0) (c .before .before .digits .ensures .1 .0 .1),
+  sym (c .before .before .digits .ensures .1 .1) ∙ c .if2 .taken,
+)
 
 returns-2 : tie.Need-returns-2
 returns-2 c = search needs
@@ -29,7 +34,11 @@ is-word-requires : tie.Need-is-word-requires
 is-word-requires c κs = search needs
 
 judged-requires : tie.Need-judged-requires
-judged-requires c κs = other-run (c .before .before .before .before .before .before .args .text .now) (c .before .before .before .before .before .before .args .at) (c .before .before .before .before .before .before .pre .0) (c .before .before .before .before .before .before .pre .1) (c .before .before .before .before .digits .ensures .0) (c .before .before .before .before .digits .ensures .1 .0 .0) (c .before .before .before .before .digits .ensures .1 .1) (sym (c .before .is-word .ensures) ∙ c .if3 .taken) (c .before .before .if2 .left)
+judged-requires c κs = other-run (c .before .before .before .before .before .before .args .text .now)
+    (c .before .before .before .before .before .before .args .at) (c .before .before .before .before .before .before .pre .0)
+    (c .before .before .before .before .before .before .pre .1) (c .before .before .before .before .digits .ensures .0)
+    (c .before .before .before .before .digits .ensures .1 .0 .0) (c .before .before .before .before .digits .ensures .1 .1)
+    (sym (c .before .is-word .ensures) ∙ c .if3 .taken) (c .before .before .if2 .left)
 
 returns-3 : tie.Need-returns-3
 returns-3 c = search needs
@@ -38,7 +47,13 @@ refused-requires : tie.Need-refused-requires
 refused-requires c κs = search needs
 
 returns-4 : tie.Need-returns-4
-returns-4 c = too-large (c .before .before .before .before .before .before .before .before .args .text .now) (c .before .before .before .before .before .before .before .before .args .at) (c .before .before .before .before .before .before .before .before .pre .0) (c .before .before .before .before .before .before .before .before .pre .1) (c .before .before .before .before .before .before .digits .ensures .0) (c .before .before .before .before .before .before .digits .ensures .1 .0 .0) (c .before .before .before .before .before .before .digits .ensures .1 .1) (sym (c .before .before .before .is-word .ensures) ∙ c .before .before .if3 .left) (c .before .before .before .before .before .if1 .left) (c .before .if4 .taken) (c .refused .ensures)
+returns-4 c = too-large (c .before .before .before .before .before .before .before .before .args .text .now)
+    (c .before .before .before .before .before .before .before .before .args .at)
+    (c .before .before .before .before .before .before .before .before .pre .0) (c .before .before .before .before .before .before .before .before .pre .1)
+    (c .before .before .before .before .before .before .digits .ensures .0) (c .before .before .before .before .before .before .digits .ensures .1 .0 .0)
+    (c .before .before .before .before .before .before .digits .ensures .1 .1)
+    (sym (c .before .before .before .is-word .ensures) ∙ c .before .before .if3 .left) (c .before .before .before .before .before .if1 .left)
+    (c .before .if4 .taken) (c .refused .ensures)
 
 cast-word : tie.Need-cast-word
 cast-word c = search needs
@@ -47,7 +62,13 @@ word-requires : tie.Need-word-requires
 word-requires c κs = search needs
 
 returns-5 : tie.Need-returns-5
-returns-5 c = lexes-as (c .word .ensures) refl (decimal-run (c .before .before .before .before .before .before .before .before .args .text .now) (c .before .before .before .before .before .before .before .before .args .at) (c .before .before .before .before .before .before .before .before .pre .0) (c .before .before .before .before .before .before .before .before .pre .1) (c .before .before .before .before .before .before .digits .ensures .0) (c .before .before .before .before .before .before .digits .ensures .1 .0 .0) (c .before .before .before .before .before .before .digits .ensures .1 .1) (sym (c .before .before .before .is-word .ensures) ∙ c .before .before .if3 .left) (c .before .before .before .before .before .if1 .left) (omega (arith, c .before .if4 .left)))
+returns-5 c = lexes-as (c .word .ensures) refl (decimal-run (c .before .before .before .before .before .before .before .before .args .text .now)
+    (c .before .before .before .before .before .before .before .before .args .at)
+    (c .before .before .before .before .before .before .before .before .pre .0) (c .before .before .before .before .before .before .before .before .pre .1)
+    (c .before .before .before .before .before .before .digits .ensures .0) (c .before .before .before .before .before .before .digits .ensures .1 .0 .0)
+    (c .before .before .before .before .before .before .digits .ensures .1 .1)
+    (sym (c .before .before .before .is-word .ensures) ∙ c .before .before .if3 .left) (c .before .before .before .before .before .if1 .left)
+    (omega (arith, c .before .if4 .left)))
 
 pub numeral-at-spec : {M : Type 1} → statement M
 numeral-at-spec =

@@ -10,7 +10,8 @@ doubled-requires : tie.Need-doubled-requires
 doubled-requires c κs = search needs
 
 returns : tie.Need-returns
-returns c = rw (← greater-once (c .before .before .args .b) (c .before .before .args .c) (ne-eqb _ _ (λ e. c .before .if1 .taken (sym e)))) (c .doubled .ensures)
+returns c = rw (← greater-once (c .before .before .args .b) (c .before .before .args .c) (ne-eqb _ _ (λ e. c .before .if1 .taken (sym e))))
+    (c .doubled .ensures)
 
 symbol-requires : tie.Need-symbol-requires
 symbol-requires c κs = search needs
@@ -22,7 +23,8 @@ returns-2 : tie.Need-returns-2
 returns-2 c = rw (c .before .before .if1 .left, c .before .if2 .taken) (c .symbol .ensures)
 
 returns-3 : tie.Need-returns-3
-returns-3 c = rw (c .before .before .if1 .left, ← greater-twice (c .before .before .before .args .c) (ne-eqb _ _ (λ e. c .before .if2 .left (sym e)))) (c .symbol2 .ensures)
+returns-3 c = rw (c .before .before .if1 .left, ← greater-twice (c .before .before .before .args .c) (ne-eqb _ _ (λ e. c .before .if2 .left (sym e))))
+    (c .symbol2 .ensures)
 
 pub greater-spec : {M : Type 1} → statement M
 greater-spec =

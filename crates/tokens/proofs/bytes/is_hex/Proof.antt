@@ -19,7 +19,13 @@ returns-2 : tie.Need-returns-2
 returns-2 c = simp (← c .before .before .before .is-digit .ensures, c .before .before .if1 .left, ← c .before .between .ensures, c .if2 .taken)
 
 returns-3 : tie.Need-returns-3
-returns-3 c = simp (← c .before .before .before .before .is-digit .ensures, c .before .before .before .if1 .left, ← c .before .before .between .ensures, c .before .if2 .left, ← c .between2 .ensures)
+returns-3 c = simp (
+  ← c .before .before .before .before .is-digit .ensures,
+  c .before .before .before .if1 .left,
+  ← c .before .before .between .ensures,
+  c .before .if2 .left,
+  ← c .between2 .ensures,
+)
 
 pub is-hex-spec : {M : Type 1} → statement M
 is-hex-spec =

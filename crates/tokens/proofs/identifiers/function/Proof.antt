@@ -49,7 +49,8 @@ returns-7 c = search needs
 returns-8 : tie.Need-returns-8
 returns-8 c =
     let others = c .match .rest in
-    no-length _ (others .0 .0 .0 .0 .0 .0 .1) (others .0 .0 .0 .0 .0 .1) (others .0 .0 .0 .0 .1) (others .0 .0 .0 .1) (others .0 .0 .1) (others .0 .1) (others .1)
+    no-length _ (others .0 .0 .0 .0 .0 .0 .1) (others .0 .0 .0 .0 .0 .1) (others .0 .0 .0 .0 .1) (others .0 .0 .0 .1) (others .0 .0 .1) (others .0 .1)
+    (others .1)
 
 pub function-spec : {M : Type 1} → statement M
 function-spec =

@@ -44,10 +44,16 @@ add-at : tie.Need-add-at Inv-loop μ-loop
 add-at c = search needs
 
 loop-less : tie.Need-loop-less Inv-loop μ-loop
-loop-less c = omega (arith, c .before .before .before .before .loop .inv .within, c .before .before .before .before .loop .inv .some, c .before .before .before .loop-test .taken)
+loop-less c = omega (
+  arith,
+  c .before .before .before .before .loop .inv .within,
+  c .before .before .before .before .loop .inv .some,
+  c .before .before .before .loop-test .taken,
+)
 
 loop-again : tie.Need-loop-again Inv-loop μ-loop
-loop-again c = passed (c .before .before .before .before .loop .inv) (c .before .before .before .loop-test .taken) (c .before .same-bytes .ensures) (c .if1 .left)
+loop-again c = passed (c .before .before .before .before .loop .inv) (c .before .before .before .loop-test .taken) (c .before .same-bytes .ensures)
+    (c .if1 .left)
 
 returns-2 : tie.Need-returns-2 Inv-loop μ-loop
 returns-2 c = ended (c .before .loop .inv) (c .loop-test .left)

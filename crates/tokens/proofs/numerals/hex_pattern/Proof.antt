@@ -19,7 +19,10 @@ returns : tie.Need-returns
 returns c = rw (sym (c .before .all-hex .ensures) ∙ not-true _ (c .if1 .taken))
 
 returns-2 : tie.Need-returns-2
-returns-2 c = rw (sym (c .before .before .all-hex .ensures) ∙ not-false _ (c .before .if1 .left), lt-leb (length (c .before .before .before .before .args .run .now)) 8 (omega arith))
+returns-2 c = rw (
+  sym (c .before .before .all-hex .ensures) ∙ not-false _ (c .before .if1 .left),
+  lt-leb (length (c .before .before .before .before .args .run .now)) 8 (omega arith),
+)
 
 hex-value-requires : tie.Need-hex-value-requires
 hex-value-requires c κs =
@@ -28,7 +31,11 @@ hex-value-requires c κs =
     (e, below hexes hex-small 8 s (lit< tt) (both (nonEmpty s) (all isHex s) e .1) (omega arith))
 
 returns-3 : tie.Need-returns-3
-returns-3 c = rw (c .hex-value .ensures, sym (c .before .before .before .all-hex .ensures) ∙ not-false _ (c .before .before .if1 .left), le-leb (length (c .before .before .before .before .before .args .run .now)) 8 (omega arith))
+returns-3 c = rw (
+  c .hex-value .ensures,
+  sym (c .before .before .before .all-hex .ensures) ∙ not-false _ (c .before .before .if1 .left),
+  le-leb (length (c .before .before .before .before .before .args .run .now)) 8 (omega arith),
+)
 
 pub hex-pattern-spec : {M : Type 1} → statement M
 hex-pattern-spec =

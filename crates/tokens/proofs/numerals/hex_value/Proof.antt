@@ -27,7 +27,8 @@ shared-slice-read-hex-digit : tie.Need-shared-slice-read-hex-digit Inv-loop μ-l
 shared-slice-read-hex-digit c = search needs
 
 hex-digit-requires : tie.Need-hex-digit-requires Inv-loop μ-loop
-hex-digit-requires c κs = all-at isHex (c .before .before .before .before .args .run .now) _ (c .before .before .before .before .pre .0) (c .before .loop-test .taken)
+hex-digit-requires c κs = all-at isHex (c .before .before .before .before .args .run .now) _ (c .before .before .before .before .pre .0)
+    (c .before .loop-test .taken)
 
 add-n : tie.Need-add-n Inv-loop μ-loop
 add-n c = omega (arith, at-most hexes (more hexes (c .before .before .before .loop .inv) (c .hex-digit .ensures) (c .before .before .loop-test .taken)))

@@ -21,7 +21,8 @@ hex-pattern-requires : tie.Need-hex-pattern-requires
 hex-pattern-requires c κs = search needs
 
 returns : tie.Need-returns
-returns c = c .hex-pattern .ensures ∙ hex-form (c .before .before .before .before .before .args .run .now) (sym (c .before .before .before .is-hex-run .ensures) ∙ c .before .before .if1 .taken)
+returns c = c .hex-pattern .ensures ∙ hex-form (c .before .before .before .before .before .args .run .now)
+    (sym (c .before .before .before .is-hex-run .ensures) ∙ c .before .before .if1 .taken)
 
 returns-2 : tie.Need-returns-2
 returns-2 c = rw (sym (c .before .is-hex-run .ensures) ∙ c .if1 .left)

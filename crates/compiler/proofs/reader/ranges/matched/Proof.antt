@@ -29,7 +29,9 @@ bad-requires c κs =
 returns : tie.Need-returns
 returns c =
     let s = c .before .before .before .before .before .before in
-    matching-as (c .bad .ensures) (match-broken (s .args .f) (s .args .value) (subst (λ (i : ℕ). Broken (s .args .table .now) i (c .before .before .range-end .result)) (c .before .before .before .next-of .ensures .0) (broken-range (c .before .before .range-end .ensures) (c .before .if1 .taken))))
+    matching-as (c .bad .ensures) (match-broken (s .args .f) (s .args .value)
+    (subst (λ (i : ℕ). Broken (s .args .table .now) i (c .before .before .range-end .result)) (c .before .before .before .next-of .ensures .0)
+    (broken-range (c .before .before .range-end .ensures) (c .before .if1 .taken))))
 
 word-at-requires : tie.Need-word-at-requires
 word-at-requires c κs = search needs
@@ -43,7 +45,8 @@ word-at-requires-2 c κs = search needs
 matched-requires : tie.Need-matched-requires
 matched-requires c κs =
     let s = c .before .before .before .before .before .before .before .before in
-    let x = whole-range (c .before .before .word-at .ensures) (c .before .word-at2 .ensures) (c .before .before .before .before .range-end .ensures) (c .before .before .before .if1 .left) in
+    let x = whole-range (c .before .before .word-at .ensures) (c .before .word-at2 .ensures) (c .before .before .before .before .range-end .ensures)
+    (c .before .before .before .if1 .left) in
     (s .pre .1, x .word, omega (arith, x .within, s .pre .0 .small), omega (arith, s .pre .0 .room, s .pre .0 .small, s .pre .0 .within))
 
 same-length : tie.Need-same-length
@@ -52,7 +55,13 @@ same-length c = search needs
 returns-2 : tie.Need-returns-2
 returns-2 c =
     let s = c .before .before .before .before .before .before .before .before .before .before .before in
-    matching-as (c .before .before .matched .ensures .0) (match-whole (s .args .f) (s .args .value) (subst (λ (i : ℕ). Whole (s .args .table .now) i (c .before .before .before .before .before .word-at .result) (c .before .before .before .before .word-at2 .result) (c .before .before .before .before .before .before .before .range-end .result)) (c .before .before .before .before .before .before .before .before .next-of .ensures .0) (whole-range (c .before .before .before .before .before .word-at .ensures) (c .before .before .before .before .word-at2 .ensures) (c .before .before .before .before .before .before .before .range-end .ensures) (c .before .before .before .before .before .before .if1 .left))) (c .before .before .matched .ensures .1))
+    matching-as (c .before .before .matched .ensures .0) (match-whole (s .args .f) (s .args .value)
+    (subst (λ (i : ℕ). Whole (s .args .table .now) i (c .before .before .before .before .before .word-at .result)
+    (c .before .before .before .before .word-at2 .result) (c .before .before .before .before .before .before .before .range-end .result))
+    (c .before .before .before .before .before .before .before .before .next-of .ensures .0)
+    (whole-range (c .before .before .before .before .before .word-at .ensures) (c .before .before .before .before .word-at2 .ensures)
+    (c .before .before .before .before .before .before .before .range-end .ensures) (c .before .before .before .before .before .before .if1 .left)))
+    (c .before .before .matched .ensures .1))
 
 pub matched-spec : {M : Type 1} → statement M
 matched-spec =

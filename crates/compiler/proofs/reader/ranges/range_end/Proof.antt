@@ -16,7 +16,8 @@ class-of-requires c κs = search needs
 returns : tie.Need-returns
 returns c =
     let s = c .before .before .before .before in
-    no-cell (s .args .table .now) (s .args .at) (s .pre .0) (s .pre .1) (λ e. c .if1 .taken (c .before .class-of .ensures ∙ ap wordClass (c .before .before .word-at .ensures) ∙ e))
+    no-cell (s .args .table .now) (s .args .at) (s .pre .0) (s .pre .1)
+    (λ e. c .if1 .taken (c .before .class-of .ensures ∙ ap wordClass (c .before .before .word-at .ensures) ∙ e))
 
 add-expected : tie.Need-add-expected
 add-expected c = search needs
@@ -30,7 +31,9 @@ add-result c = search needs
 returns-2 : tie.Need-returns-2
 returns-2 c =
     let s = c .before .before .before .before .before .before in
-    no-comma (s .args .table .now) (s .args .at) (s .pre .0) (sym (c .before .before .before .class-of .ensures ∙ ap wordClass (c .before .before .before .before .word-at .ensures)) ∙ c .before .before .if1 .left) (unmet (c .before .expected .ensures) (c .if2 .taken))
+    no-comma (s .args .table .now) (s .args .at) (s .pre .0) (sym (c .before .before .before .class-of .ensures
+    ∙ ap wordClass (c .before .before .before .before .word-at .ensures)) ∙ c .before .before .if1 .left)
+    (unmet (c .before .expected .ensures) (c .if2 .taken))
 
 add-word-at : tie.Need-add-word-at
 add-word-at c = search needs
@@ -47,7 +50,10 @@ add-result-2 c = search needs
 returns-3 : tie.Need-returns-3
 returns-3 c =
     let s = c .before .before .before .before .before .before .before .before .before in
-    no-count (s .args .table .now) (s .args .at) (s .pre .0) (sym (c .before .before .before .before .before .before .class-of .ensures ∙ ap wordClass (c .before .before .before .before .before .before .before .word-at .ensures)) ∙ c .before .before .before .before .before .if1 .left) (met (c .before .before .before .before .expected .ensures) (c .before .before .before .if2 .left)) (λ e. c .if3 .taken (c .before .class-of2 .ensures ∙ ap wordClass (c .before .before .word-at2 .ensures) ∙ e))
+    no-count (s .args .table .now) (s .args .at) (s .pre .0) (sym (c .before .before .before .before .before .before .class-of .ensures
+    ∙ ap wordClass (c .before .before .before .before .before .before .before .word-at .ensures))
+    ∙ c .before .before .before .before .before .if1 .left) (met (c .before .before .before .before .expected .ensures)
+    (c .before .before .before .if2 .left)) (λ e. c .if3 .taken (c .before .class-of2 .ensures ∙ ap wordClass (c .before .before .word-at2 .ensures) ∙ e))
 
 add-expected-2 : tie.Need-add-expected-2
 add-expected-2 c = search needs
@@ -61,7 +67,12 @@ add-result-3 c = search needs
 returns-4 : tie.Need-returns-4
 returns-4 c =
     let s = c .before .before .before .before .before .before .before .before .before .before .before in
-    no-close (s .args .table .now) (s .args .at) (s .pre .0) (sym (c .before .before .before .before .before .before .before .before .class-of .ensures ∙ ap wordClass (c .before .before .before .before .before .before .before .before .before .word-at .ensures)) ∙ c .before .before .before .before .before .before .before .if1 .left) (met (c .before .before .before .before .before .before .expected .ensures) (c .before .before .before .before .before .if2 .left)) (sym (c .before .before .before .class-of2 .ensures ∙ ap wordClass (c .before .before .before .before .word-at2 .ensures)) ∙ c .before .before .if3 .left) (unmet (c .before .expected2 .ensures) (c .if4 .taken))
+    no-close (s .args .table .now) (s .args .at) (s .pre .0) (sym (c .before .before .before .before .before .before .before .before .class-of .ensures
+    ∙ ap wordClass (c .before .before .before .before .before .before .before .before .before .word-at .ensures))
+    ∙ c .before .before .before .before .before .before .before .if1 .left)
+    (met (c .before .before .before .before .before .before .expected .ensures) (c .before .before .before .before .before .if2 .left))
+    (sym (c .before .before .before .class-of2 .ensures ∙ ap wordClass (c .before .before .before .before .word-at2 .ensures))
+    ∙ c .before .before .if3 .left) (unmet (c .before .expected2 .ensures) (c .if4 .taken))
 
 add-result-4 : tie.Need-add-result-4
 add-result-4 c = search needs
@@ -69,7 +80,12 @@ add-result-4 c = search needs
 returns-5 : tie.Need-returns-5
 returns-5 c =
     let s = c .before .before .before .before .before .before .before .before .before .before .before in
-    all-there (s .args .table .now) (s .args .at) (s .pre .0) (sym (c .before .before .before .before .before .before .before .before .class-of .ensures ∙ ap wordClass (c .before .before .before .before .before .before .before .before .before .word-at .ensures)) ∙ c .before .before .before .before .before .before .before .if1 .left) (met (c .before .before .before .before .before .before .expected .ensures) (c .before .before .before .before .before .if2 .left)) (sym (c .before .before .before .class-of2 .ensures ∙ ap wordClass (c .before .before .before .before .word-at2 .ensures)) ∙ c .before .before .if3 .left) (met (c .before .expected2 .ensures) (c .if4 .left))
+    all-there (s .args .table .now) (s .args .at) (s .pre .0) (sym (c .before .before .before .before .before .before .before .before .class-of .ensures
+    ∙ ap wordClass (c .before .before .before .before .before .before .before .before .before .word-at .ensures))
+    ∙ c .before .before .before .before .before .before .before .if1 .left)
+    (met (c .before .before .before .before .before .before .expected .ensures) (c .before .before .before .before .before .if2 .left))
+    (sym (c .before .before .before .class-of2 .ensures ∙ ap wordClass (c .before .before .before .before .word-at2 .ensures))
+    ∙ c .before .before .if3 .left) (met (c .before .expected2 .ensures) (c .if4 .left))
 
 pub range-end-spec : {M : Type 1} → statement M
 range-end-spec =

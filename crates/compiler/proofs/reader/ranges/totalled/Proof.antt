@@ -37,7 +37,8 @@ word-at-requires-2 c κs = search needs
 totalled-requires : tie.Need-totalled-requires
 totalled-requires c κs =
     let s = c .before .before .before .before .before .before .before in
-    let x = whole-range (c .before .before .word-at .ensures) (c .before .word-at2 .ensures) (c .before .before .before .before .range-end .ensures) (c .before .before .before .if1 .left) in
+    let x = whole-range (c .before .before .word-at .ensures) (c .before .word-at2 .ensures) (c .before .before .before .before .range-end .ensures)
+    (c .before .before .before .if1 .left) in
     (s .pre .1, x .word, omega (arith, x .within, s .pre .0 .small), omega (arith, s .pre .0 .room, s .pre .0 .small, s .pre .0 .within))
 
 same-length : tie.Need-same-length
@@ -46,7 +47,10 @@ same-length c = search needs
 returns-2 : tie.Need-returns-2
 returns-2 c =
     let s = c .before .before .before .before .before .before .before .before .before .before in
-    being (c .before .before .totalled .ensures .0) (total-whole (s .args .f) (whole-range (c .before .before .before .before .before .word-at .ensures) (c .before .before .before .before .word-at2 .ensures) (c .before .before .before .before .before .before .before .range-end .ensures) (c .before .before .before .before .before .before .if1 .left)) (c .before .before .totalled .ensures .1))
+    being (c .before .before .totalled .ensures .0) (total-whole (s .args .f)
+    (whole-range (c .before .before .before .before .before .word-at .ensures) (c .before .before .before .before .word-at2 .ensures)
+    (c .before .before .before .before .before .before .before .range-end .ensures) (c .before .before .before .before .before .before .if1 .left))
+    (c .before .before .totalled .ensures .1))
 
 pub totalled-spec : {M : Type 1} → statement M
 totalled-spec =
