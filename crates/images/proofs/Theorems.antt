@@ -15,7 +15,7 @@ use Rattle.images.specs.Conversions.{packedOf, unpackedOf}
 use Rattle.images.specs.Theorems.{ImageTheorems}
 use Rattle.images.proofs.Old.{bytewise-laws}
 use Rattle.images.proofs.Environments.{environment}
-use Rattle.images.proofs.Writes.{flagged, stored, answered}
+use Rattle.images.proofs.Writes.{put, flagged, stored, answered}
 use Rattle.images.proofs.Packing.{packs, unpacks}
 use Rattle.images.proofs.Covered.{covered, only, only-old, unpacked-bytes}
 
@@ -30,6 +30,7 @@ image-theorems =
     record {
       old-laws = bytewise-laws;
       environment = λ tick m n c. environment m n c tick;
+      put = λ m n b i p c h g. put m n c b i p h g;
       stored = λ m n b i v c. (answered m n c b i v, stored m n c b i v);
       flagged = λ m n f c. flagged m n c f;
       packs = packs;

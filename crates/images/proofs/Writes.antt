@@ -60,7 +60,7 @@ is-normalized D p = refl
 is-normalized R p = refl
 
 module _ (m n : List ℕ) (c : Corresponds m n) where
-  put : (b : Bank) (i p : ℕ) → i < layoutOf b .elements → Holdable b p → Corresponds (bytewise .put m b i p) (packed .put n b i p)
+  pub put : (b : Bank) (i p : ℕ) → i < layoutOf b .elements → Holdable b p → Corresponds (bytewise .put m b i p) (packed .put n b i p)
   put b i p h g =
       record {
         left = bytewise-laws .put-length m b i p ∙ c .left;

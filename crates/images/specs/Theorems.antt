@@ -10,7 +10,7 @@ use Rattle.values.specs.declared.Fault.{Fault}
 use Rattle.memory.specs.declared.Bank.{Bank}
 use Rattle.memory.specs.declared.Bank.the-variants.{C}
 use Rattle.memory.specs.Layout.{imageSize, layoutOf, packed}
-use Rattle.memory.specs.Laws.{LayoutLaws}
+use Rattle.memory.specs.Laws.{Holdable, LayoutLaws}
 use Rattle.memory.specs.Environment.{memoryIn}
 use Rattle.memory.specs.Store.{withFlagIn, storeIn, storeAnswerIn}
 use Rattle.images.specs.Bytewise.{oldSize, bytewise}
@@ -30,6 +30,9 @@ pub record ImageTheorems : Type 0 where
   pub old-laws : LayoutLaws bytewise
   -- corresponding images are one environment: to every formula, index and code, at every tick
   pub environment : (tick : ℕ) (m n : List ℕ) → Corresponds m n → memoryIn bytewise tick m ≡ memoryIn packed tick n
+  -- a number that the cell can hold, put into it, leaves corresponding images
+  pub put : (m n : List ℕ) (b : Bank) (i p : ℕ) → Corresponds m n → i < layoutOf b .elements → Holdable b p
+      → Corresponds (bytewise .put m b i p) (packed .put n b i p)
   -- a store, and a flag, give the same answer and corresponding images
   pub stored : (m n : List ℕ) (b : Bank) (i : ℕ) (v : Value) → Corresponds m n
       → (storeAnswerIn bytewise m b i v ≡ storeAnswerIn packed n b i v) × Corresponds (storeIn bytewise m b i v) (storeIn packed n b i v)

@@ -9,77 +9,22 @@ use lib.Dec.{eqb, ltb}
 use lib.ListN.{length, drop, length-replicate}
 use lib.Seq.{drop-drop}
 use borrow.Author.Tests.{le-ltb, eq-eqb, ne-eqb}
-use Rattle.memory.specs.declared.Bank.{Bank}
-use Rattle.memory.specs.declared.Bank.the-variants.{R}
-use Rattle.memory.specs.declared.names.Named.{Named}
-use Rattle.memory.specs.declared.names.Named.the-variants as Named
-use Rattle.memory.specs.Names.{namedRule}
 use Rattle.memory.specs.Layout.{imageSize}
 use Rattle.memory.proofs.Laws.{packed-laws}
-use Rattle.tokens.specs.Symbols.{equalBytes}
-use Rattle.words.specs.Ascii.{ascii}
-use Rattle.lines.specs.declared.forms.Form.{Form}
-use Rattle.lines.specs.declared.forms.Form.the-variants.{Pattern, Other}
-use Rattle.lines.specs.Lines.{keyLength, keyOf, valueOf}
-use Rattle.lines.specs.Forms.{hexForm, cellPattern}
-use Rattle.lines.specs.Printing.{cellText}
-use Rattle.lines.proofs.Laws.{form-laws}
 use Rattle.promises.specs.Promises.{compile-and-run}
 use Rattle.promises.proofs.Promises.{promises}
 use Rattle.program.specs.Cases.{zeros}
-use Rattle.card_laws.specs.Lines.{Field, field, wrong, restOfLine}
-use Rattle.card_laws.specs.Cards.{Card, cardNumber}
+use Rattle.card_laws.specs.Cards.{Card}
 use Rattle.card_laws.specs.Reading.{good, readCards}
 use Rattle.card_laws.specs.Reading as Reading
 use Rattle.card_laws.specs.Formulas.{formulaAnswer}
-use Rattle.log_laws.specs.Log.{LogEntry, change, tick, run, bad, tickEntry, runEntry, changeEntry, cellEntry, textEntry, endedEntry, logLines, logEntryOf}
-use Rattle.log_laws.specs.Replay.{ReplayState, firstState, AfterLine, goes, stops, FoundCard, found, lacks, cardOf, afterRun, afterEntry, afterLine}
+use Rattle.log_laws.specs.Log.{LogEntry, change, tick, run, bad, logLines, logEntryOf}
+use Rattle.log_laws.specs.Replay.{ReplayState, firstState, AfterLine, goes, stops, FoundCard, found, lacks, cardOf, afterRun, afterEntry, afterLine, afterLineIn}
 use Rattle.log_laws.specs.Replay.{Pause, full, logEnd, badLine, Replay, Room, lent, endless, lineRoom, isFull, without, refusalLines, onward}
 use Rattle.log_laws.specs.Replay.{replayLines, replayFrom, replayedWith, replayed, CallWords, Called, isOver, afterReplay, stateAt, calledWith}
 use Rattle.log_laws.specs.Replay.{replayCall}
 use Rattle.log_laws.specs.Theorems.{Calls, over, next, firstWords, ReplayTheorems}
-
--- ---- a tick has 32 bits
-data Ticks : LogEntry → Type 0 where
-  of-change : {b : Bank} {i n : ℕ} → Ticks (change b i n)
-  of-tick : {t : ℕ} → t < 2 ^ 32 → Ticks (tick t)
-  of-run : {k : ℕ} → Ticks (run k)
-  of-bad : Ticks bad
-
-ticks-cond : (x : Bool) {a b : LogEntry} → Ticks a → Ticks b → Ticks (cond x a b)
-ticks-cond true h k = h
-ticks-cond false h k = k
-
-ticks-form : (v : List ℕ) (f : Form) → hexForm v ≡ f → Ticks (tickEntry f)
-ticks-form v (Pattern n) e = of-tick (form-laws .below R v n e)
-ticks-form v Other e = of-bad
-
-ticks-run : (k : ℕ) → Ticks (runEntry k)
-ticks-run zero = of-bad
-ticks-run (suc k) = of-run
-
-ticks-change : (b : Bank) (i : ℕ) (v : List ℕ) (f : Form) → Ticks (changeEntry b i v f)
-ticks-change b i v (Pattern n) = ticks-cond (equalBytes v (cellText b n)) of-change of-bad
-ticks-change b i v Other = of-bad
-
-ticks-cell : (v : List ℕ) (x : Named) → Ticks (cellEntry v x)
-ticks-cell v (Named.Cell b i) = ticks-change b i v (cellPattern b v)
-ticks-cell v Named.Other = of-bad
-
-ticks-text : (l : List ℕ) → Ticks (textEntry l)
-ticks-text l =
-    ticks-cond (ltb (keyLength l) (length l))
-    (ticks-cond (equalBytes (keyOf l) (ascii "tick")) (ticks-form (valueOf l) (hexForm (valueOf l)) refl)
-    (ticks-cond (equalBytes (keyOf l) (ascii "run")) (ticks-run (cardNumber (valueOf l))) (ticks-cell (valueOf l) (namedRule (keyOf l)))))
-    of-bad
-
-ticks : (l : List ℕ) → Ticks (logEntryOf l)
-unfolding logEntryOf
-ticks l = by (restOfLine l)
-  where
-    by : (f : Field) → Ticks (endedEntry f)
-    by (field v r) = ticks-text v
-    by wrong = of-bad
+use Rattle.log_laws.proofs.Entries.{Within, of-tick, line-within}
 
 -- ---- the image keeps its size and the tick its bits
 record Sized (s : ReplayState) : Type 0 where
@@ -97,15 +42,15 @@ module _ (cs : List Card) where
       let z = promises .keeps (compile-and-run e (s .tick)) t (s .memory) (zeros 16384) (zeros 16384) .sizes in
       onwards (record { image = z .0 ∙ g .image; bits = g .bits })
 
-  entry-keeps : (s : ReplayState) (x : LogEntry) → Ticks x → Sized s → Keeps (afterEntry cs s x)
+  entry-keeps : (s : ReplayState) (x : LogEntry) → Within x → Sized s → Keeps (afterEntry cs s x)
   entry-keeps s (change b i n) t g = onwards (record { image = packed-laws .put-length (s .memory) b i n ∙ g .image; bits = g .bits })
   entry-keeps s (tick n) (of-tick h) g = onwards (record { image = g .image; bits = h })
   entry-keeps s (run k) t g = run-keeps k s (cardOf k cs) g
   entry-keeps s bad t g = ended
 
   line-keeps : (s : ReplayState) (l : List ℕ) → Sized s → Keeps (afterLine cs s l)
-  unfolding afterLine
-  line-keeps s l g = entry-keeps s (logEntryOf l) (ticks l) g
+  unfolding afterLineIn
+  line-keeps s l g = entry-keeps s (logEntryOf l) (line-within l) g
 
   kept : (room : Room) (s : ReplayState) (at : ℕ) (ls : List (List ℕ)) → Sized s → Sized (replayLines cs room s at ls .state)
   kept room s at [] g = g

@@ -9,16 +9,17 @@ use lib.ListN.{length, length-append}
 use borrow.Author.Tests.{le-ltb}
 use Rattle.card_laws.specs.Cards.{Card}
 use Rattle.salvage_laws.specs.Cut.{joined}
-use Rattle.log_laws.specs.Log.{LogEntry, bad, logLines, logEntryOf}
-use Rattle.log_laws.specs.Replay.{ReplayState, AfterLine, goes, stops, afterEntry, afterLine, Pause, full, logEnd, badLine, Replay, printed}
-use Rattle.log_laws.specs.Replay.{lent, endless, lineRoom, refusalLines, onward, replayLines}
+use Rattle.log_laws.specs.Log.{LogEntry, change, tick, run, bad, logLines, logEntryOf}
+use Rattle.log_laws.specs.Replay.{ReplayState, AfterLine, goes, stops, FoundCard, found, lacks, cardOf, afterRun, afterEntry, afterLine, afterLineIn}
+use Rattle.log_laws.specs.Replay.{Pause, full, logEnd, badLine, Replay, printed}
+use Rattle.log_laws.specs.Replay.{Room, lent, endless, lineRoom, isFull, without, refusalLines, onward, replayLines}
 use Rattle.log_laws.specs.Theorems.{thenBy, andThen}
 use Rattle.log_laws.proofs.Lines.{lines-rest}
 
 printed-twice : (o p : List ℕ) (r : Replay) → printed o (printed p r) ≡ printed (o ++ p) r
 printed-twice o p r = ap (λ (t : List ℕ). record { text = t; state = r .state; at = r .at; pause = r .pause }) (sym (append-assoc o p (r .text)))
 
-printed-then : (o : List ℕ) (r : Replay) (f : ReplayState → ℕ → Replay) → printed o (andThen r f) ≡ andThen (printed o r) f
+pub printed-then : (o : List ℕ) (r : Replay) (f : ReplayState → ℕ → Replay) → printed o (andThen r f) ≡ andThen (printed o r) f
 printed-then o r f = by (r .pause)
   where
     by : (p : Pause) → printed o (thenBy p r f) ≡ thenBy p (printed o r) f
@@ -29,6 +30,42 @@ printed-then o r f = by (r .pause)
 module _ (cs : List Card) where
   abbrev pub play : ReplayState → ℕ → List (List ℕ) → Replay
   play s at ls = replayLines cs endless s at ls
+
+  -- a tick is kept until the next
+  abbrev tickLeft : ReplayState → AfterLine → ℕ
+  tickLeft s (goes s′ o) = s′ .tick
+  tickLeft s stops = s .tick
+
+  run-keeps : (k : ℕ) (s : ReplayState) (f : FoundCard) → tickLeft s (afterRun k s f) ≡ s .tick
+  run-keeps k s (found t e) = refl
+  run-keeps k s lacks = refl
+
+  pub tick-kept : (s s′ : ReplayState) (l o : List ℕ) → afterLine cs s l ≡ goes s′ o → ((t : ℕ) → logEntryOf l ≡ tick t → ⊥) → s′ .tick ≡ s .tick
+  unfolding afterLineIn
+  tick-kept s s′ l o e h = sym (ap (tickLeft s) e) ∙ by (logEntryOf l) refl
+    where
+      by : (x : LogEntry) → logEntryOf l ≡ x → tickLeft s (afterEntry cs s x) ≡ s .tick
+      by (change b i n) q = refl
+      by (tick t) q = absurd (h t q)
+      by (run k) q = run-keeps k s (cardOf k cs)
+      by bad q = refl
+
+  pub ticked : (s : ReplayState) (l : List ℕ) (t : ℕ) → logEntryOf l ≡ tick t → afterLine cs s l ≡ goes (record { memory = s .memory; tick = t }) []
+  unfolding afterLineIn
+  ticked s l t e = ap (afterEntry cs s) e
+
+  -- a bad line
+  stopped-at : (s : ReplayState) (at : ℕ) (rest : ReplayState → List ℕ → Replay)
+      → onward s at stops rest ≡ record { text = refusalLines 16 at; state = s; at = at; pause = badLine }
+  stopped-at s at rest = refl
+
+  pub line-stops : (s : ReplayState) (l : List ℕ) → logEntryOf l ≡ bad → afterLine cs s l ≡ stops
+  unfolding afterLineIn
+  line-stops s l h = ap (afterEntry cs s) h
+
+  pub line-bad : (s : ReplayState) (at : ℕ) (l : List ℕ) (ls : List (List ℕ)) → logEntryOf l ≡ bad
+      → play s at (l ∷ ls) ≡ record { text = refusalLines 16 at; state = s; at = at; pause = badLine }
+  line-bad s at l ls h = ap (λ (x : AfterLine). onward s at x (λ s′ o. play s′ (at + length l) ls)) (line-stops s l h) ∙ stopped-at s at (λ s′ o. play s′ (at + length l) ls)
 
   pub lines-join : (s : ReplayState) (at : ℕ) (ls ms : List (List ℕ)) → play s at (ls ++ ms) ≡ andThen (play s at ls) (λ s′ at′. play s′ at′ ms)
   lines-join s at [] ms = refl
@@ -52,10 +89,23 @@ module _ (cs : List Card) where
       by stops h ih = let z : _≡_ {A = ℕ} 0 1 = cc in absurd (omega arith)
       by (goes s′ o) h ih = omega (arith, ih s′ h, length-append l (joined ls))
 
-  pub line-bad : (s : ReplayState) (at : ℕ) (l : List ℕ) (ls : List (List ℕ)) → logEntryOf l ≡ bad
-      → play s at (l ∷ ls) ≡ record { text = refusalLines 16 at; state = s; at = at; pause = badLine }
-  unfolding afterLine
-  line-bad s at l ls h = ap (λ (x : LogEntry). onward s at (afterEntry cs s x) (λ s′ o. play s′ (at + length l) ls)) h
+  -- the byte left lies in the log
+  pub lines-inside : (room : Room) (s : ReplayState) (at : ℕ) (ls : List (List ℕ))
+      → (at ≤ replayLines cs room s at ls .at) × (replayLines cs room s at ls .at ≤ at + length (joined ls))
+  lines-inside room s at [] = (omega arith, omega arith)
+  lines-inside room s at (l ∷ ls) = by (isFull room) (afterLine cs s l) (λ r s′. lines-inside r s′ (at + length l) ls)
+    where
+      by : (x : Bool) (y : AfterLine)
+          → ((r : Room) (s′ : ReplayState) → let z = replayLines cs r s′ (at + length l) ls in
+          (at + length l ≤ z .at) × (z .at ≤ at + length l + length (joined ls)))
+          → let z =
+          cond x (record { text = []; state = s; at = at; pause = full }) (onward s at y (λ s′ o. replayLines cs (without o room) s′ (at + length l) ls)) in
+          (at ≤ z .at) × (z .at ≤ at + length (l ++ joined ls))
+      by true y ih = (omega arith, omega arith)
+      by false stops ih = (omega arith, omega arith)
+      by false (goes s′ o) ih =
+          let i = ih (without o room) s′ in
+          (omega (arith, i .0), omega (arith, i .1, length-append l (joined ls)))
 
   -- ---- with n bytes lent
   abbrev pub playIn : ℕ → ReplayState → ℕ → List (List ℕ) → Replay

@@ -1,5 +1,6 @@
 -- The theorems of the replay.
 use mathlib.Core.Path.{_≡_, refl, sym, ap, _∙_}
+use mathlib.Core.Bool.{true, false}
 use mathlib.Core.List.{List, [], _∷_, _++_, append-assoc}
 use Prim.Native.Nat.{ℕ, _+_, _-_, _≤_, _<_}
 use native.Mathlib.Omega.{arith}
@@ -7,14 +8,19 @@ use lib.ListN.{length, drop, length-append}
 use lib.Seq.{drop-append-seam}
 use Rattle.card_laws.specs.Lines.{lineEnd, ended, Lacks}
 use Rattle.card_laws.specs.Cards.{Card}
+use Rattle.card_laws.specs.Reading.{CardsRead}
 use Rattle.salvage_laws.specs.Cut.{joined}
 use Rattle.salvage_laws.proofs.Parts.{cut-joined}
 use Rattle.log_laws.specs.Log.{bad, endsLine, logLines, logEntryOf}
-use Rattle.log_laws.specs.Replay.{ReplayState, Pause, full, logEnd, badLine, Replay, printed, lent, endless, lineRoom, replayLines, replayFrom}
-use Rattle.log_laws.specs.Theorems.{EndsInLine, thenBy, andThen, endedBad, ReplayTheorems, CallTheorems}
+use Rattle.log_laws.specs.Replay.{ReplayState, Pause, full, logEnd, badLine, Replay, printed, Room, lent, endless, lineRoom, replayLines, replayFrom, replayedWith}
+use Rattle.log_laws.specs.Theorems.{EndsInLine, thenBy, andThen, endedBad, ReplayTheorems, CallTheorems, WindowTheorems}
+use Rattle.log_laws.specs.Window.{windowSize}
 use Rattle.log_laws.proofs.Lines.{lines-append, one-line, rest-line, lines-rest, line-some, unended-bad}
-use Rattle.log_laws.proofs.Replaying.{play, lines-join, lines-taken, line-bad, Leaves, later, none, plays, first-taken}
+use Rattle.log_laws.proofs.Replaying.{play, tick-kept, ticked, lines-join, lines-taken, lines-inside, line-bad, Leaves, later, none, plays, first-taken}
 use Rattle.log_laws.proofs.Calling.{calls}
+use Rattle.log_laws.proofs.Fits.{fit}
+use Rattle.log_laws.proofs.Long.{long-bad}
+use Rattle.log_laws.proofs.Windows.{closes, fails}
 
 module _ (cs : List Card) (s : ReplayState) (at : ℕ) where
   abbrev whole : List ℕ → Replay
@@ -85,16 +91,36 @@ module _ (cs : List Card) (s : ReplayState) (at : ℕ) where
       within r p (later t ms q e j a w) =
           omega (arith, a, ap length (sym (cut-joined endsLine log) ∙ j), length-append t (joined ms))
 
+  inside : (room : Room) (log : List ℕ) → let r = replayFrom cs room s at log in (at ≤ r .at) × (r .at ≤ at + length log)
+  inside room log =
+      let i = lines-inside cs room s at (logLines log) in
+      (i .0, omega (arith, i .1, ap length (cut-joined endsLine log)))
+
 pub replay-theorems : ReplayTheorems
 replay-theorems = record {
   joins = λ cs s at a b e. joins cs s at a b e;
   ends = λ cs s at a b e h. ends cs s at a b e h;
   bad-line = λ cs s at a l b e h n w. bad-line cs s at a l b e h n w;
   bad-rest = λ cs s at a c l e h n. bad-rest cs s at a c l e h n;
+  ticks = λ cs s l t e. ticked cs s l t e;
+  tick-kept = λ cs s s′ l o e h. tick-kept cs s s′ l o e h;
   resumes = λ cs n s at log h. resumes cs s at n log h;
   finishes = λ cs n s at log h. finishes cs s at n log h;
   advances = λ cs n s at log b h. advances cs s at n log b h;
+  inside = λ cs room s at log. inside cs s at room log;
+  fits = λ cs n s at log i h. fit cs n s at (logLines log) i (omega (arith, h, ap length (cut-joined endsLine log)));
 }
 
 pub call-theorems : CallTheorems
 call-theorems = record { calls = λ file log m t l k. calls replay-theorems file log m t l k }
+
+pub window-theorems : WindowTheorems
+window-theorems = record {
+  closes = λ cs size s at held log t w k. closes replay-theorems cs size w refl not-over k;
+  prints = λ file log t cs e k. closes replay-theorems cs windowSize (omega arith) refl not-over k ∙ ap (λ (x : CardsRead). replayedWith log x) (sym e);
+  fails = λ cs size s at held log t w k. fails replay-theorems cs size w refl refl k;
+  long-line = long-bad;
+}
+  where
+    not-over : {log : List ℕ} → false ≡ true → log ≡ []
+    not-over e = let z : _≡_ {A = ℕ} 0 1 = cc in absurd (omega arith)

@@ -6,12 +6,12 @@ use Prim.Native.Nat.{ℕ, _+_, _-_, _%_, _^_}
 use lib.Dec.{eqb, ltb}
 use lib.ListN.{length, drop}
 use Rattle.words.specs.Ascii.{ascii}
-use Rattle.memory.specs.Layout.{imageSize, packed}
+use Rattle.memory.specs.Layout.{ImageLayout, packed}
 use Rattle.operations.specs.declared.Answer.the-variants.{Refused}
-use Rattle.operations.specs.Operations.{reportOf, Request, request, requestAnswer, requestMemory}
+use Rattle.operations.specs.Operations.{reportOf, Request, requestIn, requestAnswerIn, requestMemoryIn}
 use Rattle.lines.specs.Printing.{decimalText}
 use Rattle.program.specs.Cases.{zeros}
-use Rattle.program.specs.Reply.{reportText, answerText}
+use Rattle.program.specs.Reply.{reportText, answerTextIn}
 use Rattle.card_laws.specs.Lines.{ended}
 use Rattle.card_laws.specs.Cards.{Card, card}
 use Rattle.card_laws.specs.Reading.{CardsRead, good, bad, readCards}
@@ -23,10 +23,6 @@ use Rattle.log_laws.specs.Log as Log
 pub record ReplayState : Type 0 where
   pub memory : List ℕ
   pub tick : ℕ
-
--- "starts from an image of zeros and tick 0"
-abbrev pub firstState : ReplayState
-firstState = record { memory = zeros imageSize; tick = 0 }
 
 -- after a line: the state and what is printed; or the line is bad
 pub data AfterLine : Type 0 where
@@ -41,27 +37,6 @@ pub data FoundCard : Type 0 where
 abbrev pub cardOf : ℕ → List Card → FoundCard
 cardOf k [] = lacks
 cardOf k (card n t e ∷ cs) = cond (eqb n k) (found t e) (cardOf k cs)
-
--- "prints for each run the lines that document 01's program prints"
-abbrev pub afterRequest : ReplayState → Request → AfterLine
-afterRequest s q =
-    let m = requestMemory (s .tick) (s .memory) q in
-    goes (record { memory = m; tick = s .tick }) (answerText m (requestAnswer (s .tick) (s .memory) q))
-
--- "a card that the book lacks is skipped and printed as `unknown=` and its number"
-abbrev pub afterRun : ℕ → ReplayState → FoundCard → AfterLine
-afterRun k s (found t e) = afterRequest s (request t e (s .memory) (zeros 16384) (zeros 16384))
-afterRun k s lacks = goes s (ended (ascii "unknown=" ++ decimalText k) [])
-
--- a change puts its pattern into the cell; a tick is kept until the next
-abbrev pub afterEntry : List Card → ReplayState → LogEntry → AfterLine
-afterEntry cs s (change b i n) = goes (record { memory = packed .put (s .memory) b i n; tick = s .tick }) []
-afterEntry cs s (tick t) = goes (record { memory = s .memory; tick = t }) []
-afterEntry cs s (run k) = afterRun k s (cardOf k cs)
-afterEntry cs s Log.bad = stops
-
-unfoldable pub afterLine : List Card → ReplayState → List ℕ → AfterLine
-afterLine cs s l = afterEntry cs s (logEntryOf l)
 
 -- why a replay pauses: no room for a further line, the log's end, a bad line
 pub data Pause : Type 0 where
@@ -105,24 +80,6 @@ abbrev pub onward : ReplayState → ℕ → AfterLine → (ReplayState → List 
 onward s at (goes s′ o) rest = printed o (rest s′ o)
 onward s at stops rest = record { text = refusalLines 16 at; state = s; at = at; pause = badLine }
 
--- line after line, from the byte `at` of the log
-abbrev pub replayLines : List Card → Room → ReplayState → ℕ → List (List ℕ) → Replay
-replayLines cs room s at [] = record { text = []; state = s; at = at; pause = logEnd }
-replayLines cs room s at (l ∷ ls) =
-    cond (isFull room) (record { text = []; state = s; at = at; pause = full })
-    (onward s at (afterLine cs s l) (λ s′ o. replayLines cs (without o room) s′ (at + length l) ls))
-
-abbrev pub replayFrom : List Card → Room → ReplayState → ℕ → List ℕ → Replay
-replayFrom cs room s at log = replayLines cs room s at (logLines log)
-
--- "a refused book prints its answer and place, and nothing is replayed"
-abbrev pub replayedWith : List ℕ → CardsRead → List ℕ
-replayedWith log (good cs) = replayFrom cs endless firstState 0 log .text
-replayedWith log (bad a p) = refusalLines a p
-
-abbrev pub replayed : List ℕ → List ℕ → List ℕ
-replayed file log = replayedWith log (readCards formulaAnswer file)
-
 -- ---- a replay in calls, each with a memory and some bytes lent; the words are all 0 at first
 pub record CallWords : Type 0 where
   pub at : ℕ
@@ -146,18 +103,100 @@ doneAt c = record { at = c .at; tick = c .tick; done = 1 }
 abbrev pub afterReplay : Replay → Called
 afterReplay r = record { words = record { at = r .at; tick = r .state .tick; done = isOver (r .pause) }; memory = r .state .memory; text = r .text }
 
--- "starts from an image of zeros": where no line was taken yet, whatever the memory holds; of the tick the low 32 bits count
+-- ---- on an image of any layout
+module _ (F : ImageLayout) where
+  -- "starts from an image of zeros and tick 0"
+  abbrev pub firstStateIn : ReplayState
+  firstStateIn = record { memory = zeros (F .size); tick = 0 }
+
+  -- "prints for each run the lines that document 01's program prints"
+  abbrev pub afterRequestIn : ReplayState → Request → AfterLine
+  afterRequestIn s q =
+      let m = requestMemoryIn F (s .tick) (s .memory) q in
+      goes (record { memory = m; tick = s .tick }) (answerTextIn F m (requestAnswerIn F (s .tick) (s .memory) q))
+
+  -- "a card that the book lacks is skipped and printed as `unknown=` and its number"
+  abbrev pub afterRunIn : ℕ → ReplayState → FoundCard → AfterLine
+  afterRunIn k s (found t e) = afterRequestIn s (requestIn F t e (s .memory) (zeros 16384) (zeros 16384))
+  afterRunIn k s lacks = goes s (ended (ascii "unknown=" ++ decimalText k) [])
+
+  -- a change puts its pattern into the cell; a tick is kept until the next
+  abbrev pub afterEntryIn : List Card → ReplayState → LogEntry → AfterLine
+  afterEntryIn cs s (change b i n) = goes (record { memory = F .put (s .memory) b i n; tick = s .tick }) []
+  afterEntryIn cs s (tick t) = goes (record { memory = s .memory; tick = t }) []
+  afterEntryIn cs s (run k) = afterRunIn k s (cardOf k cs)
+  afterEntryIn cs s Log.bad = stops
+
+  unfoldable pub afterLineIn : List Card → ReplayState → List ℕ → AfterLine
+  afterLineIn cs s l = afterEntryIn cs s (logEntryOf l)
+
+  -- line after line, from the byte `at` of the log
+  abbrev pub replayLinesIn : List Card → Room → ReplayState → ℕ → List (List ℕ) → Replay
+  replayLinesIn cs room s at [] = record { text = []; state = s; at = at; pause = logEnd }
+  replayLinesIn cs room s at (l ∷ ls) =
+      cond (isFull room) (record { text = []; state = s; at = at; pause = full })
+      (onward s at (afterLineIn cs s l) (λ s′ o. replayLinesIn cs (without o room) s′ (at + length l) ls))
+
+  abbrev pub replayFromIn : List Card → Room → ReplayState → ℕ → List ℕ → Replay
+  replayFromIn cs room s at log = replayLinesIn cs room s at (logLines log)
+
+  -- "a refused book prints its answer and place, and nothing is replayed"
+  abbrev pub replayedWithIn : List ℕ → CardsRead → List ℕ
+  replayedWithIn log (good cs) = replayFromIn cs endless firstStateIn 0 log .text
+  replayedWithIn log (bad a p) = refusalLines a p
+
+  abbrev pub replayedIn : List ℕ → List ℕ → List ℕ
+  replayedIn file log = replayedWithIn log (readCards formulaAnswer file)
+
+  -- in a call: zeros where no line was taken yet, whatever the memory holds; of the tick the low 32 bits count
+  abbrev pub stateAtIn : List ℕ → CallWords → ReplayState
+  stateAtIn m c = cond (eqb (c .at) 0) firstStateIn (record { memory = m; tick = c .tick % 2 ^ 32 })
+
+  abbrev pub calledWithIn : List ℕ → List ℕ → ℕ → CallWords → CardsRead → Called
+  calledWithIn log m n c (good cs) = afterReplay (replayFromIn cs (lent n) (stateAtIn m c) (c .at) (drop (c .at) log))
+  calledWithIn log m n c (bad a p) = record { words = doneAt c; memory = m; text = refusalLines a p }
+
+  -- over already; too few bytes lent; a memory of another size is 1; a refused file; then the lines
+  abbrev pub replayCallIn : List ℕ → List ℕ → List ℕ → ℕ → CallWords → Called
+  replayCallIn file log m n c =
+      cond (ltb 0 (c .done)) (record { words = doneAt c; memory = m; text = [] })
+      (cond (ltb n lineRoom) (record { words = c; memory = m; text = [] })
+      (cond (eqb (length m) (F .size)) (calledWithIn log m n c (readCards formulaAnswer file))
+      (record { words = doneAt c; memory = m; text = refusalLines 1 0 })))
+
+-- ---- on the box's image
+abbrev pub firstState : ReplayState
+firstState = firstStateIn packed
+
+abbrev pub afterRequest : ReplayState → Request → AfterLine
+afterRequest = afterRequestIn packed
+
+abbrev pub afterRun : ℕ → ReplayState → FoundCard → AfterLine
+afterRun = afterRunIn packed
+
+abbrev pub afterEntry : List Card → ReplayState → LogEntry → AfterLine
+afterEntry = afterEntryIn packed
+
+abbrev pub afterLine : List Card → ReplayState → List ℕ → AfterLine
+afterLine = afterLineIn packed
+
+abbrev pub replayLines : List Card → Room → ReplayState → ℕ → List (List ℕ) → Replay
+replayLines = replayLinesIn packed
+
+abbrev pub replayFrom : List Card → Room → ReplayState → ℕ → List ℕ → Replay
+replayFrom = replayFromIn packed
+
+abbrev pub replayedWith : List ℕ → CardsRead → List ℕ
+replayedWith = replayedWithIn packed
+
+abbrev pub replayed : List ℕ → List ℕ → List ℕ
+replayed = replayedIn packed
+
 abbrev pub stateAt : List ℕ → CallWords → ReplayState
-stateAt m c = cond (eqb (c .at) 0) firstState (record { memory = m; tick = c .tick % 2 ^ 32 })
+stateAt = stateAtIn packed
 
 abbrev pub calledWith : List ℕ → List ℕ → ℕ → CallWords → CardsRead → Called
-calledWith log m n c (good cs) = afterReplay (replayFrom cs (lent n) (stateAt m c) (c .at) (drop (c .at) log))
-calledWith log m n c (bad a p) = record { words = doneAt c; memory = m; text = refusalLines a p }
+calledWith = calledWithIn packed
 
--- over already; too few bytes lent; a memory of another size is 1; a refused file; then the lines
 abbrev pub replayCall : List ℕ → List ℕ → List ℕ → ℕ → CallWords → Called
-replayCall file log m n c =
-    cond (ltb 0 (c .done)) (record { words = doneAt c; memory = m; text = [] })
-    (cond (ltb n lineRoom) (record { words = c; memory = m; text = [] })
-    (cond (eqb (length m) imageSize) (calledWith log m n c (readCards formulaAnswer file))
-    (record { words = doneAt c; memory = m; text = refusalLines 1 0 })))
+replayCall = replayCallIn packed

@@ -26,8 +26,9 @@ use Rattle.log_replay.specs.declared.Pause as Code
 use Rattle.log_replay.specs.declared.Replayed.{Replayed}
 use Rattle.log_replay.specs.declared.ReplayWords.{ReplayWords}
 use Rattle.log_replay.specs.Replays.{pauseIn, Plays, callWords, CallGives}
-use Rattle.log_replay.specs.private.Steps.{cardsOf, cardsIn, stateIn, Book, doneIn, stateFrom}
-use Rattle.log_replay.proofs.Rows.{words-count}
+use Rattle.log_lines.specs.private.Steps.{cardsOf, cardsIn, stateIn, Book}
+use Rattle.log_replay.specs.private.Steps.{doneIn, stateFrom}
+use Rattle.log_lines.proofs.Rows.{words-count}
 
 -- ---- the state of a call's first line
 module _ (m : List ℕ) (at t : ℕ) where

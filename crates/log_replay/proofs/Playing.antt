@@ -10,25 +10,36 @@ use lib.ListN.{length, take, drop, getD, length-drop, drop-of-length-le}
 use lib.Seq.{drop-cons, drop-drop, length-sets, length-take-le, take-all}
 use borrow.Author.Tests.{lt-ltb, le-ltb, ltb-true, ltb-false}
 use Rattle.memory.specs.Layout.{imageSize}
+use Rattle.operations.specs.declared.Answer.the-variants.{Refused}
+use Rattle.operations.specs.declared.Report.{Report}
+use Rattle.operations.specs.Operations.{reportOf}
 use Rattle.lines.specs.private.Steps.{Puts}
 use Rattle.lines.proofs.Stores.{then, as-text}
+use Rattle.program.specs.Reply.{reportText}
+use Rattle.program.proofs.reply.Whole.{front}
 use Rattle.card_laws.specs.Lines.{toEnd}
 use Rattle.card_laws.specs.Cards.{Card}
 use Rattle.log_laws.specs.Log.{LogEntry, logLines, logEntryOf}
-use Rattle.log_laws.specs.Replay.{ReplayState, AfterLine, goes, stops, afterEntry, afterLine, Pause, full, logEnd, badLine, Replay, printed}
+use Rattle.log_laws.specs.Replay.{ReplayState, AfterLine, goes, stops, afterEntry, afterLine, afterLineIn, Pause, full, logEnd, badLine, Replay, printed}
 use Rattle.log_laws.specs.Replay.{lent, lineRoom, refusalLines, onward, replayLines, replayFrom}
 use Rattle.log_replay.specs.declared.Pause.the-variants.{Full, End, BadLine}
 use Rattle.log_replay.specs.Replays.{Plays}
-use Rattle.log_replay.specs.declared.entry.Entry.{Entry}
-use Rattle.log_replay.specs.declared.Step.{Step}
-use Rattle.log_replay.specs.declared.Step.the-variants.{On, Stop}
-use Rattle.log_replay.specs.private.Steps.{entryIn, stateIn, Goes, Takes, TakesEntry}
-use Rattle.log_replay.proofs.Steps.{takes-on, takes-stop}
-use Rattle.log_replay.proofs.Cuts.{firstLine, behindFirst, first-line, entry-bad}
+use Rattle.log_lines.specs.declared.entry.Entry.{Entry}
+use Rattle.log_lines.specs.declared.Step.{Step}
+use Rattle.log_lines.specs.declared.Step.the-variants.{On, Stop}
+use Rattle.log_lines.specs.private.Steps.{entryIn, stateIn, Goes, Takes, TakesEntry}
+use Rattle.log_lines.proofs.Steps.{takes-on, takes-stop}
+use Rattle.log_lines.proofs.Cuts.{firstLine, behindFirst, first-line, entry-bad}
 
 -- what follows a place, as the code takes it
 pub rest-of : (log : List ℕ) (from : ℕ) → take (length log - from) (drop from log) ≡ drop from log
 rest-of log from = take-all (length log - from) (drop from log) (omega (arith, length-drop from log))
+
+-- ---- a refusal
+pub refusal-put : {out out′ bytes bytes′ : List ℕ} {at m end answer place : ℕ} {r : Report} → r ≡ reportOf (Refused answer place)
+    → Puts bytes 0 bytes′ m (reportText r) → m ≤ length bytes
+    → Puts out at out′ end (take m bytes′) → Puts out at out′ end (refusalLines answer place)
+refusal-put e p h q = as-text (front p h ∙ ap reportText e) q
 
 module _ (cs : List Card) where
   -- ---- the first line
@@ -48,7 +59,7 @@ module _ (cs : List Card) where
   After st s = afterEntry cs st (logEntryOf (firstLine s))
 
   taken : (n : ℕ) (st : ReplayState) (at : ℕ) (s : List ℕ) → 0 < length s → lineRoom ≤ n → replayFrom cs (lent n) st at s ≡ Onward n st at s (After st s)
-  unfolding afterLine
+  unfolding afterLineIn
   taken n st at s h r =
       opened n st at s h ∙ ap (λ (x : Bool). cond x (record { text = []; state = st; at = at; pause = full }) (Onward n st at s (After st s)))
       (le-ltb n lineRoom r)

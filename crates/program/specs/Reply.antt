@@ -10,7 +10,7 @@ use lib.ListN.{length, take}
 use lib.Seq.{sets}
 use Rattle.values.specs.declared.Value.{Value}
 use Rattle.memory.specs.declared.Bank.{Bank}
-use Rattle.memory.specs.Layout.{layoutOf, packed}
+use Rattle.memory.specs.Layout.{layoutOf, ImageLayout, packed}
 use Rattle.operations.specs.declared.Answer.{Answer}
 use Rattle.operations.specs.declared.Answer.the-variants.{Done, Fault, Refused}
 use Rattle.operations.specs.declared.Report.{Report}
@@ -31,19 +31,31 @@ placeKey = ascii "\nplace="
 abbrev pub reportText : Report → List ℕ
 reportText r = answerKey ++ decimalText (r .answer) ++ placeKey ++ decimalText (r .place) ++ ascii "\n"
 
--- a cell's name and what it holds
+-- ---- of an image of any layout
+module _ (F : ImageLayout) where
+  -- a cell's name and what it holds
+  abbrev pub cellLineIn : List ℕ → Bank → ℕ → List ℕ
+  cellLineIn m b i = cellName b i ++ ascii "=" ++ cellText b (F .get m b i) ++ ascii "\n"
+
+  -- the third line, in the memory after the store
+  abbrev pub storedTextIn : List ℕ → Answer → List ℕ
+  storedTextIn m (Done v n b i) = cellLineIn m b i
+  storedTextIn m (Fault f n) = []
+  storedTextIn m (Refused a p) = []
+
+  -- the lines of an answer, with the memory that is left
+  abbrev pub answerTextIn : List ℕ → Answer → List ℕ
+  answerTextIn m a = reportText (reportOf a) ++ storedTextIn m a
+
+-- ---- of the box's image
 abbrev pub cellLine : List ℕ → Bank → ℕ → List ℕ
-cellLine m b i = cellName b i ++ ascii "=" ++ cellText b (packed .get m b i) ++ ascii "\n"
+cellLine = cellLineIn packed
 
--- the third line, in the memory after the store
 abbrev pub storedText : List ℕ → Answer → List ℕ
-storedText m (Done v n b i) = cellLine m b i
-storedText m (Fault f n) = []
-storedText m (Refused a p) = []
+storedText = storedTextIn packed
 
--- the lines of an answer, with the memory that is left
 abbrev pub answerText : List ℕ → Answer → List ℕ
-answerText m a = reportText (reportOf a) ++ storedText m a
+answerText = answerTextIn packed
 
 -- the cell that an answer names is one of its bank
 pub record CellInside (a : Answer) : Type 0 where

@@ -2,7 +2,7 @@
 use mathlib.Core.Path.{ap, _∙_}
 use Prim.Native.Nat.{ℕ, _-_}
 use lib.ListN.{length, take, drop}
-use Rattle.log_replay.specs.private.Steps.{cardsIn}
+use Rattle.log_lines.specs.private.Steps.{cardsIn}
 use Rattle.log_replay.proofs.Calling.{clipped, lines-give}
 use borrow.Author.Needs.{needs}
 use Rattle.log_replay.proofs.play.Statement.{statement}

@@ -3,7 +3,7 @@ use mathlib.Core.Path.{sym}
 use native.Mathlib.Omega.{arith}
 use lib.ListN.{length-take}
 use lib.Seq.{length-take-le}
-use Rattle.log_replay.proofs.Steps.{refusal-put}
+use Rattle.log_replay.proofs.Playing.{refusal-put}
 use borrow.Author.Needs.{needs}
 use Rattle.log_replay.proofs.put_refusal.Statement.{statement}
 use Rattle.log_replay.proofs.put_refusal.Tie as tie

@@ -4,7 +4,7 @@ use Prim.Native.Nat.{_-_}
 use native.Mathlib.Omega.{arith}
 use lib.ListN.{length}
 use Rattle.log_laws.specs.Replay.{lent, replayFrom}
-use Rattle.log_replay.specs.private.Steps.{cardsIn, stateIn}
+use Rattle.log_lines.specs.private.Steps.{cardsIn, stateIn}
 use Rattle.log_replay.proofs.Playing.{Playing, start, ended, filled, long, go-on, unmoved, halt}
 use borrow.Author.Needs.{needs}
 use Rattle.log_replay.proofs.replay_lines.Statement.{statement}
