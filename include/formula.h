@@ -103,7 +103,7 @@ enum formula_bank {
 
 struct formula_report {
     uint32_t answer;  /* one of enum formula_answer */
-    uint32_t place;   /* answers 4 to 9: the byte of the expression that it is about; else 0 */
+    uint32_t place;   /* answers 4 to 9: the byte of the expression that it is about; else 0, and 0 for formatting's own 3, 8 and 10 */
     uint32_t kind;    /* one of enum formula_kind: the value's. 0 on a refusal or fault, and for compiling and checking */
     uint32_t bits;    /* the value's 32-bit pattern, before the store; 0 where kind is 0 for want of a value */
     uint32_t count;   /* compiling: instructions written; formatting: bytes written; running: instructions begun and cells visited, the index's included; else 0 */

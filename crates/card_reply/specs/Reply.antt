@@ -1,4 +1,4 @@
--- What the program `cards` prints of a file (issue of request 6): "Three lines always, and two more on a refusal": `card=` the number in the refused card's
+-- What the program `cards` prints of a file (paper 02, request 6), three lines always, and two more on a refusal: `card=` the number in the refused card's
 -- first line, left out where that line has not its form, and `words=` the answer in words.
 use mathlib.Core.Bool.{cond}
 use mathlib.Core.List.{List, [], _++_}

@@ -1,4 +1,5 @@
-// A formula as it is saved: key=value lines on standard input to its end, as for the program `formula`; on standard output its answer and place, and on 0 its text.
+// A formula as it is saved: key=value lines on standard input to its end, as for the program `formula`; on standard output its answer and place, and on 0
+// its text.
 ghost use Rattle.program.specs.Stream.{StreamBuffers};
 use libc::STDIN_FILENO;
 use libc::STDOUT_FILENO;

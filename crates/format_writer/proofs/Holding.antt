@@ -33,10 +33,12 @@ module _ {o buf : List ℕ} {n : ℕ} (b : ℕ) where
 pub nothing-yet : {o buf : List ℕ} {n : ℕ} → Holds o buf n → Holds (o ++ []) buf n
 nothing-yet {o} {buf} {n} h = subst (λ (x : List ℕ). Holds x buf n) (sym (append-nil o)) h
 
-pub one-more : (o : List ℕ) {buf : List ℕ} {n : ℕ} (bytes : List ℕ) (k : ℕ) → k < length bytes → Holds (o ++ take k bytes ++ (getD bytes k 0 ∷ [])) buf n → Holds (o ++ take (k + 1) bytes) buf n
+pub one-more : (o : List ℕ) {buf : List ℕ} {n : ℕ} (bytes : List ℕ) (k : ℕ) → k < length bytes → Holds (o ++ take k bytes ++ (getD bytes k 0 ∷ [])) buf n
+    → Holds (o ++ take (k + 1) bytes) buf n
 one-more o {buf} {n} bytes k l h =
     let e : o ++ take k bytes ++ (getD bytes k 0 ∷ []) ≡ o ++ take (k + 1) bytes =
-    append-assoc o (take k bytes) (getD bytes k 0 ∷ []) ∙ ap (λ (x : List ℕ). o ++ x) (sym (take-suc bytes k 0 l) ∙ ap (λ (i : ℕ). take i bytes) (sym (add-one k))) in
+    append-assoc o (take k bytes) (getD bytes k 0 ∷ []) ∙ ap (λ (x : List ℕ). o ++ x)
+    (sym (take-suc bytes k 0 l) ∙ ap (λ (i : ℕ). take i bytes) (sym (add-one k))) in
     subst (λ (x : List ℕ). Holds x buf n) e h
 
 -- ---- a part moved by one byte: c is carried to the place i
@@ -86,7 +88,8 @@ module _ (o x : List ℕ) where
   -- after the part was moved
   pub moved : {buf m : List ℕ} {n start : ℕ} → n + 2 ≤ length buf → length m ≡ length buf → StartsBehind o buf start → Holds (o ++ x) buf n
       → ((p q : List ℕ) → take n buf ≡ p ++ q → start ≡ length p → take (n + 1) m ≡ p ++ (byte "(" ∷ q)) → Holds (o ++ (byte "(" ∷ x)) m (n + 1)
-  moved {buf = buf} {n = n} l s b (kept h e) f = let q = held-length buf n h e in let z = length-append o x in kept (omega (arith, s)) (f o x e (b (omega arith)))
+  moved {buf = buf} {n = n} l s b (kept h e) f = let q = held-length buf n h e in let z = length-append o x in
+      kept (omega (arith, s)) (f o x e (b (omega arith)))
   moved l s b (lost h k) f = absurd (omega arith)
 
   pub closed : {m : List ℕ} {n : ℕ} → Holds (o ++ (byte "(" ∷ x) ++ (byte ")" ∷ [])) m n → Holds (o ++ (ascii "(" ++ (x ++ ascii ")"))) m n

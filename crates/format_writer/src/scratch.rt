@@ -1,4 +1,5 @@
-// A text written from the front of a buffer that may be too small for it: behind the buffer's end nothing is written, and one byte past it stands for everything beyond.
+// A text written from the front of a buffer that may be too small for it: behind the buffer's end nothing is written, and one byte past it stands for
+// everything beyond.
 ghost use mathlib.Core.Path.{_≡_};
 ghost use mathlib.Core.List.{List, [], _∷_, _++_};
 ghost use Prim.Native.Nat.{ℕ, _+_, _<_};

@@ -35,14 +35,24 @@ Each P (suc k) = Each P k × P k
 
 each : (P : ℕ → Type 0) (k : ℕ) → Each P k → (n : ℕ) → n < k → P n
 each P zero all n h = absurd (omega arith)
-each P (suc k) all n h = by-test (ltb n k) (λ e. each P k (all .0) n (ltb-true n k e)) (λ e. let q : k ≡ n = omega (arith, ltb-false n k e) in subst P q (all .1))
+each P (suc k) all n h = by-test (ltb n k) (λ e. each P k (all .0) n (ltb-true n k e))
+    (λ e. let q : k ≡ n = omega (arith, ltb-false n k e) in subst P q (all .1))
 
 -- the first eighteen symbols are the operators of values, in their order
 abbrev Written : ℕ → Type 0
 Written n = binaryNotation (getD binaryOps n Power) ≡ symbol n
 
 written : (n : ℕ) → n < 18 → Written n
-written n h = each Written 18 ((((((((((((((((((tt, refl), refl), refl), refl), refl), refl), refl), refl), refl), refl), refl), refl), refl), refl), refl), refl), refl), refl) n h
+written n h = each Written 18 (
+  (
+    (
+      (((((((((((((((tt, refl), refl), refl), refl), refl), refl), refl), refl), refl), refl), refl), refl), refl), refl), refl),
+      refl,
+    ),
+    refl,
+  ),
+  refl,
+) n h
 
 -- then `&&` and `||`
 logical : (n : ℕ) → 18 ≤ n → n < 20 → logicSymbol (eqb n 19) ≡ n
@@ -56,10 +66,18 @@ infixed s n p t u h =
     by-test (ltb n 18)
     (λ e. let w = written n (ltb-true n 18 e) in
     let same : infixTree n p t u ≡ binary p (getD binaryOps n Power) t u = rw e in
-    record { text = ap (formatted s) same ∙ ap (λ (z : Notation). binaryText z (lexeme s p) (top t) (formatted s t) (top u) (formatted s u)) w; group = ap top same ∙ ap notationGroup w })
+    record {
+      text = ap (formatted s) same ∙ ap (λ (z : Notation). binaryText z (lexeme s p) (top t) (formatted s t) (top u) (formatted s u)) w;
+      group =
+          ap top same ∙ ap notationGroup w;
+    })
     (λ e. let w = logical n (ltb-false n 18 e) h in
     let same : infixTree n p t u ≡ logic p (eqb n 19) t u = rw e in
-    record { text = ap (formatted s) same ∙ ap (λ (z : ℕ). infixText z (top t) (formatted s t) (top u) (formatted s u)) w; group = ap top same ∙ ap groupNumber w })
+    record {
+      text = ap (formatted s) same ∙ ap (λ (z : ℕ). infixText z (top t) (formatted s t) (top u) (formatted s u)) w;
+      group = ap top same
+          ∙ ap groupNumber w;
+    })
 
 -- ---- climbing on from a tree
 pub record Climbs (l : ℕ) (s : List ℕ) (t : Tree) (ts : List Tok) (x : List ℕ) (g : ℕ) (r : List Tok) : Type 0 where
@@ -82,7 +100,13 @@ unfolding expression
 started l s ts (says zero d e) = let z : _≡_ {A = ℕ} 0 1 = cc in absurd (omega arith)
 started l s ts (says (suc f) d {t} {r} e) =
     let h = through (operand f d ts) (λ t z. climb f d l t z) e in
-    record { first = h .first; left = h .left; operand = says f d (h .is); onward = record { fuel = f; room = d; tree = t; climbs = h .then; text = refl; group = refl } }
+    record {
+      first = h .first;
+      left = h .left;
+      operand = says f d (h .is);
+      onward =
+          record { fuel = f; room = d; tree = t; climbs = h .then; text = refl; group = refl };
+    }
 
 -- no operator of the group l or tighter comes next
 abbrev pub headBinds : ℕ → List Tok → Bool
@@ -98,7 +122,8 @@ pub record Stopped (s : List ℕ) (t : Tree) (ts : List Tok) (x : List ℕ) (g :
 ok-tree : {t u : Tree} {r z : List Tok} → ok t r ≡ ok u z → (t ≡ u) × (r ≡ z)
 ok-tree e = (cc, cc)
 
-pub stopped : (l : ℕ) (s : List ℕ) (t : Tree) (ts : List Tok) {x : List ℕ} {g : ℕ} {r : List Tok} → headBinds l ts ≡ false → Climbs l s t ts x g r → Stopped s t ts x g r
+pub stopped : (l : ℕ) (s : List ℕ) (t : Tree) (ts : List Tok) {x : List ℕ} {g : ℕ} {r : List Tok} → headBinds l ts ≡ false → Climbs l s t ts x g r
+    → Stopped s t ts x g r
 unfolding climb
 stopped l s t ts {x} {g} {r} b h = go (h .fuel) (h .climbs)
   where
@@ -127,7 +152,14 @@ operated l s t n p ts {x} {g} {r} low high h = go (h .fuel) (h .climbs)
     go : (f : ℕ) → climb f (h .room) l t (tok (Symbol n) p ∷ ts) ≡ ok (h .tree) r → Operated l s t n p ts x g r
     go zero e = let z : _≡_ {A = ℕ} 0 1 = cc in absurd (omega arith)
     go (suc f) e =
-        let step : climb (suc f) (h .room) l t (tok (Symbol n) p ∷ ts) ≡ andThen (expression f (h .room) (groupNumber n - 1) ts) (λ u z. climb f (h .room) l (infixTree n p t u) z) =
+        let step : climb (suc f) (h .room) l t (tok (Symbol n) p ∷ ts) ≡ andThen (expression f (h .room) (groupNumber n - 1) ts)
+        (λ u z. climb f (h .room) l (infixTree n p t u) z) =
         rw (climb, le-leb 1 (groupNumber n) low, le-leb (groupNumber n) l high) in
         let y = through (expression f (h .room) (groupNumber n - 1) ts) (λ u z. climb f (h .room) l (infixTree n p t u) z) (sym step ∙ e) in
-        record { right = y .first; left = y .left; says = says f (h .room) (y .is); onward = record { fuel = f; room = h .room; tree = h .tree; climbs = y .then; text = h .text; group = h .group } }
+        record {
+          right = y .first;
+          left = y .left;
+          says = says f (h .room) (y .is);
+          onward =
+              record { fuel = f; room = h .room; tree = h .tree; climbs = y .then; text = h .text; group = h .group };
+        }

@@ -53,9 +53,11 @@ assoc a b x =
     by-test (leb b x)
     (λ f. ap (max a) (max-eq-right (leb-true b x f)) ∙ ap (λ (z : ℕ). max z x) (sym (max-eq-left (omega (arith, h)))))
     (λ f. let k = leb-false b x f in
-    ap (max a) (max-eq-left (omega (arith, k))) ∙ max-eq-left (omega (arith, h)) ∙ sym (ap (λ (z : ℕ). max z x) (max-eq-left (omega (arith, h))) ∙ max-eq-left (omega (arith, h, k)))))
+    ap (max a) (max-eq-left (omega (arith, k))) ∙ max-eq-left (omega (arith, h))
+    ∙ sym (ap (λ (z : ℕ). max z x) (max-eq-left (omega (arith, h))) ∙ max-eq-left (omega (arith, h, k)))))
 
-pub depth-step : (s : List ℕ) (i m d : ℕ) {m′ d′ : ℕ} → i < length s → m′ ≡ max m d → d′ ≡ openBehind d (getD s i 0) → max m′ (levelsFrom d′ (drop (i + 1) s)) ≡ max m (levelsFrom d (drop i s))
+pub depth-step : (s : List ℕ) (i m d : ℕ) {m′ d′ : ℕ} → i < length s → m′ ≡ max m d → d′ ≡ openBehind d (getD s i 0)
+    → max m′ (levelsFrom d′ (drop (i + 1) s)) ≡ max m (levelsFrom d (drop i s))
 depth-step s i m d {m′} {d′} h p q =
     ap (λ (z : ℕ). max z (levelsFrom d′ (drop (i + 1) s))) p ∙ ap (λ (z : ℕ). max (max m d) (levelsFrom z (drop (i + 1) s))) q
     ∙ ap (λ (z : ℕ). max (max m d) (levelsFrom (openBehind d (getD s i 0)) (drop z s))) (add-one i)

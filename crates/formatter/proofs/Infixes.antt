@@ -49,9 +49,17 @@ pub record Climbing (l : ℕ) (s table : List ℕ) (at : ℕ) (buf out : List �
 pub operand-some : (l : ℕ) (s : List ℕ) (ts : List Tok) → Some (SaysExpression l s ts) → Some (SaysOperand s ts)
 operand-some l s ts k = let m = started l s ts (k .is) in record { text = formatted s (m .first); group = top (m .first); left = m .left; is = m .operand }
 
-pub climb-starts : {l : ℕ} {s table : List ℕ} {at : ℕ} {buf out : List ℕ} {n j e h : ℕ} → Position s table at → Formats (SaysOperand s (tokensFrom table at)) s table at buf out n j e h → Climbing l s table at buf out n j e h
+pub climb-starts : {l : ℕ} {s table : List ℕ} {at : ℕ} {buf out : List ℕ} {n j e h : ℕ} → Position s table at
+    → Formats (SaysOperand s (tokensFrom table at)) s table at buf out n j e h → Climbing l s table at buf out n j e h
 climb-starts {l} {s} {table} {at} {buf} {out} {n} {j} {e} {h} p f =
-    record { ahead = f .ahead; within = f .within; counted = f .counted; position = record { words = p .words; typed = f .typed }; climbs = λ x g r m. go (started l s (tokensFrom table at) m) }
+    record {
+      ahead = f .ahead;
+      within = f .within;
+      counted = f .counted;
+      position = record { words = p .words; typed = f .typed };
+      climbs =
+          λ x g r m. go (started l s (tokensFrom table at) m);
+    }
   where
     go : {x : List ℕ} {g : ℕ} {r : List Tok} → Started l s (tokensFrom table at) x g r → Climbed l s table buf out n j e h x g r
     go {x} {g} {r} m =
@@ -84,7 +92,8 @@ loose-group : (l : ℕ) (ts : List Tok) → l < headGroup ts → headBinds l ts 
 loose-group l [] e = refl
 loose-group l (x ∷ xs) e = rw (lt-leb (tokenGroup (x .token)) l e, and-false)
 
-module _ {l : ℕ} {s table : List ℕ} {at : ℕ} {buf out : List ℕ} {n j e h : ℕ} (c : Climbing l s table at buf out n j e h) {w g : ℕ} (word : w ≡ wordAt table j) (group : g ≡ groupIn w) where
+module _ {l : ℕ} {s table : List ℕ} {at : ℕ} {buf out : List ℕ} {n j e h : ℕ} (c : Climbing l s table at buf out n j e h) {w g : ℕ}
+    (word : w ≡ wordAt table j) (group : g ≡ groupIn w) where
   group-is : g ≡ headGroup (tokensFrom table j)
   group-is = group ∙ ap groupIn word ∙ group-head table j (c .position .words)
 
@@ -124,7 +133,16 @@ module _ {l : ℕ} {s table : List ℕ} {at : ℕ} {buf out : List ℕ} {n j e h
         of-token (Cell b i) p xs q k = absurd (z k)
         of-token (Letter b) p xs q k = absurd (z k)
         of-token (Name f) p xs q k = absurd (z k)
-        of-token (Symbol m) p xs q k = record { number = m; place = p; left = xs; is = q; few = few-groups m (λ y. z (k ∙ y)); tier = sym k; spot = here s table j (c .position) q }
+        of-token (Symbol m) p xs q k = record {
+          number = m;
+          place = p;
+          left = xs;
+          is = q;
+          few = few-groups m (λ y. z (k ∙ y));
+          tier = sym k;
+          spot =
+              here s table j (c .position) q;
+        }
 
         go : (ts : List Tok) → tokensFrom table j ≡ ts → Found
         go [] q = absurd (z (group-is ∙ ap headGroup q))
@@ -139,12 +157,14 @@ module _ {l : ℕ} {s table : List ℕ} {at : ℕ} {buf out : List ℕ} {n j e h
     pub right-position : Position s table (j + 1)
     right-position = found .spot .next
 
-    right : {x : List ℕ} {k : ℕ} {r : List Tok} (v : Climbed l s table buf out n j e h x k r) → Operated l s (v .tree) (found .number) (found .place) (found .left) x k r
+    right : {x : List ℕ} {k : ℕ} {r : List Tok} (v : Climbed l s table buf out n j e h x k r)
+        → Operated l s (v .tree) (found .number) (found .place) (found .left) x k r
     right {x} {k} {r} v =
         operated l s (v .tree) (found .number) (found .place) (found .left) (omega (arith, found .tier, z)) (omega (arith, found .tier, high))
         (subst (λ (ts : List Tok). Climbs l s (v .tree) ts x k r) (found .is) (v .onward))
 
-    right-says : {x : List ℕ} {k : ℕ} {r : List Tok} (v : Climbed l s table buf out n j e h x k r) (m : Operated l s (v .tree) (found .number) (found .place) (found .left) x k r)
+    right-says : {x : List ℕ} {k : ℕ} {r : List Tok} (v : Climbed l s table buf out n j e h x k r)
+        (m : Operated l s (v .tree) (found .number) (found .place) (found .left) x k r)
         → SaysExpression (g - 1) s (tokensFrom table (j + 1)) (formatted s (m .right)) (top (m .right)) (m .left)
     right-says v m =
         subst (λ (ts : List Tok). SaysExpression (g - 1) s ts (formatted s (m .right)) (top (m .right)) (m .left)) (sym (found .spot .left))
@@ -157,11 +177,14 @@ module _ {l : ℕ} {s table : List ℕ} {at : ℕ} {buf out : List ℕ} {n j e h
         record { text = formatted s (m .right); group = top (m .right); left = m .left; is = right-says v m }
 
     -- the left operand, the operator, the right one
-    module _ {out₁ out₂ out₃ out₄ : List ℕ} {e₁ e₂ j₃ e₃ h₃ e₄ : ℕ} (l₁ : length out ≡ length buf) (l₂ : length out₂ ≡ length buf) (l₃ : length out₃ ≡ length buf)
+    module _ {out₁ out₂ out₃ out₄ : List ℕ} {e₁ e₂ j₃ e₃ h₃ e₄ : ℕ} (l₁ : length out ≡ length buf) (l₂ : length out₂ ≡ length buf)
+        (l₃ : length out₃ ≡ length buf)
         (a : Encloses (isOtherInfix g h) out n e out₁ e₁) (b : Appends out₁ e₁ out₂ e₂ (ascii " " ++ (lexeme s (wordPlace w) ++ ascii " ")))
-        (f : Formats (SaysExpression (g - 1) s (tokensFrom table (j + 1))) s table (j + 1) out₂ out₃ e₂ j₃ e₃ h₃) (ct : Counted e₄ out₃) (d : Encloses (isInfix h₃) out₃ e₂ e₃ out₄ e₄) where
+        (f : Formats (SaysExpression (g - 1) s (tokensFrom table (j + 1))) s table (j + 1) out₂ out₃ e₂ j₃ e₃ h₃) (ct : Counted e₄ out₃)
+        (d : Encloses (isInfix h₃) out₃ e₂ e₃ out₄ e₄) where
       spelt : lexeme s (wordPlace w) ≡ symbolBytes (found .number)
-      spelt = ap (λ (i : ℕ). lexeme s (wordPlace i)) word ∙ ap (lexeme s) (found .spot .place) ∙ symbol-spelt s (found .number) (found .place) (found .spot .end) (found .spot .typed)
+      spelt = ap (λ (i : ℕ). lexeme s (wordPlace i)) word ∙ ap (lexeme s) (found .spot .place)
+          ∙ symbol-spelt s (found .number) (found .place) (found .spot .end) (found .spot .typed)
 
       joined : {x : List ℕ} {k : ℕ} {r : List Tok} → Climbed l s table buf out n j e h x k r → Climbed l s table buf out₄ n j₃ e₄ g x k r
       joined {x} {k} {r} v =
@@ -172,7 +195,8 @@ module _ {l : ℕ} {s table : List ℕ} {at : ℕ} {buf out : List ℕ} {n j e h
           let u = formatted s (m .right) in
           let op = ascii " " ++ (lexeme s (wordPlace w) ++ ascii " ") in
           let q = parenthesized (isOtherInfix g h) t in
-          let same : (o : List ℕ) → o ++ q ++ op ++ parenthesized (isInfix h₃) u ≡ o ++ formatted s (infixTree (found .number) (found .place) (v .tree) (m .right)) =
+          let same : (o : List ℕ) → o ++ q ++ op ++ parenthesized (isInfix h₃) u ≡ o
+          ++ formatted s (infixTree (found .number) (found .place) (v .tree) (m .right)) =
           λ o. append-assoc (o ++ q) op (parenthesized (isInfix h₃) u) ∙ append-assoc o q (op ++ parenthesized (isInfix h₃) u)
           ∙ ap (λ (z : List ℕ). o ++ (q ++ z)) (ap (λ (z : List ℕ). ascii " " ++ (z ++ ascii " ") ++ parenthesized (isInfix h₃) u) spelt ∙ ap (λ (z : List ℕ). ascii " " ++ z) (append-assoc (symbolBytes (found .number)) (ascii " ") (parenthesized (isInfix h₃) u)))
           ∙ ap (λ (z : List ℕ). o ++ z) (

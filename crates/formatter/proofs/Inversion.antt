@@ -75,7 +75,8 @@ pub record Ranged (ts : List Tok) (k : Bank → ℕ → ℕ → ℤ → Tree) (t
 ok-tree : {t u : Tree} {r z : List Tok} → ok t r ≡ ok u z → (t ≡ u) × (r ≡ z)
 ok-tree e = (cc, cc)
 
-counted : (b : Bank) (i o q : ℕ) (ts : List Tok) (k : Bank → ℕ → ℕ → ℤ → Tree) {t : Tree} {r : List Tok} → expectCount ts (λ p n s. expect closeParen s (λ v. ok (k b i p n) v)) ≡ ok t r
+counted : (b : Bank) (i o q : ℕ) (ts : List Tok) (k : Bank → ℕ → ℕ → ℤ → Tree) {t : Tree} {r : List Tok}
+    → expectCount ts (λ p n s. expect closeParen s (λ v. ok (k b i p n) v)) ≡ ok t r
     → Ranged (tok (Cell b i) o ∷ tok (Symbol comma) q ∷ ts) k t r
 counted b i o q [] k e = let z : _≡_ {A = ℕ} 0 1 = cc in absurd (omega arith)
 counted b i o q (x ∷ xs) k {t} {r} e = go (x .token) refl
@@ -96,7 +97,8 @@ counted b i o q (x ∷ xs) k {t} {r} e = go (x .token) refl
           p = x .place;
           c = y .place;
           is = ap (λ (u : Token). tok (Cell b i) o ∷ tok (Symbol comma) q ∷ tok u (x .place) ∷ xs) m
-              ∙ ap (λ (u : List Tok). tok (Cell b i) o ∷ tok (Symbol comma) q ∷ tok (Number (Int n)) (x .place) ∷ u) (y .is ∙ ap (λ (u : List Tok). tok (Symbol closeParen) (y .place) ∷ u) (h .1));
+              ∙ ap (λ (u : List Tok). tok (Cell b i) o ∷ tok (Symbol comma) q ∷ tok (Number (Int n)) (x .place) ∷ u)
+              (y .is ∙ ap (λ (u : List Tok). tok (Symbol closeParen) (y .place) ∷ u) (h .1));
           tree = sym (h .0);
         }
     value (Real y) m = impossible (rw m at e)

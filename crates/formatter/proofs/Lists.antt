@@ -92,7 +92,8 @@ module _ {s table : List ℕ} {at : ℕ} (p : Position s table at) (c : isMark c
       go : {x : List ℕ} {g : ℕ} {r : List Tok} → SaysExpression loosest s (tokensFrom table at) x g r → ⊥
       go (says f d e) = no-close s f d (close .0) (close .1) (ap (expression f d loosest) (sym (close .2)) ∙ e)
 
-  pub close-writes : {buf out : List ℕ} {n e : ℕ} → Counted e buf → Appends buf n out e (lexeme s (wordPlace (wordAt table at))) → Formats (SaysList s (tokensFrom table at)) s table at buf out n (at + 1) e 0
+  pub close-writes : {buf out : List ℕ} {n e : ℕ} → Counted e buf → Appends buf n out e (lexeme s (wordPlace (wordAt table at)))
+      → Formats (SaysList s (tokensFrom table at)) s table at buf out n (at + 1) e 0
   close-writes {buf} {out} {n} {e} ct w =
       record { ahead = omega arith; within = omega (arith, spot .within); counted = ct; typed = spot .next .typed; writes = λ x g r m. go m }
     where
@@ -177,7 +178,8 @@ module _ {s table : List ℕ} {at : ℕ} {buf out : List ℕ} {n j e : ℕ} (l :
           lists = λ x g r m. let k = further (l .lists x g r m) in go k (k .says) refl;
         }
       where
-        go : {x : List ℕ} {g : ℕ} {r : List Tok} (k : Further x g r) {v : List ℕ} → SaysItems s (tokensFrom table (j + 1)) v r → k .later ≡ v → Onward s table buf out₂ n j₂ e₂ x g r
+        go : {x : List ℕ} {g : ℕ} {r : List Tok} (k : Further x g r) {v : List ℕ} → SaysItems s (tokensFrom table (j + 1)) v r → k .later ≡ v
+            → Onward s table buf out₂ n j₂ e₂ x g r
         go k (last f′ d {t} m q z y) w =
             let v = f .writes (formatted s t) (top t) _ (says f′ d y) in
             let b = k .written in
@@ -216,7 +218,15 @@ module _ {s table : List ℕ} {at : ℕ} {buf out : List ℕ} {n j e : ℕ} (l :
     closed {x} {g} {r} o = go (o .behind) (o .whole)
       where
         go : {rest : List ℕ} {r : List Tok} → Behind s (tokensFrom table j) rest r → x ≡ o .written ++ rest → Closed x g r
-        go (ends-with m q z y) w = record { number = m; place = q; written = o .written; spot = here s table j (l .position) y; whole = w; bare = o .bare; text = o .text }
+        go (ends-with m q z y) w = record {
+          number = m;
+          place = q;
+          written = o .written;
+          spot = here s table j (l .position) y;
+          whole = w;
+          bare = o .bare;
+          text = o .text;
+        }
         go (goes-on q y m) w = no (sym c ∙ mark-head table j (l .position .words) comma ∙ ap (headIs comma) y)
 
     module _ (k : Some (SaysList s (tokensFrom table at))) where
@@ -229,15 +239,25 @@ module _ {s table : List ℕ} {at : ℕ} {buf out : List ℕ} {n j e : ℕ} (l :
       pub closer-within : j < length table
       closer-within = known .spot .within
 
-      pub list-ends : {out′ : List ℕ} {e′ : ℕ} → Counted e′ buf → Appends out e out′ e′ (lexeme s (wordPlace (wordAt table j))) → Formats (SaysList s (tokensFrom table at)) s table at buf out′ n (j + 1) e′ 0
+      pub list-ends : {out′ : List ℕ} {e′ : ℕ} → Counted e′ buf → Appends out e out′ e′ (lexeme s (wordPlace (wordAt table j)))
+          → Formats (SaysList s (tokensFrom table at)) s table at buf out′ n (j + 1) e′ 0
       list-ends {out′} {e′} ct a =
-          record { ahead = omega (arith, l .ahead); within = omega (arith, closer-within); counted = ct; typed = known .spot .next .typed; writes = λ x g r m. go (closed (l .lists x g r m)) }
+          record {
+            ahead = omega (arith, l .ahead);
+            within = omega (arith, closer-within);
+            counted = ct;
+            typed = known .spot .next .typed;
+            writes =
+                λ x g r m. go (closed (l .lists x g r m));
+          }
         where
           go : {x : List ℕ} {g : ℕ} {r : List Tok} → Closed x g r → Writes table x g r buf out′ n (j + 1) e′ 0
           go v =
-              let lx : lexeme s (wordPlace (wordAt table j)) ≡ symbolBytes (v .number) = ap (lexeme s) (v .spot .place) ∙ symbol-spelt s (v .number) (v .place) (v .spot .end) (v .spot .typed) in
+              let lx : lexeme s (wordPlace (wordAt table j)) ≡ symbolBytes (v .number) = ap (lexeme s) (v .spot .place)
+              ∙ symbol-spelt s (v .number) (v .place) (v .spot .end) (v .spot .typed) in
               record {
                 next = v .spot .left;
                 top = sym (v .bare);
-                text = λ o i. held-as (append-assoc o (v .written) _ ∙ ap (λ (u : List ℕ). o ++ u) (ap (λ (u : List ℕ). v .written ++ u) lx ∙ sym (v .whole))) (a _ (v .text o i));
+                text = λ o i. held-as (append-assoc o (v .written) _ ∙ ap (λ (u : List ℕ). o ++ u)
+                    (ap (λ (u : List ℕ). v .written ++ u) lx ∙ sym (v .whole))) (a _ (v .text o i));
               }

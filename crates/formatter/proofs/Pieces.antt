@@ -19,7 +19,8 @@ use Rattle.format_laws.specs.Formatted.{lexeme, parenthesized, isInfix, isOther
 use Rattle.format_writer.specs.private.Scratch.{Holds, Counted, StartsBehind}
 use Rattle.format_writer.specs.private.Spelling.{StandsAt}
 use Rattle.format_writer.proofs.Holding.{starts-behind, nothing-yet}
-use Rattle.formatter.specs.private.Walk.{Typed, Position, Says, says, SaysExpression, SaysOperand, SaysPrimary, SaysList, Some, Writes, Formats, none, more, WritesSigns}
+use Rattle.formatter.specs.private.Walk.{Typed, Position, Says, says, SaysExpression, SaysOperand, SaysPrimary, SaysList, Some, Writes, Formats}
+use Rattle.formatter.specs.private.Walk.{none, more, WritesSigns}
 use Rattle.formatter.proofs.Spelt.{symbol-spelt, lexeme-is}
 use Rattle.formatter.proofs.Primaries.{PrimaryOf, leaf, headed, grouped, primary-of}
 use Rattle.formatter.proofs.Steps.{Here, here, Chain, chain, Chained, bare, signed-by, no-more-signs}
@@ -37,11 +38,13 @@ abbrev pub Appends : List ℕ → ℕ → List ℕ → ℕ → List ℕ → Type
 Appends buf n buf′ e x = (o : List ℕ) → Holds o buf n → Holds (o ++ x) buf′ e
 
 -- of a word that the code has
-pub by-word : (s : List ℕ) {v w : ℕ} → v ≡ w → {buf out : List ℕ} {n e : ℕ} → Appends buf n out e (lexeme s (wordPlace v)) → Appends buf n out e (lexeme s (wordPlace w))
+pub by-word : (s : List ℕ) {v w : ℕ} → v ≡ w → {buf out : List ℕ} {n e : ℕ} → Appends buf n out e (lexeme s (wordPlace v))
+    → Appends buf n out e (lexeme s (wordPlace w))
 by-word s q {buf} {out} {n} {e} a = subst (λ (i : ℕ). Appends buf n out e (lexeme s (wordPlace i))) q a
 
 -- ---- operands
-module _ {s table : List ℕ} {at first : ℕ} (p : Position s table at) (g : Signs table at first) {buf out : List ℕ} {n start : ℕ} (w : WritesSigns s table at first buf out n start) where
+module _ {s table : List ℕ} {at first : ℕ} (p : Position s table at)
+    (g : Signs table at first) {buf out : List ℕ} {n start : ℕ} (w : WritesSigns s table at first buf out n start) where
   linked : {y : List ℕ} {h : ℕ} {r : List Tok} → SaysOperand s (tokensFrom table at) y h r → Chain s table at first (w .bytes) y h r
   linked m = chain p (w .signs) (g .each) m .1
 
@@ -53,29 +56,58 @@ module _ {s table : List ℕ} {at first : ℕ} (p : Position s table at) (g : Si
       let c = linked (k .is) in
       record { text = c .inner; group = c .group; left = k .left; is = no-more-signs s table first (p .words) (g .stops) (c .says) }
 
-  module _ (long : length out ≡ length buf) {out₂ : List ℕ} {j e h : ℕ} (f : Formats (SaysPrimary s (tokensFrom table first)) s table first out out₂ start j e h) where
+  module _ (long : length out ≡ length buf) {out₂ : List ℕ} {j e h : ℕ}
+      (f : Formats (SaysPrimary s (tokensFrom table first)) s table first out out₂ start j e h) where
     writes-inner : {y : List ℕ} {k : ℕ} {r : List Tok} (c : Chain s table at first (w .bytes) y k r) → Writes table (c .inner) (c .group) r out out₂ start j e h
     writes-inner {r = r} c = f .writes (c .inner) (c .group) r (no-more-signs s table first (p .words) (g .stops) (c .says))
 
     pub operand-bare : first ≡ at → Formats (SaysOperand s (tokensFrom table at)) s table at buf out₂ n j e h
-    operand-bare q = record { ahead = omega (arith, f .ahead); within = f .within; counted = omega (arith, f .counted, long); typed = f .typed; writes = λ x k r m. go (linked m) (linked m .chained) }
+    operand-bare q = record {
+      ahead = omega (arith, f .ahead);
+      within = f .within;
+      counted = omega (arith, f .counted, long);
+      typed = f .typed;
+      writes =
+          λ x k r m. go (linked m) (linked m .chained);
+    }
       where
-        go : {x : List ℕ} {k : ℕ} {r : List Tok} (c : Chain s table at first (w .bytes) x k r) → Chained at first (w .bytes) x k (c .inner) (c .group) → Writes table x k r buf out₂ n j e h
+        go : {x : List ℕ} {k : ℕ} {r : List Tok} (c : Chain s table at first (w .bytes) x k r) → Chained at first (w .bytes) x k (c .inner) (c .group)
+            → Writes table x k r buf out₂ n j e h
         go c (bare a b d i) =
             let v = writes-inner c in
-            record { next = v .next; top = v .top ∙ sym i; text = λ o z. held-as (ap (λ (u : List ℕ). o ++ u ++ c .inner) b ∙ ap (λ (u : List ℕ). u ++ c .inner) (append-nil o) ∙ ap (λ (u : List ℕ). o ++ u) (sym d)) (v .text (o ++ w .bytes) (w .text o z)) }
+            record {
+              next = v .next;
+              top = v .top ∙ sym i;
+              text = λ o z. held-as
+                  (ap (λ (u : List ℕ). o ++ u ++ c .inner) b ∙ ap (λ (u : List ℕ). u ++ c .inner) (append-nil o) ∙ ap (λ (u : List ℕ). o ++ u) (sym d))
+                  (v .text (o ++ w .bytes) (w .text o z));
+            }
         go c (signed-by a d i) = absurd (omega arith)
 
-    pub operand-signed : (first ≡ at → ⊥) → {out₃ : List ℕ} {e′ : ℕ} → length out₂ ≡ length out → Counted e′ out₂ → Encloses (isInfix h) out₂ start e out₃ e′ → Formats (SaysOperand s (tokensFrom table at)) s table at buf out₃ n j e′ 0
-    operand-signed q {out₃} {e′} l ct en = record { ahead = omega (arith, f .ahead, g .ahead); within = f .within; counted = omega (arith, ct, long, l); typed = f .typed; writes = λ x k r m. go (linked m) (linked m .chained) }
+    pub operand-signed : (first ≡ at → ⊥) → {out₃ : List ℕ} {e′ : ℕ} → length out₂ ≡ length out → Counted e′ out₂
+        → Encloses (isInfix h) out₂ start e out₃ e′ → Formats (SaysOperand s (tokensFrom table at)) s table at buf out₃ n j e′ 0
+    operand-signed q {out₃} {e′} l ct en = record {
+      ahead = omega (arith, f .ahead, g .ahead);
+      within = f .within;
+      counted = omega (arith, ct, long, l);
+      typed = f .typed;
+      writes = λ x k r m. go (linked m) (linked m .chained);
+    }
       where
-        go : {x : List ℕ} {k : ℕ} {r : List Tok} (c : Chain s table at first (w .bytes) x k r) → Chained at first (w .bytes) x k (c .inner) (c .group) → Writes table x k r buf out₃ n j e′ 0
+        go : {x : List ℕ} {k : ℕ} {r : List Tok} (c : Chain s table at first (w .bytes) x k r) → Chained at first (w .bytes) x k (c .inner) (c .group)
+            → Writes table x k r buf out₃ n j e′ 0
         go c (bare a b d i) = absurd (q a)
         go {x} c (signed-by a d i) =
             let v = writes-inner c in
             let same : (o : List ℕ) → o ++ w .bytes ++ parenthesized (isInfix h) (c .inner) ≡ o ++ x =
-            λ o. ap (λ (m : ℕ). o ++ w .bytes ++ parenthesized (isInfix m) (c .inner)) (v .top) ∙ append-assoc o (w .bytes) (parenthesized (isInfix (c .group)) (c .inner)) ∙ ap (λ (u : List ℕ). o ++ u) (sym d) in
-            record { next = v .next; top = sym i; text = λ o z. held-as (same o) (en (o ++ w .bytes) (c .inner) (starts-behind (w .text o z) out₂ l) (v .text (o ++ w .bytes) (w .text o z))) }
+            λ o. ap (λ (m : ℕ). o ++ w .bytes ++ parenthesized (isInfix m) (c .inner)) (v .top)
+            ∙ append-assoc o (w .bytes) (parenthesized (isInfix (c .group)) (c .inner)) ∙ ap (λ (u : List ℕ). o ++ u) (sym d) in
+            record {
+              next = v .next;
+              top = sym i;
+              text = λ o z. held-as (same o)
+                  (en (o ++ w .bytes) (c .inner) (starts-behind (w .text o z) out₂ l) (v .text (o ++ w .bytes) (w .text o z)));
+            }
 
 -- ---- a token that is there
 pub record There (s table : List ℕ) (at : ℕ) : Type 0 where
@@ -101,7 +133,8 @@ module _ {s table : List ℕ} {at : ℕ} (p : Position s table at) (k : Some (Sa
 
   cased : {y : List ℕ} {g : ℕ} {r : List Tok} → SaysPrimary s (tokensFrom table at) y g r → PrimaryOf s (first .token) (first .left) y g r
   cased {y} {g} {r} m =
-      primary-of s (first .token .token) (first .token .place) (first .left) (subst (Typed s) (first .is) (p .typed)) (subst (λ (ts : List Tok). SaysPrimary s ts y g r) (first .is) m)
+      primary-of s (first .token .token) (first .token .place) (first .left) (subst (Typed s) (first .is) (p .typed))
+      (subst (λ (ts : List Tok). SaysPrimary s ts y g r) (first .is) m)
 
   class : wordClass (wordAt table at) ≡ tokenClass (first .token .token)
   class = first .here .class
@@ -115,15 +148,27 @@ module _ {s table : List ℕ} {at : ℕ} (p : Position s table at) (k : Some (Sa
         go (leaf a b d e) = absurd (omega (arith, class))
         go (headed a b n q d e f g) = absurd (omega (arith, class))
         go (grouped a q m) =
-            record { text = k .text; group = k .group; left = tok (Symbol closeParen) q ∷ k .left; is = subst (λ (ts : List Tok). SaysExpression loosest s ts (k .text) (k .group) (tok (Symbol closeParen) q ∷ k .left)) (sym (first .here .left)) m }
+            record {
+              text = k .text;
+              group = k .group;
+              left = tok (Symbol closeParen) q ∷ k .left;
+              is =
+                  subst (λ (ts : List Tok). SaysExpression loosest s ts (k .text) (k .group) (tok (Symbol closeParen) q ∷ k .left)) (sym (first .here .left)) m;
+            }
 
     module _ {buf out : List ℕ} {n j e h : ℕ} (f : Formats (SaysExpression loosest s (tokensFrom table (at + 1))) s table (at + 1) buf out n j e h) where
-      closes : {y : List ℕ} {g : ℕ} {r : List Tok} → PrimaryOf s (first .token) (first .left) y g r → (q : ℕ) × Writes table y g (tok (Symbol closeParen) q ∷ r) buf out n j e h
+      closes : {y : List ℕ} {g : ℕ} {r : List Tok} → PrimaryOf s (first .token) (first .left) y g r
+          → (q : ℕ) × Writes table y g (tok (Symbol closeParen) q ∷ r) buf out n j e h
       closes (leaf a b d e) = absurd (omega (arith, class))
       closes (headed a b n q d e f g) = absurd (omega (arith, class))
-      closes {y} {g} {r} (grouped a q m) = (q, f .writes y g (tok (Symbol closeParen) q ∷ r) (subst (λ (ts : List Tok). SaysExpression loosest s ts y g (tok (Symbol closeParen) q ∷ r)) (sym (first .here .left)) m))
+      closes {y} {g} {r} (grouped a q m) = (
+        q,
+        f .writes y g (tok (Symbol closeParen) q ∷ r)
+            (subst (λ (ts : List Tok). SaysExpression loosest s ts y g (tok (Symbol closeParen) q ∷ r)) (sym (first .here .left)) m),
+      )
 
-      closer : {y : List ℕ} {g q : ℕ} {r : List Tok} → Writes table y g (tok (Symbol closeParen) q ∷ r) buf out n j e h → Here s table j (tok (Symbol closeParen) q) r
+      closer : {y : List ℕ} {g q : ℕ} {r : List Tok} → Writes table y g (tok (Symbol closeParen) q ∷ r) buf out n j e h
+          → Here s table j (tok (Symbol closeParen) q) r
       closer v = here s table j (record { words = p .words; typed = f .typed }) (v .next)
 
       pub group-writes : Formats (SaysPrimary s (tokensFrom table at)) s table at buf out n (j + 1) e h
@@ -139,14 +184,27 @@ module _ {s table : List ℕ} {at : ℕ} (p : Position s table at) (k : Some (Sa
           }
 
   -- a number or a cell
-  pub leaf-writes : wordClass (wordAt table at) < 4 → {buf out : List ℕ} {n e : ℕ} → Counted e buf → Appends buf n out e (lexeme s (wordPlace (wordAt table at)))
+  pub leaf-writes : wordClass (wordAt table at) < 4 → {buf out : List ℕ} {n e : ℕ} → Counted e buf
+      → Appends buf n out e (lexeme s (wordPlace (wordAt table at)))
       → Formats (SaysPrimary s (tokensFrom table at)) s table at buf out n (at + 1) e 0
   leaf-writes c {buf} {out} {n} {e} ct w =
-      record { ahead = omega arith; within = omega (arith, first .here .within); counted = ct; typed = first .here .next .typed; writes = λ x g r m. go (cased m) }
+      record {
+        ahead = omega arith;
+        within = omega (arith, first .here .within);
+        counted = ct;
+        typed = first .here .next .typed;
+        writes =
+            λ x g r m. go (cased m);
+      }
     where
       go : {x : List ℕ} {g : ℕ} {r : List Tok} → PrimaryOf s (first .token) (first .left) x g r → Writes table x g r buf out n (at + 1) e 0
       go (leaf a b d f) =
-          record { next = first .here .left ∙ f; top = sym d; text = λ o z. held-as (ap (λ (u : List ℕ). o ++ u) (ap (lexeme s) (first .here .place) ∙ sym b)) (w o z) }
+          record {
+            next = first .here .left ∙ f;
+            top = sym d;
+            text = λ o z. held-as
+                (ap (λ (u : List ℕ). o ++ u) (ap (lexeme s) (first .here .place) ∙ sym b)) (w o z);
+          }
       go (headed a b n q d e f g) = absurd (omega (arith, class))
       go (grouped a q m) = absurd (omega (arith, class))
 
@@ -177,7 +235,8 @@ module _ {s table : List ℕ} {at : ℕ} (p : Position s table at) (k : Some (Sa
           bytes = z;
           behind = h;
           says = subst (λ (ts : List Tok). SaysList s ts z 0 r) (sym (ap (tokensFrom table) (sym two) ∙ h .left)) e;
-          text = f ∙ ap (λ (u : List ℕ). u ++ (symbolBytes n ++ z)) (ap (lexeme s) (sym (first .here .place))) ∙ ap (λ (u : List ℕ). lexeme s (wordPlace (wordAt table at)) ++ (u ++ z)) (sym lx);
+          text = f ∙ ap (λ (u : List ℕ). u ++ (symbolBytes n ++ z)) (ap (lexeme s) (sym (first .here .place)))
+              ∙ ap (λ (u : List ℕ). lexeme s (wordPlace (wordAt table at)) ++ (u ++ z)) (sym lx);
           bare = g;
         }
     head (grouped a q m) = absurd (c′ (class ∙ a))
@@ -197,10 +256,19 @@ module _ {s table : List ℕ} {at : ℕ} (p : Position s table at) (k : Some (Sa
     pub list-some : Some (SaysList s (tokensFrom table (at + 2)))
     list-some = record { text = known .bytes; group = 0; left = k .left; is = known .says }
 
-    pub headed-writes : {buf out out₂ out₃ : List ℕ} {n e e₂ j e₃ h : ℕ} → length out₂ ≡ length buf → Appends buf n out e (lexeme s (wordPlace (wordAt table at))) → Appends out e out₂ e₂ (lexeme s (wordPlace (wordAt table (at + 1))))
-        → Formats (SaysList s (tokensFrom table (at + 2))) s table (at + 2) out₂ out₃ e₂ j e₃ h → Formats (SaysPrimary s (tokensFrom table at)) s table at buf out₃ n j e₃ h
+    pub headed-writes : {buf out out₂ out₃ : List ℕ} {n e e₂ j e₃ h : ℕ} → length out₂ ≡ length buf
+        → Appends buf n out e (lexeme s (wordPlace (wordAt table at))) → Appends out e out₂ e₂ (lexeme s (wordPlace (wordAt table (at + 1))))
+        → Formats (SaysList s (tokensFrom table (at + 2))) s table (at + 2) out₂ out₃ e₂ j e₃ h
+        → Formats (SaysPrimary s (tokensFrom table at)) s table at buf out₃ n j e₃ h
     headed-writes {buf} {out₃ = out₃} {n} {j = j} {e₃ = e₃} {h = h} l a b f =
-        record { ahead = omega (arith, f .ahead); within = f .within; counted = omega (arith, f .counted, l); typed = f .typed; writes = λ x g r m. go x g r (head (cased m)) }
+        record {
+          ahead = omega (arith, f .ahead);
+          within = f .within;
+          counted = omega (arith, f .counted, l);
+          typed = f .typed;
+          writes =
+              λ x g r m. go x g r (head (cased m));
+        }
       where
         go : (x : List ℕ) (g : ℕ) (r : List Tok) → Head x g r → Writes table x g r buf out₃ n j e₃ h
         go x g r w =
@@ -210,10 +278,11 @@ module _ {s table : List ℕ} {at : ℕ} (p : Position s table at) (k : Some (Sa
             record {
               next = v .next;
               top = v .top ∙ sym (w .bare);
-              text = λ o z. held-as (append-assoc (o ++ l₁) l₂ (w .bytes) ∙ append-assoc o l₁ (l₂ ++ w .bytes) ∙ ap (λ (u : List ℕ). o ++ u) (sym (w .text))) (v .text (o ++ l₁ ++ l₂) (b (o ++ l₁) (a o z)));
+              text = λ o z. held-as (append-assoc (o ++ l₁) l₂ (w .bytes) ∙ append-assoc o l₁ (l₂ ++ w .bytes)
+                  ∙ ap (λ (u : List ℕ). o ++ u) (sym (w .text))) (v .text (o ++ l₁ ++ l₂) (b (o ++ l₁) (a o z)));
             }
 
--- ---- the helpers
+-- ---- the functions outside of the cycle
 module _ (s : List ℕ) (a m r : ℕ) (f : (h : StandsAt s a m) → r ≡ h .end) where
   typed-bytes : StandsAt s a m → take (r - a) (drop a s) ≡ lexeme s a
   typed-bytes h = ap (λ (e : ℕ). take (e - a) (drop a s)) (f h) ∙ sym (lexeme-is s (h .token) a (h .end) (h .stands))
@@ -237,7 +306,8 @@ other-group {g} {t} q = rw (ne-eqb t g q, or-false)
 pub no-signs-yet : {s table buf : List ℕ} {at n : ℕ} → Counted n buf → WritesSigns s table at at buf buf n n
 no-signs-yet c = record { bytes = []; signs = none; text = λ o h. nothing-yet h; counted = c }
 
-pub signs-more : {s table buf out out₂ : List ℕ} {at i n e e₂ v : ℕ} → WritesSigns s table at i buf out n e → v ≡ wordAt table i → length out ≡ length buf → Counted e₂ out → Appends out e out₂ e₂ (lexeme s (wordPlace v))
+pub signs-more : {s table buf out out₂ : List ℕ} {at i n e e₂ v : ℕ} → WritesSigns s table at i buf out n e → v ≡ wordAt table i → length out ≡ length buf
+    → Counted e₂ out → Appends out e out₂ e₂ (lexeme s (wordPlace v))
     → WritesSigns s table at (i + 1) buf out₂ n e₂
 signs-more {s} {table} {i = i} w q l c a =
     let lx = ap (λ (x : ℕ). lexeme s (wordPlace x)) q in
@@ -248,7 +318,8 @@ signs-more {s} {table} {i = i} w q l c a =
       counted = omega (arith, c, l);
     }
 
-pub spaced : (s : List ℕ) (w : ℕ) {buf out out₂ out₃ : List ℕ} {n e e₂ e₃ : ℕ} → Appends buf n out e (32 ∷ []) → Appends out e out₂ e₂ (lexeme s (wordPlace w)) → Appends out₂ e₂ out₃ e₃ (32 ∷ [])
+pub spaced : (s : List ℕ) (w : ℕ) {buf out out₂ out₃ : List ℕ} {n e e₂ e₃ : ℕ} → Appends buf n out e (32 ∷ [])
+    → Appends out e out₂ e₂ (lexeme s (wordPlace w)) → Appends out₂ e₂ out₃ e₃ (32 ∷ [])
     → Appends buf n out₃ e₃ (ascii " " ++ (lexeme s (wordPlace w) ++ ascii " "))
 spaced s w a b d o h =
     let x = lexeme s (wordPlace w) in

@@ -27,11 +27,14 @@ use Rattle.token_table.proofs.Laws.{tokenClass}
 use Rattle.lines.specs.Printing.{letterByte, cellName}
 use Rattle.grammar.specs.Tree.{Tree, literal, cell, indexed, tick, total, matching}
 use Rattle.grammar.specs.Grammar.{tok}
-use Rattle.grammar.specs.Symbols.{groupNumber, loosest, openParen, closeParen, openIndex, closeIndex, comma, Callee, of-one, of-two, of-choice, of-since, formOf, moreArguments, Arguments, one, more, argument, callTree}
-use Rattle.grammar.specs.Parse.{Result, ok, bad, deep, starved, andThen, expect, expectRange, enter, callBody, expression, operand, primary, bracket, arguments, climb}
+use Rattle.grammar.specs.Symbols.{groupNumber, loosest, openParen, closeParen, openIndex, closeIndex, comma, Callee, of-one, of-two, of-choice}
+use Rattle.grammar.specs.Symbols.{of-since, formOf, moreArguments, Arguments, one, more, argument, callTree}
+use Rattle.grammar.specs.Parse.{Result, ok, bad, deep, starved, andThen, expect, expectRange, enter, callBody, expression, operand, primary, bracket}
+use Rattle.grammar.specs.Parse.{arguments, climb}
 use Rattle.format_laws.specs.Formatted.{lexeme, function, unaryNotation, binaryNotation, separated, callText, top, formatted}
 use Rattle.format_writer.specs.private.Spelling.{Stands}
-use Rattle.formatter.specs.private.Walk.{Typed, some, Says, says, SaysExpression, SaysPrimary, SaysItems, last, more as more-of, SaysList, empty, items, primaryOf}
+use Rattle.formatter.specs.private.Walk.{Typed, some, Says, says, SaysExpression, SaysPrimary, SaysItems, last, more as more-of, SaysList}
+use Rattle.formatter.specs.private.Walk.{empty, items, primaryOf}
 use Rattle.formatter.proofs.Inversion.{through, met, entered, ranged}
 use Rattle.formatter.proofs.Spelt.{symbol-spelt, name-spelt, cell-spelt, letter-spelt}
 
@@ -70,7 +73,8 @@ listed s (suc f) d zero ts {us} {r} e =
     let h = through (expression f d loosest ts) (λ t z. expect closeParen z (λ q. ok (one t) q)) e in
     let c = met closeParen (h .left) (λ q. ok (one (h .first)) q) (h .then) in
     let o = ok-tree (c .then) in
-    let q : expression f d loosest ts ≡ ok (h .first) (tok (Symbol closeParen) (c .place) ∷ r) = h .is ∙ ap (ok (h .first)) (c .is ∙ ap (λ (z : List Tok). tok (Symbol closeParen) (c .place) ∷ z) (o .1)) in
+    let q : expression f d loosest ts ≡ ok (h .first) (tok (Symbol closeParen) (c .place) ∷ r) = h .is
+    ∙ ap (ok (h .first)) (c .is ∙ ap (λ (z : List Tok). tok (Symbol closeParen) (c .place) ∷ z) (o .1)) in
     subst (λ (vs : Arguments). Listed s 0 vs ts r) (o .0) (record { many = single (h .first); says = last f d closeParen (c .place) (λ z. omega arith) q })
 listed s (suc f) d (suc m) ts {us} {r} e =
     let h = through (expression f d loosest ts) (λ t z. expect comma z (λ q. andThen (arguments f d m q) (λ vs p. ok (more t vs) p))) e in
@@ -80,14 +84,20 @@ listed s (suc f) d (suc m) ts {us} {r} e =
     let rest = listed s f d m (c .left) (a .is ∙ ap (ok (a .first)) (o .1)) in
     let q : expression f d loosest ts ≡ ok (h .first) (tok (Symbol comma) (c .place) ∷ c .left) = h .is ∙ ap (ok (h .first)) (c .is) in
     subst (λ (vs : Arguments). Listed s (suc m) vs ts r) (o .0)
-    (record { many = further (h .first) (rest .many); says = subst (λ (z : List ℕ). SaysItems s ts z r) (join s (h .first) (a .first)) (more-of f d (c .place) q (rest .says)) })
+    (record {
+      many = further (h .first) (rest .many);
+      says = subst (λ (z : List ℕ). SaysItems s ts z r) (join s (h .first) (a .first))
+          (more-of f d (c .place) q (rest .says));
+    })
 
 -- ---- a range
-cell-says : (s : List ℕ) (b : Bank) (i o q : ℕ) (zs : List Tok) → expression 4 0 loosest (tok (Cell b i) o ∷ tok (Symbol comma) q ∷ zs) ≡ ok (cell b i) (tok (Symbol comma) q ∷ zs)
+cell-says : (s : List ℕ) (b : Bank) (i o q : ℕ) (zs : List Tok) → expression 4 0 loosest (tok (Cell b i) o ∷ tok (Symbol comma) q ∷ zs)
+    ≡ ok (cell b i) (tok (Symbol comma) q ∷ zs)
 unfolding expression groupNumber
 cell-says s b i o q zs = refl
 
-count-says : (s : List ℕ) (n : ℤ) (p c : ℕ) (zs : List Tok) → expression 4 0 loosest (tok (Number (Int n)) p ∷ tok (Symbol closeParen) c ∷ zs) ≡ ok (literal p (Int n)) (tok (Symbol closeParen) c ∷ zs)
+count-says : (s : List ℕ) (n : ℤ) (p c : ℕ) (zs : List Tok) → expression 4 0 loosest (tok (Number (Int n)) p ∷ tok (Symbol closeParen) c ∷ zs)
+    ≡ ok (literal p (Int n)) (tok (Symbol closeParen) c ∷ zs)
 unfolding expression groupNumber
 count-says s n p c zs = refl
 
@@ -110,7 +120,8 @@ data Called : Callee → Type 0 where
   choosing : Called of-choice
   timing : Called of-since
 
-called : (s : List ℕ) (p : ℕ) {c : Callee} {m : ℕ} {us : Arguments} → Called c → moreArguments c ≡ m → Many m us → (formatted s (callTree c p us) ≡ callText (lexeme s p) (texts s us)) × (top (callTree c p us) ≡ 0)
+called : (s : List ℕ) (p : ℕ) {c : Callee} {m : ℕ} {us : Arguments} → Called c → moreArguments c ≡ m → Many m us
+    → (formatted s (callTree c p us) ≡ callText (lexeme s p) (texts s us)) × (top (callTree c p us) ≡ 0)
 unfolding formatted
 called s p (one-value q) e (single t) = (rw q, refl)
 called s p (one-value q) e (further t x) = absurd (omega arith)
@@ -161,7 +172,8 @@ module _ (s : List ℕ) (g : Function) (p e : ℕ) (h : Stands s (Name g) p e) (
         group = ap top (x .tree);
       }
 
-  matched-call : (o : MatchOp) → nameOf g ≡ nameOf (Match o) → andThen (expression f d loosest ts) (λ v z. expect comma z (λ q. expectRange q (λ b i u n. matching u o v b i n))) ≡ ok t r → CallOf s p ts t r
+  matched-call : (o : MatchOp) → nameOf g ≡ nameOf (Match o) → andThen (expression f d loosest ts)
+      (λ v z. expect comma z (λ q. expectRange q (λ b i u n. matching u o v b i n))) ≡ ok t r → CallOf s p ts t r
   unfolding formatted
   matched-call o n m =
       let a = through (expression f d loosest ts) (λ v z. expect comma z (λ q. expectRange q (λ b i u n. matching u o v b i n))) m in
@@ -174,7 +186,8 @@ module _ (s : List ℕ) (g : Function) (p e : ℕ) (h : Stands s (Name g) p e) (
       let range = cellName b i ++ (ascii ", " ++ (lexeme s (x .p) ++ ascii ")")) in
       let tail : (cellName b i ++ (ascii ", " ++ lexeme s (x .p))) ++ ascii ")" ≡ range = append-assoc (cellName b i) (ascii ", " ++ lexeme s (x .p)) (ascii ")") in
       let q : expression f d loosest ts ≡ ok (a .first) (tok (Symbol comma) (c .place) ∷ c .left) = a .is ∙ ap (ok (a .first)) (c .is) in
-      let w : SaysItems s (c .left) range r = subst (λ (z : List Tok). SaysItems s z range r) (sym (x .is)) (range-says s b i (x .count) (x .o) (x .q) (x .p) (x .c) r) in
+      let w : SaysItems s (c .left) range r = subst (λ (z : List Tok). SaysItems s z range r) (sym (x .is))
+      (range-says s b i (x .count) (x .o) (x .q) (x .p) (x .c) r) in
       record {
         bytes = v ++ (ascii ", " ++ range);
         says = items (more-of f d (c .place) q w);
@@ -200,7 +213,8 @@ call-of s (Total o) p e h f d ts m = ranged-call s (Total o) p e h f d ts o refl
 call-of s (Match o) p e h f d ts m = matched-call s (Match o) p e h f d ts o refl m
 
 -- ---- a primary
-bracketed : (f d n : ℕ) (ts : List Tok) {t : Tree} {r : List Tok} → bracket f d n ts ≡ ok t r → (k p : ℕ) × (expression k d loosest ts ≡ ok t (tok (Symbol n) p ∷ r))
+bracketed : (f d n : ℕ) (ts : List Tok) {t : Tree} {r : List Tok} → bracket f d n ts ≡ ok t r
+    → (k p : ℕ) × (expression k d loosest ts ≡ ok t (tok (Symbol n) p ∷ r))
 unfolding bracket
 bracketed zero d n ts e = let z : _≡_ {A = ℕ} 0 1 = cc in absurd (omega arith)
 bracketed (suc f) d n ts {t} {r} e =
@@ -209,19 +223,22 @@ bracketed (suc f) d n ts {t} {r} e =
     let o = ok-tree (c .then) in
     (f, c .place, h .is ∙ ap (λ (u : Tree). ok u (h .left)) (o .0) ∙ ap (ok t) (c .is ∙ ap (λ (z : List Tok). tok (Symbol n) (c .place) ∷ z) (o .1)))
 
-pub primary-of : (s : List ℕ) (u : Token) (p : ℕ) (xs : List Tok) {y : List ℕ} {g : ℕ} {r : List Tok} → Typed s (tok u p ∷ xs) → SaysPrimary s (tok u p ∷ xs) y g r → PrimaryOf s (tok u p) xs y g r
+pub primary-of : (s : List ℕ) (u : Token) (p : ℕ) (xs : List Tok) {y : List ℕ} {g : ℕ} {r : List Tok} → Typed s (tok u p ∷ xs)
+    → SaysPrimary s (tok u p ∷ xs) y g r → PrimaryOf s (tok u p) xs y g r
 unfolding primary formatted
 primary-of s u p xs k (says zero d e) = let z : _≡_ {A = ℕ} 0 1 = cc in absurd (omega arith)
 primary-of s (Number (Int z)) p xs k (says (suc f) d e) = let o = ok-tree e in leaf (lit< tt) (ap (formatted s) (sym (o .0))) (ap top (sym (o .0))) (o .1)
 primary-of s (Number (Real z)) p xs k (says (suc f) d e) = let o = ok-tree e in leaf (lit< tt) (ap (formatted s) (sym (o .0))) (ap top (sym (o .0))) (o .1)
-primary-of s (Cell b i) p xs (some a h k) (says (suc f) d e) = let o = ok-tree e in leaf (lit< tt) (ap (formatted s) (sym (o .0)) ∙ sym (cell-spelt s b i p a h)) (ap top (sym (o .0))) (o .1)
+primary-of s (Cell b i) p xs (some a h k) (says (suc f) d e) = let o = ok-tree e in
+    leaf (lit< tt) (ap (formatted s) (sym (o .0)) ∙ sym (cell-spelt s b i p a h)) (ap top (sym (o .0))) (o .1)
 primary-of s (Letter b) p xs (some a h k) (says (suc f) d {t} {r} e) =
     let n = entered d openIndex xs (λ e r. andThen (bracket f e closeIndex r) (λ t q. ok (indexed b t) q)) e in
     let m = through (bracket f (n .room) closeIndex (n .left)) (λ t q. ok (indexed b t) q) (n .then) in
     let o = ok-tree (m .then) in
     let c = bracketed f (n .room) closeIndex (n .left) (m .is) in
     let v = formatted s (m .first) in
-    let q : expression (c .0) (n .room) loosest (n .left) ≡ ok (m .first) (tok (Symbol closeIndex) (c .1) ∷ r) = c .2 ∙ ap (λ (z : List Tok). ok (m .first) (tok (Symbol closeIndex) (c .1) ∷ z)) (o .1) in
+    let q : expression (c .0) (n .room) loosest (n .left) ≡ ok (m .first) (tok (Symbol closeIndex) (c .1) ∷ r) = c .2
+    ∙ ap (λ (z : List Tok). ok (m .first) (tok (Symbol closeIndex) (c .1) ∷ z)) (o .1) in
     headed (lit< tt) (lit< tt) openIndex (n .place) (n .is) (items (last (c .0) (n .room) closeIndex (c .1) (λ z. omega arith) q))
     (ap (formatted s) (sym (o .0)) ∙ ap (λ (z : List ℕ). z ++ (ascii "[" ++ (v ++ ascii "]"))) (sym (letter-spelt s b p a h))) (ap top (sym (o .0)))
 primary-of s (Name g) p xs (some a h k) (says (suc f) d {t} {r} e) =

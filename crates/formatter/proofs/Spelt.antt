@@ -44,7 +44,8 @@ numeralish : (cs : List ℕ) → Numeralish (numeralOf cs)
 numeralish cs =
     choose Numeralish (decimalDigits cs) _ _ (λ _. choose Numeralish (leb (decimalValue cs) 2147483647) _ _ (λ _. number _) (λ _. bad 5))
     (λ _. choose Numeralish (isHexRun cs) _ _
-    (λ _. choose Numeralish (nonEmpty (drop 2 cs) && all isHex (drop 2 cs)) _ _ (λ _. choose Numeralish (leb (length (drop 2 cs)) 8) _ _ (λ _. number _) (λ _. bad 5)) (λ _. bad 4))
+    (λ _. choose Numeralish (nonEmpty (drop 2 cs) && all isHex (drop 2 cs)) _ _
+    (λ _. choose Numeralish (leb (length (drop 2 cs)) 8) _ _ (λ _. number _) (λ _. bad 5)) (λ _. bad 4))
     (λ _. choose Numeralish (isExponent (behindMantissa cs)) _ _
     (λ _. choose Numeralish (leb (length (mantissaDigits cs)) 9 && leb (exponentSize (behindMantissa cs)) 20) _ _ (λ _. number _) (λ _. bad 5)) (λ _. bad 4)))
 

@@ -21,7 +21,8 @@ use Rattle.grammar.specs.Parse.{Result, ok, bad, starved, andThen, operand, pri
 use Rattle.draft.specs.private.Words.{isMark, prefixNumber}
 use Rattle.format_laws.specs.Formatted.{lexeme, symbol, unaryNotation, unaryText, parenthesized, isInfix, prefixText, top, formatted}
 use Rattle.format_writer.specs.private.Spelling.{Stands, StandsAt}
-use Rattle.formatter.specs.private.Walk.{Typed, none as untyped, some, Position, Says, says, SaysOperand, SaysPrimary, primaryOf, Some, SignsText, none as no-signs, more}
+use Rattle.formatter.specs.private.Walk.{Typed, none as untyped, some, Position, Says, says, SaysOperand, SaysPrimary, primaryOf, Some}
+use Rattle.formatter.specs.private.Walk.{SignsText, none as no-signs, more}
 use Rattle.formatter.proofs.Words.{Word, word-of, behind, class-is, operand-is, place-is, mark-head, is-symbol}
 use Rattle.formatter.proofs.Inversion.{through}
 use Rattle.formatter.proofs.Spelt.{stands-at, symbol-spelt}
@@ -96,7 +97,8 @@ pub record Prefixed (s : List ℕ) (p : ℕ) (ts : List Tok) (y : List ℕ) (g :
   pub text : y ≡ lexeme s p ++ parenthesized (isInfix group) inner
   pub bare : g ≡ 0
 
-prefixed : (s : List ℕ) (n : ℕ) (o : UnaryOp) (p e : ℕ) (ts : List Tok) {y : List ℕ} {g : ℕ} {r : List Tok} → Stands s (Symbol n) p e → prefixSymbol n ≡ is o → unaryNotation o ≡ symbol n
+prefixed : (s : List ℕ) (n : ℕ) (o : UnaryOp) (p e : ℕ) (ts : List Tok) {y : List ℕ} {g : ℕ} {r : List Tok} → Stands s (Symbol n) p e
+    → prefixSymbol n ≡ is o → unaryNotation o ≡ symbol n
     → SaysOperand s (tok (Symbol n) p ∷ ts) y g r → Prefixed s p ts y g r
 unfolding operand formatted
 prefixed s n o p e ts h q w (says zero d m) = let z : _≡_ {A = ℕ} 0 1 = cc in absurd (omega arith)
@@ -119,15 +121,18 @@ unfolding operand
 no-operand s (says zero d e) = let z : _≡_ {A = ℕ} 0 1 = cc in omega arith
 no-operand s (says (suc f) d e) = let z : _≡_ {A = ℕ} 0 1 = cc in omega arith
 
-pub one-sign : (s table : List ℕ) (at : ℕ) {y : List ℕ} {g : ℕ} {r : List Tok} → Position s table at → prefixNumber (wordAt table at) < 3 → SaysOperand s (tokensFrom table at) y g r
+pub one-sign : (s table : List ℕ) (at : ℕ) {y : List ℕ} {g : ℕ} {r : List Tok} → Position s table at → prefixNumber (wordAt table at) < 3
+    → SaysOperand s (tokensFrom table at) y g r
     → Prefixed s (wordPlace (wordAt table at)) (tokensFrom table (at + 1)) y g r
 unfolding operand
 one-sign s table at {y} {g} {r} p h m = go (tokensFrom table at) refl
   where
-    by : {x : Tok} {xs : List Tok} → tokensFrom table at ≡ x ∷ xs → Here s table at x xs → Sign (x .token) → Prefixed s (wordPlace (wordAt table at)) (tokensFrom table (at + 1)) y g r
+    by : {x : Tok} {xs : List Tok} → tokensFrom table at ≡ x ∷ xs → Here s table at x xs → Sign (x .token)
+        → Prefixed s (wordPlace (wordAt table at)) (tokensFrom table (at + 1)) y g r
     by {x} {xs} q k (sign n o e a b) =
         let st : Stands s (Symbol n) (x .place) (k .end) = subst (λ (u : Token). Stands s u (x .place) (k .end)) e (k .typed) in
-        let sy : SaysOperand s (tok (Symbol n) (x .place) ∷ xs) y g r = subst (λ (ts : List Tok). SaysOperand s ts y g r) (q ∙ ap (λ (u : Token). tok u (x .place) ∷ xs) e) m in
+        let sy : SaysOperand s (tok (Symbol n) (x .place) ∷ xs) y g r = subst (λ (ts : List Tok). SaysOperand s ts y g r)
+        (q ∙ ap (λ (u : Token). tok u (x .place) ∷ xs) e) m in
         subst (λ (i : ℕ). Prefixed s i (tokensFrom table (at + 1)) y g r) (sym (k .place))
         (subst (λ (ts : List Tok). Prefixed s (x .place) ts y g r) (sym (k .left)) (prefixed s n o (x .place) (k .end) xs st a b sy))
 
@@ -149,19 +154,26 @@ sign-here s table at p h = go (tokensFrom table at) refl
   where
     go : (ts : List Tok) → tokensFrom table at ≡ ts → (x : Tok) × (xs : List Tok) × Here s table at x xs
     go [] q =
-        let e : prefixNumber (wordAt table at) ≡ 3 = rw (mark-head table at (p .words) minus, mark-head table at (p .words) tilde, mark-head table at (p .words) bang, q) in
+        let e : prefixNumber (wordAt table at) ≡ 3 = rw (
+          mark-head table at (p .words) minus,
+          mark-head table at (p .words) tilde,
+          mark-head table at (p .words) bang,
+          q,
+        ) in
         absurd (omega (arith, e))
     go (x ∷ xs) q = (x, xs, here s table at p q)
 
 -- no operator: a primary
-as-primary : (s : List ℕ) (x : Tok) (xs : List Tok) {y : List ℕ} {g : ℕ} {r : List Tok} → prefixOf (x .token) ≡ none → SaysOperand s (x ∷ xs) y g r → SaysPrimary s (x ∷ xs) y g r
+as-primary : (s : List ℕ) (x : Tok) (xs : List Tok) {y : List ℕ} {g : ℕ} {r : List Tok} → prefixOf (x .token) ≡ none → SaysOperand s (x ∷ xs) y g r
+    → SaysPrimary s (x ∷ xs) y g r
 unfolding operand
 as-primary s x xs n (says zero d e) = let z : _≡_ {A = ℕ} 0 1 = cc in absurd (omega arith)
 as-primary s x xs n (says (suc f) d e) =
     let step : operand (suc f) d (x ∷ xs) ≡ primary f d x xs = rw (operand, n) in
     says f d (sym step ∙ e)
 
-pub no-more-signs : (s table : List ℕ) (at : ℕ) {y : List ℕ} {g : ℕ} {r : List Tok} → TokenWords table → prefixNumber (wordAt table at) ≡ 3 → SaysOperand s (tokensFrom table at) y g r
+pub no-more-signs : (s table : List ℕ) (at : ℕ) {y : List ℕ} {g : ℕ} {r : List Tok} → TokenWords table → prefixNumber (wordAt table at) ≡ 3
+    → SaysOperand s (tokensFrom table at) y g r
     → SaysPrimary s (tokensFrom table at) y g r
 no-more-signs s table at {y} {g} {r} words h m = go (tokensFrom table at) refl m
   where
@@ -181,14 +193,17 @@ pub record Chain (s table : List ℕ) (at first : ℕ) (x y : List ℕ) (g : ℕ
   pub position : Position s table first
   pub chained : Chained at first x y g inner group
 
-one-more : {at i j : ℕ} {x y inner : List ℕ} {g h : ℕ} (v z : List ℕ) (k : ℕ) → j ≡ i + 1 → Chained at i x y g inner h → at ≤ i → inner ≡ v ++ parenthesized (isInfix k) z → h ≡ 0 → Chained at j (x ++ v) y g z k
+one-more : {at i j : ℕ} {x y inner : List ℕ} {g h : ℕ} (v z : List ℕ) (k : ℕ) → j ≡ i + 1 → Chained at i x y g inner h → at ≤ i
+    → inner ≡ v ++ parenthesized (isInfix k) z → h ≡ 0 → Chained at j (x ++ v) y g z k
 one-more v z k e (bare f n q w) l a b =
     signed-by (omega arith) (q ∙ a ∙ ap (λ (u : List ℕ). u ++ v ++ parenthesized (isInfix k) z) (sym n)) (w ∙ b)
 one-more {x = x} {inner = inner} v z k e (signed-by f q w) l a b =
-    signed-by (omega arith) (q ∙ ap (λ (m : ℕ). x ++ parenthesized (isInfix m) inner) b ∙ ap (λ (u : List ℕ). x ++ u) a ∙ sym (append-assoc x v (parenthesized (isInfix k) z))) w
+    signed-by (omega arith) (q ∙ ap (λ (m : ℕ). x ++ parenthesized (isInfix m) inner) b ∙ ap (λ (u : List ℕ). x ++ u) a
+    ∙ sym (append-assoc x v (parenthesized (isInfix k) z))) w
 
 pub chain : {s table : List ℕ} {at first : ℕ} {x y : List ℕ} {g : ℕ} {r : List Tok} → Position s table at → SignsText s table at first x
-    → ((i : ℕ) → at ≤ i → i < first → prefixNumber (wordAt table i) < 3) → SaysOperand s (tokensFrom table at) y g r → (at ≤ first) × Chain s table at first x y g r
+    → ((i : ℕ) → at ≤ i → i < first → prefixNumber (wordAt table i) < 3) → SaysOperand s (tokensFrom table at) y g r
+    → (at ≤ first) × Chain s table at first x y g r
 chain p no-signs all m = (omega arith, record { inner = _; group = _; says = m; position = p; chained = bare refl refl refl refl })
 chain {s} {table} {r = r} p (more {i} e t) all m =
     let (l, c) = chain p t (λ k a b. all k a (omega arith)) m in

@@ -96,7 +96,8 @@ typed s i (x ∷ w) q = by (lexemeAt s i) refl (λ e. typed s e w)
     ended : rest s i ≡ tokens [] → Typed s (x ∷ w)
     ended r = let z : _≡_ {A = ℕ} 0 1 = cc in absurd (omega arith)
 
-    onward : (t : Token) (p e : ℕ) → lexemeAt s i ≡ Found t p e → (r : Scan) → rest s e ≡ r → rest s i ≡ consToken (tok t p) r → (rest s e ≡ tokens w → Typed s w) → Typed s (x ∷ w)
+    onward : (t : Token) (p e : ℕ) → lexemeAt s i ≡ Found t p e → (r : Scan) → rest s e ≡ r → rest s i ≡ consToken (tok t p) r
+        → (rest s e ≡ tokens w → Typed s w) → Typed s (x ∷ w)
     onward t p e m (tokens v) c d ih =
         let first : tok t p ≡ x = cc in
         let others : rest s e ≡ tokens w = cc in
@@ -165,7 +166,8 @@ module _ {scratch x : List ℕ} {n : ℕ} (l : length scratch ≡ textLimit) whe
         let z : ltb mostOpen (levels x) ≡ true = lt-ltb mostOpen (levels x) (omega (arith, q, ap levels (part v))) in
         (rw (fits v, z), rw (fits v, z))
 
-    pub good-text : (out : List ℕ) {d : ℕ} {out′ : List ℕ} → d ≡ levels (take n scratch) → d ≤ mostOpen → out′ ≡ sets out 0 (take n scratch) → Holds x scratch n → Answers x out (doneWith n) out′
+    pub good-text : (out : List ℕ) {d : ℕ} {out′ : List ℕ} → d ≡ levels (take n scratch) → d ≤ mostOpen → out′ ≡ sets out 0 (take n scratch)
+        → Holds x scratch n → Answers x out (doneWith n) out′
     good-text out q m b v =
         let z : ltb mostOpen (levels x) ≡ false = le-ltb mostOpen (levels x) (omega (arith, q, ap levels (part v))) in
         (rw (fits v, z) (ap doneWith (sym (size v))), rw (fits v, z) (b ∙ ap (sets out 0) (part v)))
@@ -194,6 +196,7 @@ module _ (s out : List ℕ) where
   unfolding formatting
   small-answer k h = let z : ltb (length out) textLimit ≡ true = lt-ltb (length out) textLimit h in (rw (k .is, z), rw (k .is, z))
 
-  pub good-answer : {r : Answer} {out′ : List ℕ} (k : Accepted s) → textLimit ≤ length out → Answers (formatted s (k .tree)) out r out′ → (r ≡ formatAnswer s out) × (out′ ≡ formatBuffer s out)
+  pub good-answer : {r : Answer} {out′ : List ℕ} (k : Accepted s) → textLimit ≤ length out → Answers (formatted s (k .tree)) out r out′
+      → (r ≡ formatAnswer s out) × (out′ ≡ formatBuffer s out)
   unfolding formatting
   good-answer k h e = let z : ltb (length out) textLimit ≡ false = le-ltb (length out) textLimit h in (rw (k .is, z) (e .0), rw (k .is, z) (e .1))

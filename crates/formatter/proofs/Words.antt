@@ -12,7 +12,8 @@ use native.Mathlib.Numerals.{add-one}
 use Rattle.tokens.specs.declared.Token.{Token}
 use Rattle.tokens.specs.declared.Token.the-variants.{Number, Cell, Letter, Name, Symbol}
 use Rattle.tokens.specs.Scan.{Tok}
-use Rattle.token_table.specs.private.Table.{Entry, Is, End, functionNumber, packToken, wordClass, wordOperand, wordPlace, entryOf, entryAt, wordAt, tokensFrom, Sound, TokenWord, blank, token, TokenWords}
+use Rattle.token_table.specs.private.Table.{Entry, Is, End, functionNumber, packToken, wordClass, wordOperand, wordPlace, entryOf, entryAt, wordAt}
+use Rattle.token_table.specs.private.Table.{tokensFrom, Sound, TokenWord, blank, token, TokenWords}
 use Rattle.token_table.proofs.Laws.{tokenClass, tokenOperand, class-packed, operand-packed, place-packed, unpacked, blank-end, from-is, from-head, from-none}
 use Rattle.memory.specs.Numbers.{bankNumber}
 use Rattle.grammar.specs.Symbols.{group, groupNumber, isSymbol}
@@ -30,13 +31,20 @@ module _ (table : List ℕ) (at : ℕ) (words : TokenWords table) where
   word-of {x} {xs} q = go (words at) refl
     where
       go : {w : ℕ} → TokenWord w → wordAt table at ≡ w → Word table at x
-      go blank e = let a = from-head table at q .0 in let b : entryAt table at ≡ End = ap entryOf e ∙ blank-end in let z : _≡_ {A = ℕ} 0 1 = cc in absurd (omega arith)
+      go blank e = let a = from-head table at q .0 in let b : entryAt table at ≡ End = ap entryOf e ∙ blank-end in let z : _≡_ {A = ℕ} 0 1 = cc in
+          absurd (omega arith)
       go (token t p k lt) e =
           let a = from-head table at q .0 in
           let b : entryAt table at ≡ Is t p = ap entryOf e ∙ unpacked k p lt in
           let ht : t ≡ x .token = cc in
           let hp : p ≡ x .place = cc in
-          record { sound = subst Sound ht k; small = omega arith; is = e ∙ ap (λ (u : Token). packToken u p) ht ∙ ap (packToken (x .token)) hp; within = from-is table at b .0 }
+          record {
+            sound = subst Sound ht k;
+            small = omega arith;
+            is = e ∙ ap (λ (u : Token). packToken u p) ht ∙ ap (packToken (x .token)) hp;
+            within =
+                from-is table at b .0;
+          }
 
   pub behind : {x : Tok} {xs : List Tok} → tokensFrom table at ≡ x ∷ xs → tokensFrom table (at + 1) ≡ xs
   behind q = ap (tokensFrom table) (add-one at) ∙ sym (from-head table at q .1)
@@ -46,7 +54,8 @@ module _ (table : List ℕ) (at : ℕ) (words : TokenWords table) where
     where
       go : {w : ℕ} → TokenWord w → wordAt table at ≡ w → wordAt table at ≡ 0
       go blank e = e
-      go (token t p k lt) e = let a = from-none table at q in let b : entryAt table at ≡ Is t p = ap entryOf e ∙ unpacked k p lt in let z : _≡_ {A = ℕ} 0 1 = cc in absurd (omega arith)
+      go (token t p k lt) e = let a = from-none table at q in let b : entryAt table at ≡ Is t p = ap entryOf e ∙ unpacked k p lt in
+          let z : _≡_ {A = ℕ} 0 1 = cc in absurd (omega arith)
 
 module _ {table : List ℕ} {at : ℕ} {x : Tok} (h : Word table at x) where
   pub class-is : wordClass (wordAt table at) ≡ tokenClass (x .token)
@@ -71,7 +80,8 @@ low-half : (w : ℕ) → w % 65536 ≡ wordClass w + 256 * wordOperand w
 low-half w = omega arith
 
 same-mark : (m n : ℕ) → eqb (6 + 256 * m) (6 + 256 * n) ≡ eqb m n
-same-mark m n = by-test (eqb m n) (λ e. eq-eqb _ _ (ap (λ (i : ℕ). 6 + 256 * i) (eqb-true m n e)) ∙ sym e) (λ e. ne-eqb (6 + 256 * m) (6 + 256 * n) (λ (q : 6 + 256 * m ≡ 6 + 256 * n). eqb-false m n e (omega arith)) ∙ sym e)
+same-mark m n = by-test (eqb m n) (λ e. eq-eqb _ _ (ap (λ (i : ℕ). 6 + 256 * i) (eqb-true m n e)) ∙ sym e)
+    (λ e. ne-eqb (6 + 256 * m) (6 + 256 * n) (λ (q : 6 + 256 * m ≡ 6 + 256 * n). eqb-false m n e (omega arith)) ∙ sym e)
 
 other-mark : (c x n : ℕ) → c < 256 → (c ≡ 6 → ⊥) → eqb (c + 256 * x) (6 + 256 * n) ≡ false
 other-mark c x n h k = ne-eqb (c + 256 * x) (6 + 256 * n) (λ e. k (omega arith))

@@ -107,7 +107,8 @@ fn written(text: &[u8], out: &mut [u8]) -> usize
 // The answer for a text whose first n bytes are in the scratch.
 fn finish(scratch: &[u8], n: usize, out: &mut [u8]) -> Answer
     requires { ⌜ (length (now scratch) ≡ textLimit) × (textLimit ≤ length (now out)) × Counted n (now scratch) ⌝ }
-    ensures { λ r. ⌜ ((x : List ℕ) → Holds x (now (scratch .entry)) n → (r ≡ answerOf (ofText x)) × (now (out .exit) ≡ bufferAfter (now (out .entry)) (ofText x))) ⌝ }
+    ensures { λ r. ⌜ ((x : List ℕ) → Holds x (now (scratch .entry)) n
+        → (r ≡ answerOf (ofText x)) × (now (out .exit) ≡ bufferAfter (now (out .entry)) (ofText x))) ⌝ }
 {
     if LONGEST < n {
         return Answer::Refused(3, 0);

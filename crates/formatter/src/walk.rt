@@ -1,5 +1,5 @@
-// A walk over the table of an accepted text's tokens, which writes the formula's text. Recursion goes as deep as brackets nest, times the groups of operators; a chain of
-// operators is a loop. A part is written bare, and its caller encloses it if it must. No refusal is left: the text was judged before.
+// A walk over the table of an accepted text's tokens, which writes the formula's text. Recursion goes as deep as brackets nest, times the groups of
+// operators; a chain of operators is a loop. A part is written bare, and its caller encloses it if it must. No refusal is left: the text was judged before.
 ghost use mathlib.Core.List.{List, _++_};
 ghost use Prim.Native.Nat.{ℕ};
 ghost use Rattle.tokens.specs.Scan.{Tok};
@@ -55,7 +55,8 @@ fn signs(text: &[u8], table: &[u64], out: &mut [u8], at: usize, first: usize, n:
 fn operand_end(out: &mut [u8], start: usize, end: usize, top: u8) -> usize
     requires { ⌜ Counted end (now out) ⌝ }
     ensures { λ r. ⌜ Counted r (now (out .entry)) ⌝ }
-    ensures { λ r. ⌜ ((o x : List ℕ) → StartsBehind o (now (out .entry)) start → Holds (o ++ x) (now (out .entry)) end → Holds (o ++ parenthesized (isInfix top) x) (now (out .exit)) r) ⌝ }
+    ensures { λ r. ⌜ ((o x : List ℕ) → StartsBehind o (now (out .entry)) start → Holds (o ++ x) (now (out .entry)) end
+        → Holds (o ++ parenthesized (isInfix top) x) (now (out .exit)) r) ⌝ }
 {
     if top == 0 {
         return end;
@@ -67,7 +68,8 @@ fn operand_end(out: &mut [u8], start: usize, end: usize, top: u8) -> usize
 fn left_end(out: &mut [u8], start: usize, end: usize, top: u8, g: u8) -> usize
     requires { ⌜ Counted end (now out) ⌝ }
     ensures { λ r. ⌜ Counted r (now (out .entry)) ⌝ }
-    ensures { λ r. ⌜ ((o x : List ℕ) → StartsBehind o (now (out .entry)) start → Holds (o ++ x) (now (out .entry)) end → Holds (o ++ parenthesized (isOtherInfix g top) x) (now (out .exit)) r) ⌝ }
+    ensures { λ r. ⌜ ((o x : List ℕ) → StartsBehind o (now (out .entry)) start → Holds (o ++ x) (now (out .entry)) end
+        → Holds (o ++ parenthesized (isOtherInfix g top) x) (now (out .exit)) r) ⌝ }
 {
     if top == g {
         return end;
@@ -89,7 +91,8 @@ fn operator(text: &[u8], out: &mut [u8], n: usize, w: u64) -> usize
 // expression: operand { infix expression of a tighter group }
 fn expression(text: &[u8], table: &[u64], out: &mut [u8], at: usize, n: usize, level: u8) -> Piece
     requires { ⌜ Position (now text) (now table) at × Counted n (now out) × Some (SaysExpression level (now text) (tokensFrom (now table) at)) ⌝ }
-    ensures { λ r. ⌜ Formats (SaysExpression level (now (text .entry)) (tokensFrom (now (table .entry)) at)) (now (text .entry)) (now (table .entry)) at (now (out .entry)) (now (out .exit)) n (r .next) (r .end) (r .top) ⌝ }
+    ensures { λ r. ⌜ Formats (SaysExpression level (now (text .entry)) (tokensFrom (now (table .entry)) at)) (now (text .entry))
+        (now (table .entry)) at (now (out .entry)) (now (out .exit)) n (r .next) (r .end) (r .top) ⌝ }
 {
     let mut left = operand(text, table, out, at, n);
     loop {
@@ -116,7 +119,8 @@ fn expression(text: &[u8], table: &[u64], out: &mut [u8], at: usize, n: usize, l
 // operand: { - | ~ | ! } primary
 fn operand(text: &[u8], table: &[u64], out: &mut [u8], at: usize, n: usize) -> Piece
     requires { ⌜ Position (now text) (now table) at × Counted n (now out) × Some (SaysOperand (now text) (tokensFrom (now table) at)) ⌝ }
-    ensures { λ r. ⌜ Formats (SaysOperand (now (text .entry)) (tokensFrom (now (table .entry)) at)) (now (text .entry)) (now (table .entry)) at (now (out .entry)) (now (out .exit)) n (r .next) (r .end) (r .top) ⌝ }
+    ensures { λ r. ⌜ Formats (SaysOperand (now (text .entry)) (tokensFrom (now (table .entry)) at)) (now (text .entry))
+        (now (table .entry)) at (now (out .entry)) (now (out .exit)) n (r .next) (r .end) (r .top) ⌝ }
 {
     let first = ahead::signs_end(table, at);
     let start = signs(text, table, out, at, first, n);
@@ -134,7 +138,8 @@ fn operand(text: &[u8], table: &[u64], out: &mut [u8], at: usize, n: usize) -> P
 // primary: number | cell | letter [ expression ] | name ( arguments ) | ( expression )
 fn primary(text: &[u8], table: &[u64], out: &mut [u8], at: usize, n: usize) -> Piece
     requires { ⌜ Position (now text) (now table) at × Counted n (now out) × Some (SaysPrimary (now text) (tokensFrom (now table) at)) ⌝ }
-    ensures { λ r. ⌜ Formats (SaysPrimary (now (text .entry)) (tokensFrom (now (table .entry)) at)) (now (text .entry)) (now (table .entry)) at (now (out .entry)) (now (out .exit)) n (r .next) (r .end) (r .top) ⌝ }
+    ensures { λ r. ⌜ Formats (SaysPrimary (now (text .entry)) (tokensFrom (now (table .entry)) at)) (now (text .entry))
+        (now (table .entry)) at (now (out .entry)) (now (out .exit)) n (r .next) (r .end) (r .top) ⌝ }
 {
     let w = token_table::word_at(table, at);
     let class = token_table::class_of(w);
@@ -161,7 +166,8 @@ fn primary(text: &[u8], table: &[u64], out: &mut [u8], at: usize, n: usize) -> P
 // list: [ expression { , expression } ] closer. The cell and the count of a range are expressions too.
 fn list(text: &[u8], table: &[u64], out: &mut [u8], at: usize, n: usize) -> Piece
     requires { ⌜ Position (now text) (now table) at × Counted n (now out) × Some (SaysList (now text) (tokensFrom (now table) at)) ⌝ }
-    ensures { λ r. ⌜ Formats (SaysList (now (text .entry)) (tokensFrom (now (table .entry)) at)) (now (text .entry)) (now (table .entry)) at (now (out .entry)) (now (out .exit)) n (r .next) (r .end) (r .top) ⌝ }
+    ensures { λ r. ⌜ Formats (SaysList (now (text .entry)) (tokensFrom (now (table .entry)) at)) (now (text .entry))
+        (now (table .entry)) at (now (out .entry)) (now (out .exit)) n (r .next) (r .end) (r .top) ⌝ }
 {
     let first = token_table::word_at(table, at);
     if ahead::expected(table, at, symbols::CLOSE) {
@@ -187,7 +193,8 @@ fn list(text: &[u8], table: &[u64], out: &mut [u8], at: usize, n: usize) -> Piec
 pub fn formula(text: &[u8], table: &[u64], out: &mut [u8]) -> usize
     requires { ⌜ Position (now text) (now table) 0 × Some (SaysExpression loosest (now text) (tokensFrom (now table) 0)) ⌝ }
     ensures { λ r. ⌜ Counted r (now (out .entry)) ⌝ }
-    ensures { λ r. ⌜ ((x : List ℕ) (g : ℕ) (q : List Tok) → SaysExpression loosest (now (text .entry)) (tokensFrom (now (table .entry)) 0) x g q → Holds x (now (out .exit)) r) ⌝ }
+    ensures { λ r. ⌜ ((x : List ℕ) (g : ℕ) (q : List Tok) → SaysExpression loosest (now (text .entry)) (tokensFrom (now (table .entry)) 0) x g q
+        → Holds x (now (out .exit)) r) ⌝ }
 {
     let whole = expression(text, table, out, 0, 0, LOOSEST);
     whole.end

@@ -1,5 +1,5 @@
--- The report of an answer as seven 32-bit words: answer, place, kind (0 integer, 1 real), the value's pattern, count, bank and element. A place is at most 1,024, and a
--- count, the index's included, at most 2 * 2,048 * 257, so their low 32 bits are all of them.
+-- The report of an answer as seven 32-bit words: answer, place, kind (0 integer, 1 real), the value's pattern, count, bank and element. A place is at most
+-- 1,024, and a count, the index's included, at most 2 * 2,048 * 257, so their low 32 bits are all of them.
 use mathlib.Core.List.{List, [], _∷_}
 use Prim.Native.Nat.{ℕ, _%_, _^_}
 use Rattle.memory.specs.Numbers.{bankNumber}

@@ -112,8 +112,10 @@ pub extern "C" fn formula_run(
     tick: u32,
     report: &mut [u32; 7],
 )
-    ensures { λ _. ⌜ now (report .exit) ≡ reportWords (runAnswer tick (now (code .entry)) instructions (now (target .entry)) (now (index .entry)) count (now (memory .entry))) ⌝ }
-    ensures { λ _. ⌜ now (memory .exit) ≡ runMemory tick (now (code .entry)) instructions (now (target .entry)) (now (index .entry)) count (now (memory .entry)) ⌝ }
+    ensures { λ _. ⌜ now (report .exit) ≡ reportWords (runAnswer tick (now (code .entry)) instructions (now (target .entry))
+        (now (index .entry)) count (now (memory .entry))) ⌝ }
+    ensures { λ _. ⌜ now (memory .exit) ≡ runMemory tick (now (code .entry)) instructions (now (target .entry))
+        (now (index .entry)) count (now (memory .entry)) ⌝ }
 {
     let answer = operations::run(code, instructions, memory, target, index, count, tick);
     fill_report(answer, report);
@@ -129,10 +131,14 @@ pub extern "C" fn formula_compile_and_run(
     tick: u32,
     report: &mut [u32; 7],
 )
-    ensures { λ _. ⌜ now (report .exit) ≡ reportWords (requestAnswer tick (now (memory .entry)) (request (now (target .entry)) (now (expr .entry)) (now (memory .entry)) (now (code .entry)) (now (index .entry)))) ⌝ }
-    ensures { λ _. ⌜ now (memory .exit) ≡ requestMemory tick (now (memory .entry)) (request (now (target .entry)) (now (expr .entry)) (now (memory .entry)) (now (code .entry)) (now (index .entry))) ⌝ }
-    ensures { λ _. ⌜ now (code .exit) ≡ requestCode (now (code .entry)) (request (now (target .entry)) (now (expr .entry)) (now (memory .entry)) (now (code .entry)) (now (index .entry))) ⌝ }
-    ensures { λ _. ⌜ now (index .exit) ≡ requestIndex (now (index .entry)) (request (now (target .entry)) (now (expr .entry)) (now (memory .entry)) (now (code .entry)) (now (index .entry))) ⌝ }
+    ensures { λ _. ⌜ now (report .exit) ≡ reportWords (requestAnswer tick (now (memory .entry))
+        (request (now (target .entry)) (now (expr .entry)) (now (memory .entry)) (now (code .entry)) (now (index .entry)))) ⌝ }
+    ensures { λ _. ⌜ now (memory .exit) ≡ requestMemory tick (now (memory .entry))
+        (request (now (target .entry)) (now (expr .entry)) (now (memory .entry)) (now (code .entry)) (now (index .entry))) ⌝ }
+    ensures { λ _. ⌜ now (code .exit) ≡ requestCode (now (code .entry))
+        (request (now (target .entry)) (now (expr .entry)) (now (memory .entry)) (now (code .entry)) (now (index .entry))) ⌝ }
+    ensures { λ _. ⌜ now (index .exit) ≡ requestIndex (now (index .entry))
+        (request (now (target .entry)) (now (expr .entry)) (now (memory .entry)) (now (code .entry)) (now (index .entry))) ⌝ }
 {
     let answer = operations::compile_and_run(target, expr, memory, code, index, tick);
     fill_report(answer, report);
@@ -163,7 +169,8 @@ pub extern "C" fn formula_store(
     tick: u32,
     report: &mut [u32; 7],
 )
-    ensures { λ _. ⌜ now (report .exit) ≡ reportWords (givenAnswer tick (givenValue kind bits) (now (target .entry)) (now (index .entry)) count (now (memory .entry))) ⌝ }
+    ensures { λ _. ⌜ now (report .exit) ≡ reportWords (givenAnswer tick (givenValue kind bits) (now (target .entry))
+        (now (index .entry)) count (now (memory .entry))) ⌝ }
     ensures { λ _. ⌜ now (memory .exit) ≡ givenMemory tick (givenValue kind bits) (now (target .entry)) (now (index .entry)) count (now (memory .entry)) ⌝ }
 {
     let answer = operations::store(kind, bits, memory, target, index, count, tick);

@@ -30,10 +30,14 @@ pub extern "C" fn formula_run_list(
     tick: u32,
     result: &mut [u32; 41],
 )
-    ensures { λ _. ⌜ now (result .exit) ≡ listWords (ranTable tick (now (places .entry)) (now (texts .entry)) (now (memory .entry)) (now (code .entry)) (now (index .entry))) ⌝ }
-    ensures { λ _. ⌜ now (memory .exit) ≡ ranTable tick (now (places .entry)) (now (texts .entry)) (now (memory .entry)) (now (code .entry)) (now (index .entry)) .buffers .memory ⌝ }
-    ensures { λ _. ⌜ now (code .exit) ≡ ranTable tick (now (places .entry)) (now (texts .entry)) (now (memory .entry)) (now (code .entry)) (now (index .entry)) .buffers .code ⌝ }
-    ensures { λ _. ⌜ now (index .exit) ≡ ranTable tick (now (places .entry)) (now (texts .entry)) (now (memory .entry)) (now (code .entry)) (now (index .entry)) .buffers .index ⌝ }
+    ensures { λ _. ⌜ now (result .exit) ≡ listWords (ranTable tick (now (places .entry)) (now (texts .entry)) (now (memory .entry)) (now (code .entry))
+        (now (index .entry))) ⌝ }
+    ensures { λ _. ⌜ now (memory .exit) ≡ ranTable tick (now (places .entry)) (now (texts .entry)) (now (memory .entry)) (now (code .entry))
+        (now (index .entry)) .buffers .memory ⌝ }
+    ensures { λ _. ⌜ now (code .exit) ≡ ranTable tick (now (places .entry)) (now (texts .entry)) (now (memory .entry)) (now (code .entry))
+        (now (index .entry)) .buffers .code ⌝ }
+    ensures { λ _. ⌜ now (index .exit) ≡ ranTable tick (now (places .entry)) (now (texts .entry)) (now (memory .entry)) (now (code .entry))
+        (now (index .entry)) .buffers .index ⌝ }
 {
     let answers = run_list::run_list(places, texts, memory, code, index, tick);
     fill_answers(answers, result);

@@ -33,7 +33,8 @@ use Rattle.operations.specs.declared.Answer.the-variants.{Fault}
 use Rattle.operations.specs.Operations.{Destination, cell, fault, lost, Arrival, reached, destinationOf, afterStore, Goal, to, none, valueAnswer}
 use Rattle.operations.specs.Operations.{Request, stores, stops}
 use Rattle.operations.specs.Operations.{runsIn, arrivalIn, indexBegunIn, arrivalOfIn, arrivedAnswerIn, arrivedMemoryIn, followAnswerIn, followMemoryIn}
-use Rattle.operations.specs.Operations.{finishedIn, memoryAfterIn, goalIn, ranAnswerIn, ranMemoryIn, runAnswerIn, runMemoryIn, evaluateAnswerIn, givenGoalIn, gaveAnswerIn}
+use Rattle.operations.specs.Operations.{finishedIn, memoryAfterIn, goalIn, ranAnswerIn, ranMemoryIn, runAnswerIn, runMemoryIn, evaluateAnswerIn}
+use Rattle.operations.specs.Operations.{givenGoalIn, gaveAnswerIn}
 use Rattle.operations.specs.Operations.{gaveMemoryIn, givenAnswerIn, givenMemoryIn, requestIn, requestAnswerIn, requestMemoryIn}
 use Rattle.image_answers.specs.Answers.{Alike, SameAnswers}
 

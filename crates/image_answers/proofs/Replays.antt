@@ -116,8 +116,10 @@ module _ (cs : List Card) where
           → ((r : Room) (s′ t′ : ReplayState) → CorrespondingStates s′ t′
           → SameReplay (replayLinesIn bytewise cs r s′ (at + length l) ls) (replayLinesIn packed cs r t′ (at + length l) ls))
           → SameReplay
-          (cond x (record { text = []; state = s; at = at; pause = full }) (onward s at y (λ s′ o. replayLinesIn bytewise cs (without o room) s′ (at + length l) ls)))
-          (cond x (record { text = []; state = t; at = at; pause = full }) (onward t at z (λ s′ o. replayLinesIn packed cs (without o room) s′ (at + length l) ls)))
+          (cond x (record { text = []; state = s; at = at; pause = full }) (onward s at y
+          (λ s′ o. replayLinesIn bytewise cs (without o room) s′ (at + length l) ls)))
+          (cond x (record { text = []; state = t; at = at; pause = full }) (onward t at z
+          (λ s′ o. replayLinesIn packed cs (without o room) s′ (at + length l) ls)))
       by true w ih = record { text = refl; at = refl; pause = refl; state = c }
       by false both-stop ih = record { text = refl; at = refl; pause = refl; state = c }
       by false (both-go {s = s′} {t = t′} o d) ih =

@@ -30,7 +30,8 @@ module _ (s t : List ℕ) (e : length s ≡ imageSize) (f : length t ≡ imageSi
   bits-known : (k : ℕ) → ((j : ℕ) → j < 8 → bit (getD s k 0) j ≡ bit (getD t k 0) j) → getD s k 0 ≡ getD t k 0
   bits-known k d = digit-laws .known 8 (getD s k 0) (getD t k 0) (bs k) (bt k) d
 
-  one-bit : (a k i j : ℕ) → a ≡ k → i ≡ j → bit (getD (take 1 (drop a s)) 0 0) i ≡ bit (getD (take 1 (drop a t)) 0 0) i → bit (getD s k 0) j ≡ bit (getD t k 0) j
+  one-bit : (a k i j : ℕ) → a ≡ k → i ≡ j → bit (getD (take 1 (drop a s)) 0 0) i ≡ bit (getD (take 1 (drop a t)) 0 0) i
+      → bit (getD s k 0) j ≡ bit (getD t k 0) j
   one-bit a k i j p q h =
       sym (ap (λ (z : ℕ). bit (getD s z 0) i) p ∙ ap (bit (getD s k 0)) q) ∙ ap (λ (x : ℕ). bit x i) (sym (first-byte s a)) ∙ h
       ∙ ap (λ (x : ℕ). bit x i) (first-byte t a)
@@ -38,7 +39,8 @@ module _ (s t : List ℕ) (e : length s ≡ imageSize) (f : length t ≡ imageSi
       ∙ ap (bit (getD t k 0)) q
 
   -- a run of bytes by its number
-  run-known : (w a j : ℕ) → a + w ≤ imageSize → j < w → littleEndian (take w (drop a s)) ≡ littleEndian (take w (drop a t)) → getD s (a + j) 0 ≡ getD t (a + j) 0
+  run-known : (w a j : ℕ) → a + w ≤ imageSize → j < w → littleEndian (take w (drop a s)) ≡ littleEndian (take w (drop a t))
+      → getD s (a + j) 0 ≡ getD t (a + j) 0
   run-known w a j h l q =
       let known : (r : List ℕ) → length r ≡ imageSize → Bytes r → bytesOf w (littleEndian (take w (drop a r))) ≡ take w (drop a r) =
       λ r g b. ap (λ (n : ℕ). bytesOf n (littleEndian (take w (drop a r)))) (sym (run-length r a w (omega arith)))
@@ -68,11 +70,13 @@ module _ (s t : List ℕ) (e : length s ≡ imageSize) (f : length t ≡ imageSi
           bits-known k (λ j l. one-bit (0 + (8 * k + j) / 8 * 1) k ((8 * k + j) % 8) j (omega arith) (omega arith) (same .cells X (8 * k + j) (omega arith)))
       by (no x) (yes c) v n d r =
           bits-known k
-          (λ j l. one-bit (8 + (8 * (k - 8) + j) / 8 * 1) k ((8 * (k - 8) + j) % 8) j (omega arith) (omega arith) (same .cells C (8 * (k - 8) + j) (omega arith)))
+          (λ j l. one-bit (8 + (8 * (k - 8) + j) / 8 * 1) k ((8 * (k - 8) + j) % 8) j (omega arith) (omega arith)
+          (same .cells C (8 * (k - 8) + j) (omega arith)))
       by (no x) (no c) (yes v) n d r =
           word-known 2 (16 + (k - 16) / 2 * 2) 16 k (omega arith) refl (omega arith) (omega arith) (omega arith) (same .cells «V» ((k - 16) / 2) (omega arith))
       by (no x) (no c) (no v) (yes n) d r =
-          word-known 2 (528 + (k - 528) / 2 * 2) 528 k (omega arith) refl (omega arith) (omega arith) (omega arith) (same .cells N ((k - 528) / 2) (omega arith))
+          word-known 2 (528 + (k - 528) / 2 * 2) 528 k (omega arith) refl (omega arith) (omega arith) (omega arith)
+          (same .cells N ((k - 528) / 2) (omega arith))
       by (no x) (no c) (no v) (no n) (yes d) r =
           word-known 4 (1040 + (k - 1040) / 4 * 4) 1040 k (omega arith) refl (omega arith) (omega arith) (omega arith)
           (same .cells D ((k - 1040) / 4) (omega arith))

@@ -35,7 +35,8 @@ module _ (m : List ℕ) (e : length m ≡ oldSize) where
   packed-bit a k j h g q =
       ap truthOf (byte-number m a (omega (arith, e))) ∙ ap (λ (z : ℕ). truthOf (getD m z 0)) q
       ∙ sym
-      (ap (λ (x : ℕ). bit x j) (first-byte (packedOf m) k ∙ row-at (λ z. byteOf m (8 * z) 8) 0 16 (drop 128 m) k h ∙ ap (λ (z : ℕ). byteOf m (8 * z) 8) (omega arith))
+      (ap (λ (x : ℕ). bit x j) (first-byte (packedOf m) k ∙ row-at (λ z. byteOf m (8 * z) 8) 0 16 (drop 128 m) k h
+      ∙ ap (λ (z : ℕ). byteOf m (8 * z) 8) (omega arith))
       ∙ byte-digit m (8 * k) 8 j g)
 
   packed-run : (w a n k : ℕ) → a ≡ 128 + k → n ≡ 16 + k → littleEndian (take w (drop a m)) ≡ littleEndian (take w (drop n (packedOf m)))

@@ -19,7 +19,8 @@ use Rattle.card_laws.specs.Reading.{good, readCards}
 use Rattle.card_laws.specs.Reading as Reading
 use Rattle.card_laws.specs.Formulas.{formulaAnswer}
 use Rattle.log_laws.specs.Log.{LogEntry, change, tick, run, bad, logLines, logEntryOf}
-use Rattle.log_laws.specs.Replay.{ReplayState, firstState, AfterLine, goes, stops, FoundCard, found, lacks, cardOf, afterRun, afterEntry, afterLine, afterLineIn}
+use Rattle.log_laws.specs.Replay.{ReplayState, firstState, AfterLine, goes, stops, FoundCard, found, lacks, cardOf, afterRun, afterEntry}
+use Rattle.log_laws.specs.Replay.{afterLine, afterLineIn}
 use Rattle.log_laws.specs.Replay.{Pause, full, logEnd, badLine, Replay, Room, lent, endless, lineRoom, isFull, without, refusalLines, onward}
 use Rattle.log_laws.specs.Replay.{replayLines, replayFrom, replayedWith, replayed, CallWords, Called, isOver, afterReplay, stateAt, calledWith}
 use Rattle.log_laws.specs.Replay.{replayCall}

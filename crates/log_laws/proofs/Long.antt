@@ -24,7 +24,8 @@ use Rattle.card_laws.specs.Lines.{lineEnd, Lacks, field, wrong, toEnd}
 use Rattle.card_laws.specs.Cards.{cardNumber}
 use Rattle.card_laws.proofs.Lines.{same-bytes}
 use Rattle.salvage_laws.specs.Cut.{ontoFirst}
-use Rattle.log_laws.specs.Log.{LogEntry, bad, endsLine, logLines, tickEntry, runEntry, changeEntry, cellEntry, keyedEntry, textEntry, endedEntry, logEntryOf}
+use Rattle.log_laws.specs.Log.{LogEntry, bad, endsLine, logLines, tickEntry, runEntry, changeEntry, cellEntry, keyedEntry, textEntry}
+use Rattle.log_laws.specs.Log.{endedEntry, logEntryOf}
 use Rattle.log_laws.specs.Window.{mostLine}
 
 -- ---- by the value: at most eleven bytes

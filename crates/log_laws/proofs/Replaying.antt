@@ -65,7 +65,8 @@ module _ (cs : List Card) where
 
   pub line-bad : (s : ReplayState) (at : ℕ) (l : List ℕ) (ls : List (List ℕ)) → logEntryOf l ≡ bad
       → play s at (l ∷ ls) ≡ record { text = refusalLines 16 at; state = s; at = at; pause = badLine }
-  line-bad s at l ls h = ap (λ (x : AfterLine). onward s at x (λ s′ o. play s′ (at + length l) ls)) (line-stops s l h) ∙ stopped-at s at (λ s′ o. play s′ (at + length l) ls)
+  line-bad s at l ls h = ap (λ (x : AfterLine). onward s at x (λ s′ o. play s′ (at + length l) ls)) (line-stops s l h)
+      ∙ stopped-at s at (λ s′ o. play s′ (at + length l) ls)
 
   pub lines-join : (s : ReplayState) (at : ℕ) (ls ms : List (List ℕ)) → play s at (ls ++ ms) ≡ andThen (play s at ls) (λ s′ at′. play s′ at′ ms)
   lines-join s at [] ms = refl
@@ -121,7 +122,8 @@ module _ (cs : List Card) where
   plays n s at [] c = none (λ e. let z : _≡_ {A = ℕ} 0 1 = cc in absurd (omega arith)) refl
   plays n s at (l ∷ ls) c = by (ltb n lineRoom) (afterLine cs s l) refl (λ k s′. plays k s′ (at + length l) ls (lines-rest (l ++ joined ls) l ls c))
     where
-      further : (s′ : ReplayState) (o : List ℕ) (r : Replay) → afterLine cs s l ≡ goes s′ o → Leaves s′ (at + length l) ls r → Leaves s at (l ∷ ls) (printed o r)
+      further : (s′ : ReplayState) (o : List ℕ) (r : Replay) → afterLine cs s l ≡ goes s′ o → Leaves s′ (at + length l) ls r
+          → Leaves s at (l ∷ ls) (printed o r)
       further s′ o r q (later taken ms p e j a w) =
           later (l ++ taken) ms p
           (ap (λ (x : AfterLine). onward s at x (λ s″ o. play s″ (at + length l) ls)) q ∙ ap (printed o) e

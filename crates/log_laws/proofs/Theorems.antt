@@ -12,7 +12,8 @@ use Rattle.card_laws.specs.Reading.{CardsRead}
 use Rattle.salvage_laws.specs.Cut.{joined}
 use Rattle.salvage_laws.proofs.Parts.{cut-joined}
 use Rattle.log_laws.specs.Log.{bad, endsLine, logLines, logEntryOf}
-use Rattle.log_laws.specs.Replay.{ReplayState, Pause, full, logEnd, badLine, Replay, printed, Room, lent, endless, lineRoom, replayLines, replayFrom, replayedWith}
+use Rattle.log_laws.specs.Replay.{ReplayState, Pause, full, logEnd, badLine, Replay, printed, Room, lent, endless, lineRoom, replayLines}
+use Rattle.log_laws.specs.Replay.{replayFrom, replayedWith}
 use Rattle.log_laws.specs.Theorems.{EndsInLine, thenBy, andThen, endedBad, ReplayTheorems, CallTheorems, WindowTheorems}
 use Rattle.log_laws.specs.Window.{windowSize}
 use Rattle.log_laws.proofs.Lines.{lines-append, one-line, rest-line, lines-rest, line-some, unended-bad}

@@ -1,4 +1,5 @@
--- A log read through a window: each turn plays lines that stand whole in it, a rest that is the log's last, or one that is too long to be a line. Assumes nothing.
+-- A log read through a window: each turn plays lines that stand whole in it, a rest that is the log's last, or one that is too long to be a line. Assumes
+-- nothing.
 use mathlib.Core.Path.{_≡_, refl, sym, ap, subst, _∙_}
 use mathlib.Core.Bool.{Bool, true, false, cond}
 use mathlib.Core.List.{List, [], _∷_, _++_, append-assoc, append-nil}
@@ -19,7 +20,8 @@ use Rattle.salvage_laws.proofs.Parts.{cut-joined}
 use Rattle.log_laws.specs.Log.{endsLine, logLines}
 use Rattle.log_laws.specs.Replay.{ReplayState, AfterLine, afterLine, Pause, full, logEnd, badLine, Replay, printed, lent, endless, lineRoom, refusalLines}
 use Rattle.log_laws.specs.Replay.{onward, replayLines, replayFrom}
-use Rattle.log_laws.specs.Window.{mostLine, oneBefore, throughLastEnd, wholeLines, playableOf, playable, turn, TurnTo, keptBytes, Ending, closed, failed, Windows}
+use Rattle.log_laws.specs.Window.{mostLine, oneBefore, throughLastEnd, wholeLines, playableOf, playable, turn, TurnTo, keptBytes, Ending}
+use Rattle.log_laws.specs.Window.{closed, failed, Windows}
 use Rattle.log_laws.specs.Window.{again, bad-line, some-read, none-read, not-read, over}
 use Rattle.log_laws.specs.Theorems.{EndsInLine, nothing, behind, thenBy, andThen, ReplayTheorems}
 use Rattle.log_laws.proofs.Lines.{rest-line, unended-bad}
@@ -57,7 +59,8 @@ through-more [] s = by (throughLastEnd s)
     by : (k : ℕ) → oneBefore lineEnd k ≡ suc (0 + k)
     by zero = refl
     by (suc k) = omega arith
-through-more (c ∷ l) s = ap (oneBefore c) (through-more l s) ∙ (let e : suc (suc (length l + throughLastEnd s)) ≡ suc (suc (length l) + throughLastEnd s) = omega arith in e)
+through-more (c ∷ l) s = ap (oneBefore c) (through-more l s) ∙ (let e : suc (suc (length l + throughLastEnd s)) ≡ suc (suc (length l) + throughLastEnd s) =
+    omega arith in e)
 
 whole-behind : {a : List ℕ} (s : List ℕ) → EndsInLine a → wholeLines (a ++ s) ≡ a ++ wholeLines s
 whole-behind s nothing = refl
@@ -142,7 +145,8 @@ module _ (laws : ReplayTheorems) (cs : List Card) (n : ℕ) (room : lineRoom ≤
       ap (replayLines cs (lent n) s at) (rest-line c h q)
       ∙ ap (λ (x : Bool). cond x (record { text = []; state = s; at = at; pause = full })
       (onward s at (afterLine cs s (c ∷ h)) (λ s′ o. replayLines cs (lent (n - length o)) s′ (at + length (c ∷ h)) []))) (le-ltb n lineRoom room)
-      ∙ ap (λ (x : AfterLine). onward s at x (λ s′ o. replayLines cs (lent (n - length o)) s′ (at + length (c ∷ h)) [])) (line-stops cs s (c ∷ h) (unended-bad (c ∷ h) q))
+      ∙ ap (λ (x : AfterLine). onward s at x (λ s′ o. replayLines cs (lent (n - length o)) s′ (at + length (c ∷ h)) []))
+      (line-stops cs s (c ∷ h) (unended-bad (c ∷ h) q))
 
   long-whole : (c : ℕ) (h log : List ℕ) → Lacks lineEnd (c ∷ h) → mostLine ≤ length (c ∷ h) → whole (c ∷ h ++ log) ≡ stopped
   long-whole c h log q m = by (first-of c h log q)
@@ -200,7 +204,8 @@ module _ (laws : ReplayTheorems) (cs : List Card) (size : ℕ) (wide : mostLine 
       split-whole c = ap wholeLines (append-assoc a b c) ∙ whole-behind (b ++ c) e
 
       full-whole : (c : List ℕ) → lines-of .pause ≡ full
-          → text s at (wholeLines ((a ++ b) ++ c)) ≡ lines-of .text ++ text (lines-of .state) (lines-of .at) (wholeLines (drop (lines-of .at - at) (a ++ b) ++ c))
+          → text s at (wholeLines ((a ++ b) ++ c)) ≡ lines-of .text ++ text (lines-of .state) (lines-of .at)
+          (wholeLines (drop (lines-of .at - at) (a ++ b) ++ c))
       full-whole c h =
           let l : List ℕ = drop (lines-of .at - at) a in
           ap (text s at) (split-whole c) ∙ ap (λ (r : Replay). r .text) (lines-full laws cs n room s at a (wholeLines (b ++ c)) e h)
@@ -209,7 +214,8 @@ module _ (laws : ReplayTheorems) (cs : List Card) (size : ℕ) (wide : mostLine 
           ∙ ap wholeLines (sym (append-assoc l b c) ∙ ap (λ (x : List ℕ). x ++ c) (sym (full-left h))))
 
       end-whole : (c : List ℕ) → lines-of .pause ≡ logEnd
-          → text s at (wholeLines ((a ++ b) ++ c)) ≡ lines-of .text ++ text (lines-of .state) (lines-of .at) (wholeLines (drop (lines-of .at - at) (a ++ b) ++ c))
+          → text s at (wholeLines ((a ++ b) ++ c)) ≡ lines-of .text ++ text (lines-of .state) (lines-of .at)
+          (wholeLines (drop (lines-of .at - at) (a ++ b) ++ c))
       end-whole c h =
           ap (text s at) (split-whole c) ∙ ap (λ (r : Replay). r .text) (lines-end laws cs n room s at a (wholeLines (b ++ c)) e h)
           ∙ ap (λ (x : List ℕ). lines-of .text ++ text (lines-of .state) (lines-of .at) (wholeLines (x ++ c))) (sym (end-left h))
@@ -335,7 +341,8 @@ module _ (laws : ReplayTheorems) (cs : List Card) (size : ℕ) (wide : mostLine 
       ap (λ (x : Replay). x .text) (w .is) ∙ sym (final-over (w .room) (w .enough) s at held none)
 
   -- no read fails behind the log's end
-  no-failure : {e : Ending} {s : ReplayState} {at : ℕ} {held log t : List ℕ} {last : Bool} → e ≡ failed → last ≡ true → Windows cs size e s at held log last t → ⊥
+  no-failure : {e : Ending} {s : ReplayState} {at : ℕ} {held log t : List ℕ} {last : Bool} → e ≡ failed → last ≡ true
+      → Windows cs size e s at held log last t → ⊥
   no-failure q l (again r w p k) = no-failure q l k
   no-failure q l (bad-line r w p) = let z : _≡_ {A = ℕ} 0 1 = cc in absurd (omega arith)
   no-failure q l (some-read r bytes w p k) = let z : _≡_ {A = ℕ} 0 1 = cc in absurd (omega arith)
@@ -348,11 +355,13 @@ module _ (laws : ReplayTheorems) (cs : List Card) (size : ℕ) (wide : mostLine 
   fails {s = s} {at = at} {held = held} {log = log} {last = true} q l (again r w p k) = let z : _≡_ {A = ℕ} 0 1 = cc in absurd (omega arith)
   fails {s = s} {at = at} {held = held} {log = log} {last = false} q l (again r w p k) =
       ap (λ (x : List ℕ). r .text ++ x) (fails q l k)
-      ∙ sym (subst (λ (x : Replay). x .pause ≡ full → text s at (wholeLines (held ++ log)) ≡ x .text ++ text (x .state) (x .at) (wholeLines (keptBytes at x held ++ log)))
+      ∙ sym (subst (λ (x : Replay). x .pause ≡ full → text s at (wholeLines (held ++ log)) ≡ x .text
+      ++ text (x .state) (x .at) (wholeLines (keptBytes at x held ++ log)))
       (sym (w .is)) (on-full-whole (w .room) (w .enough) s at held log) p)
   fails q l (bad-line r w p) = let z : _≡_ {A = ℕ} 0 1 = cc in absurd (omega arith)
   fails {s = s} {at = at} {held = held} q l (some-read {log = log} r bytes w p k) =
-      ap (λ (x : List ℕ). r .text ++ x) (fails q refl k ∙ ap (λ (x : List ℕ). text (r .state) (r .at) (wholeLines x)) (append-assoc (keptBytes at r held) bytes log))
+      ap (λ (x : List ℕ). r .text ++ x) (fails q refl k ∙ ap (λ (x : List ℕ). text (r .state) (r .at) (wholeLines x))
+      (append-assoc (keptBytes at r held) bytes log))
       ∙ sym (subst (λ (x : Replay). x .pause ≡ logEnd → text s at (wholeLines (held ++ (bytes ++ log)))
       ≡ x .text ++ text (x .state) (x .at) (wholeLines (keptBytes at x held ++ (bytes ++ log))))
       (sym (w .is)) (on-end-whole (w .room) (w .enough) s at held (bytes ++ log)) p)

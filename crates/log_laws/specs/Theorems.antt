@@ -10,7 +10,8 @@ use Rattle.card_laws.specs.Cards.{Card}
 use Rattle.card_laws.specs.Reading.{good, readCards}
 use Rattle.card_laws.specs.Formulas.{formulaAnswer}
 use Rattle.log_laws.specs.Log.{tick, bad, logEntryOf}
-use Rattle.log_laws.specs.Replay.{ReplayState, Pause, full, logEnd, badLine, Replay, printed, Room, lent, endless, lineRoom, refusalLines, replayFrom, replayed}
+use Rattle.log_laws.specs.Replay.{ReplayState, Pause, full, logEnd, badLine, Replay, printed, Room, lent, endless, lineRoom, refusalLines}
+use Rattle.log_laws.specs.Replay.{replayFrom, replayed}
 use Rattle.log_laws.specs.Replay.{goes, afterLine, firstState, CallWords, replayCall}
 use Rattle.log_laws.specs.Window.{mostLine, windowSize, wholeLines, closed, failed, Windows}
 

@@ -90,7 +90,8 @@ module _ (cs : List Card) (size room : ℕ) (last : Bool) (s : ReplayState) (cur
             keeps = subst (λ (a : ℕ). Puts window 0 window′ kept (drop (a - cursor .at) (take held window))) (p .next) k;
           })
 
-      pub stays : length (s .memory) ≡ imageSize → lineRoom ≤ room → cursor .at + held < 2 ^ 64 → TurnInside cursor held room (record { replayed = x; held = kept })
+      pub stays : length (s .memory) ≡ imageSize → lineRoom ≤ room → cursor .at + held < 2 ^ 64
+          → TurnInside cursor held room (record { replayed = x; held = kept })
       stays i r h =
           let c : kept ≡ held - (x .cursor .at - cursor .at) =
           omega (arith, k .end, length-drop (x .cursor .at - cursor .at) (take held window), length-take-le held window inside) in

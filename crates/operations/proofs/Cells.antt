@@ -43,7 +43,8 @@ module _ {v : Value} {n : ℕ} {b : Bank} {i : ℕ} where
   arrived : (m : List ℕ) (w : Value) (k : ℕ) (d : Destination) → arrivedAnswer m w k d ≡ Done v n b i → i < layoutOf b .elements
   arrived m w k (cell c j) e = by (hasCell m c j) refl e
     where
-      by : (t : Bool) → hasCell m c j ≡ t → afterStore w k c j (cond t (answerOf (encodeCell c w)) (Stored.Stopped IndexError)) ≡ Done v n b i → i < layoutOf b .elements
+      by : (t : Bool) → hasCell m c j ≡ t → afterStore w k c j (cond t (answerOf (encodeCell c w)) (Stored.Stopped IndexError)) ≡ Done v n b i
+          → i < layoutOf b .elements
       by true q e = after-store w k c j (answerOf (encodeCell c w)) (ltb-true j _ (and-eq-true-iff (eqb (length m) imageSize) _ .0 q .1)) e
       by false q e = absurd (no-fault e)
   arrived m w k (fault f) e = absurd (no-fault e)

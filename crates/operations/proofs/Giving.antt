@@ -44,7 +44,8 @@ module _ (tick : ℕ) (code : List ℕ) (n : ℕ) (m : List ℕ) where
   pub no-memory : (length m ≡ imageSize → ⊥) → Refused 1 0 ≡ evaluateAnswer tick code n m
   no-memory h = rw (ne-eqb (length m) imageSize h)
 
-  pub evaluates : {x : Ran} {v : Verdict} {r : Answer} → length m ≡ imageSize → verdict (instructions code n) ≡ v → x ≡ runsAt tick code n m → r ≡ valueAnswer x v
+  pub evaluates : {x : Ran} {v : Verdict} {r : Answer} → length m ≡ imageSize → verdict (instructions code n) ≡ v → x ≡ runsAt tick code n m
+      → r ≡ valueAnswer x v
       → r ≡ evaluateAnswer tick code n m
   evaluates {x} {v} h q f e = e ∙ ap (λ x. valueAnswer x v) f ∙ ap (valueAnswer (runsAt tick code n m)) (sym q) ∙ sym (rw (eq-eqb (length m) imageSize h))
 

@@ -97,7 +97,8 @@ bad-target text code index (toCell b i) e = let z : _≡_ {A = ℕ} 0 1 = cc in 
 bad-target text code index (toIndexed b t) e = let z : _≡_ {A = ℕ} 0 1 = cc in absurd (omega arith)
 bad-target text code index noTarget e = refl
 
-pub good-target : {b : Bank} {e : Element} (text code index : List ℕ) (g : Target) → foundOf g ≡ In b e → ofTarget text code index g ≡ ofText code index g (judge text)
+pub good-target : {b : Bank} {e : Element} (text code index : List ℕ) (g : Target) → foundOf g ≡ In b e
+    → ofTarget text code index g ≡ ofText code index g (judge text)
 good-target text code index (toCell b i) e = refl
 good-target text code index (toIndexed b t) e = refl
 good-target text code index noTarget e = let z : _≡_ {A = ℕ} 0 1 = cc in absurd (omega arith)
@@ -118,10 +119,12 @@ kinded tick m = record { cell = memory-kinded m .cell }
 
 module _ (d : ℕ) (s : List ℕ) (t : Tree) (e : judgeFrom d s ≡ accepted t) (tick : ℕ) (m : List ℕ) where
   -- whatever else the buffer holds
-  pub run-code : (code : List ℕ) → 16384 ≤ length code → runsAt tick (codedBytes code (accepted t)) (length (codeOf t)) m ≡ exec (memoryAt tick m) (codeOf t) 0 []
+  pub run-code : (code : List ℕ) → 16384 ≤ length code → runsAt tick (codedBytes code (accepted t)) (length (codeOf t)) m
+      ≡ exec (memoryAt tick m) (codeOf t) 0 []
   run-code code h = ap (λ c. exec (memoryAt tick m) c 0 []) (compile-theorems-from d .there s code t e h)
 
-  pub run-tree : (code : List ℕ) → 16384 ≤ length code → runsAt tick (codedBytes code (accepted t)) (length (codeOf t)) m .end ≡ endOf (eval (memoryAt tick m) t)
+  pub run-tree : (code : List ℕ) → 16384 ≤ length code → runsAt tick (codedBytes code (accepted t)) (length (codeOf t)) m .end
+      ≡ endOf (eval (memoryAt tick m) t)
   run-tree code h = ap (λ x. x .end) (run-code code h) ∙ compile-theorems-from d .demand s t e .same (memoryAt tick m) (kinded tick m)
 
 module _ (target : List ℕ) where
@@ -148,7 +151,8 @@ module _ (target : List ℕ) where
   arrives tick m index noTarget q h f = let z : _≡_ {A = ℕ} 0 1 = cc in absurd (omega arith)
 
 -- the judgement j of the text s was compiled, and what was written was run on m; then came what follows a value, or the flag
-pub performs : {q : Request} (tick : ℕ) (s code index m : List ℕ) (g : Target) (b : Bank) (e : Element) (j : Judgement) {n : ℕ} {code′ index′ : List ℕ} {x : Ran} {r : Answer} {m′ : List ℕ}
+pub performs : {q : Request} (tick : ℕ) (s code index m : List ℕ) (g : Target) (b : Bank) (e : Element)
+    (j : Judgement) {n : ℕ} {code′ index′ : List ℕ} {x : Ran} {r : Answer} {m′ : List ℕ}
     → q ≡ ofText code index g j → judge s ≡ j → 16384 ≤ length code → Coded.Done n ≡ codedAnswer j → code′ ≡ codedBytes code j → index′ ≡ indexBytes index g
     → x ≡ runsAt tick code′ n m → arrival tick (indexBytes index g) m b e ≡ arrivalOf tick (indexBytes index g) m g
     → Finishes m (arrival tick index′ m b e) x r m′ → Performs tick q m code index r m′ code′ index′

@@ -49,8 +49,9 @@ use Rattle.operations.specs.declared.Answer.{Answer}
 use Rattle.operations.specs.declared.Answer.the-variants.{Done, Fault, Refused}
 use Rattle.operations.specs.declared.Report.{Report}
 
--- the number, place, value, count and cell of each answer: "1 to 10 and 15 .. return integer 0, count 0. 11 to 14 .. return integer 0 and the instructions begun
--- .. 0 returns the value before the store and the instructions executed"; "Place is 0 for 0 to 3, 10 and above". X0, which is never stored to, stands for no cell
+-- the number, place, value, count and cell of each answer: "1 to 10 and 15 .. return integer 0, count 0. 11 to 14 .. return integer 0 and the instructions
+-- begun .. 0 returns the value before the store and the instructions executed"; "Place is 0 for 0 to 3, 10 and above". X0, which is never stored to, stands
+-- for no cell
 abbrev pub reportOf : Answer → Report
 reportOf (Done v n b i) = record { answer = 0; place = 0; value = v; count = n; bank = b; element = i }
 reportOf (Fault f n) = record { answer = faultNumber f; place = 0; value = Int (pos 0); count = n; bank = X; element = 0 }

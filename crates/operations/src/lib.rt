@@ -178,7 +178,8 @@ fn finish(
 ) -> Answer
     requires { ⌜ Few element × (ran .count ≤ mostBegun) × FiniteEnd (ran .end) ⌝ }
     ensures { λ r. ⌜ r ≡ finished (now (memory .entry)) (arrival tick (now (index .entry)) (now (memory .entry)) bank element) (ran .end) (ran .count) ⌝ }
-    ensures { λ r. ⌜ now (memory .exit) ≡ memoryAfter (now (memory .entry)) (arrival tick (now (index .entry)) (now (memory .entry)) bank element) (ran .end) ⌝ }
+    ensures { λ r. ⌜ now (memory .exit) ≡ memoryAfter (now (memory .entry)) (arrival tick (now (index .entry)) (now (memory .entry)) bank element)
+        (ran .end) ⌝ }
 {
     let count = ran.count;
     let end = ran.end;
@@ -332,10 +333,14 @@ pub fn compile_and_run(
     index: &mut [u8],
     tick: u32,
 ) -> Answer
-    ensures { λ r. ⌜ r ≡ requestAnswer tick (now (memory .entry)) (request (now (target .entry)) (now (text .entry)) (now (memory .entry)) (now (code .entry)) (now (index .entry))) ⌝ }
-    ensures { λ r. ⌜ now (memory .exit) ≡ requestMemory tick (now (memory .entry)) (request (now (target .entry)) (now (text .entry)) (now (memory .entry)) (now (code .entry)) (now (index .entry))) ⌝ }
-    ensures { λ r. ⌜ now (code .exit) ≡ requestCode (now (code .entry)) (request (now (target .entry)) (now (text .entry)) (now (memory .entry)) (now (code .entry)) (now (index .entry))) ⌝ }
-    ensures { λ r. ⌜ now (index .exit) ≡ requestIndex (now (index .entry)) (request (now (target .entry)) (now (text .entry)) (now (memory .entry)) (now (code .entry)) (now (index .entry))) ⌝ }
+    ensures { λ r. ⌜ r ≡ requestAnswer tick (now (memory .entry)) (request (now (target .entry)) (now (text .entry)) (now (memory .entry))
+        (now (code .entry)) (now (index .entry))) ⌝ }
+    ensures { λ r. ⌜ now (memory .exit) ≡ requestMemory tick (now (memory .entry))
+        (request (now (target .entry)) (now (text .entry)) (now (memory .entry)) (now (code .entry)) (now (index .entry))) ⌝ }
+    ensures { λ r. ⌜ now (code .exit) ≡ requestCode (now (code .entry))
+        (request (now (target .entry)) (now (text .entry)) (now (memory .entry)) (now (code .entry)) (now (index .entry))) ⌝ }
+    ensures { λ r. ⌜ now (index .exit) ≡ requestIndex (now (index .entry))
+        (request (now (target .entry)) (now (text .entry)) (now (memory .entry)) (now (code .entry)) (now (index .entry))) ⌝ }
 {
     if memory.len() != memory::IMAGE_SIZE {
         return Answer::Refused(1, 0);

@@ -20,7 +20,8 @@ use Rattle.verifier.specs.Typing.{Shape, wellFormed}
 use Rattle.verifier.specs.Accepts.{instrAt, Accepts, CorrectVerdict}
 use Rattle.verifier.specs.private.Shapes.{State, rejected, unreached, holds, kindsOf, none, ArrayHolds, tableOf, Table, Blank}
 use Rattle.verifier.specs.private.Pass.{verdictOf, Joins, takes, Steps, Skips}
-use Rattle.verifier.proofs.Pass.{unheld, unfailed, unarrived, Comes, Knows, Or, passes, refusal, passage, begins, joined, verdict-sound, verdict-complete}
+use Rattle.verifier.proofs.Pass.{unheld, unfailed, unarrived, Comes, Knows, Or, passes, refusal, passage, begins, joined, verdict-sound}
+use Rattle.verifier.proofs.Pass.{verdict-complete}
 use Rattle.verifier.proofs.Onward.{stepped, passed}
 use Rattle.verifier.proofs.Held.{keeps-none}
 
@@ -92,7 +93,8 @@ module _ (code : List ℕ) (n : ℕ) where
   abbrev pub Came : ℕ → (ℕ → State) → State → Type 0
   Came p brought o = Or (instructions code n) (Comes (instructions code n) p brought) o
 
-  pub turn : {p : ℕ} {i : Instr} {s : Shape} {before after : ℕ → State} {o : State} → p < n → decodeAt code p ≡ i → Knows (instructions code n) p before (holds s)
+  pub turn : {p : ℕ} {i : Instr} {s : Shape} {before after : ℕ → State} {o : State} → p < n → decodeAt code p ≡ i
+      → Knows (instructions code n) p before (holds s)
       → Steps i (n - (p + 1)) (p + 1) s before o after → Came (p + 1) after o
   turn {p} {i} {s} {before} {after} {o} l is k t =
       let here : i ≡ instrAt (instructions code n) p = sym (at l ∙ is) in
@@ -104,9 +106,11 @@ module _ (code : List ℕ) (n : ℕ) where
   fails w e = refused (refusal w e)
 
   -- what flows into p agrees with what jumps brought there, or not
-  module _ {p : ℕ} {brought : ℕ → State} {o : State} {s : Shape} (b : Bool) (w : Came p brought o) (e : o ≡ holds s) (j : Joins (holds s) (brought p) (cond b (holds s) rejected)) where
+  module _ {p : ℕ} {brought : ℕ → State} {o : State} {s : Shape} (b : Bool) (w : Came p brought o) (e : o ≡ holds s)
+      (j : Joins (holds s) (brought p) (cond b (holds s) rejected)) where
     met : {x : State} → cond b (holds s) rejected ≡ x → Or (instructions code n) (Knows (instructions code n) p brought) x
-    met q = subst (Or (instructions code n) (Knows (instructions code n) p brought)) q (joined refl (subst (Or (instructions code n) (Comes (instructions code n) p brought)) e w) j)
+    met q = subst (Or (instructions code n) (Knows (instructions code n) p brought)) q
+        (joined refl (subst (Or (instructions code n) (Comes (instructions code n) p brought)) e w) j)
 
     pub agreed : b ≡ true → Knows (instructions code n) p brought (holds s)
     agreed y = passage (met (ap (λ b. cond b (holds s) rejected) y)) (λ f. unfailed f)
@@ -116,26 +120,31 @@ module _ (code : List ℕ) (n : ℕ) where
 
   -- ---- the end, with what is known there
 
-  ends-by : {brought : ℕ → State} {o : State} {v : Verdict} → 0 < n → n ≤ 2048 → Or (instructions code n) (Knows (instructions code n) (length (instructions code n)) brought) o
+  ends-by : {brought : ℕ → State} {o : State} {v : Verdict} → 0 < n → n ≤ 2048
+      → Or (instructions code n) (Knows (instructions code n) (length (instructions code n)) brought) o
       → v ≡ verdictOf o → CorrectVerdict code n v
   ends-by some few w is = record {
     sound = λ k f. verdict-sound (omega (arith, size)) (omega (arith, size)) w k (sym is ∙ f);
     complete = λ k a. is ∙ verdict-complete w k a;
   }
 
-  pub ends : {p : ℕ} {brought : ℕ → State} {s : Shape} {v : Verdict} → 0 < n → n ≤ 2048 → p ≡ n → Knows (instructions code n) p brought (holds s) → v ≡ verdictOf (holds s) → CorrectVerdict code n v
+  pub ends : {p : ℕ} {brought : ℕ → State} {s : Shape} {v : Verdict} → 0 < n → n ≤ 2048 → p ≡ n → Knows (instructions code n) p brought (holds s)
+      → v ≡ verdictOf (holds s) → CorrectVerdict code n v
   ends {p} {brought} {s} some few e k is = ends-by some few (passes (λ f. unfailed f) (rw (e ∙ sym size) at k)) is
 
   -- ---- nothing flows into p, and r is the next place that jumps come to, or one that they do not
 
-  module _ {p r : ℕ} {tops : List ℕ} {brought : ℕ → State} {o : State} (w : Came p brought o) (e : o ≡ unreached) (none : (q : ℕ) → getD tops q 0 ≡ 0 → brought q ≡ unreached)
+  module _ {p r : ℕ} {tops : List ℕ} {brought : ℕ → State} {o : State} (w : Came p brought o) (e : o ≡ unreached)
+      (none : (q : ℕ) → getD tops q 0 ≡ 0 → brought q ≡ unreached)
       (k : Skips code n tops p r) where
     over : (m : ℕ) → p + m ≤ r → Comes (instructions code n) (p + m) brought unreached
     over zero l = rw (add-zero p) (passage (subst (Or (instructions code n) (Comes (instructions code n) p brought)) e w) unarrived)
     over (suc m) l =
         let q : p + m < n = omega (arith, k .way .within) in
-        let known : wellFormed (length (instructions code n) - suc (p + m)) (instrAt (instructions code n) (p + m)) ≡ true = rw (size, at q) (k .way .each (p + m) (omega arith) (omega arith)) in
-        rw (add-suc p m) (passed (instructions code n) (p + m) brought known (none (p + m) (k .way .none (p + m) (omega arith) (omega arith))) (over m (omega arith)))
+        let known : wellFormed (length (instructions code n) - suc (p + m)) (instrAt (instructions code n) (p + m)) ≡ true =
+        rw (size, at q) (k .way .each (p + m) (omega arith) (omega arith)) in
+        rw (add-suc p m) (passed (instructions code n) (p + m) brought known (none (p + m) (k .way .none (p + m) (omega arith) (omega arith)))
+        (over m (omega arith)))
 
     skipped : Comes (instructions code n) r brought unreached
     skipped =

@@ -100,7 +100,8 @@ module _ {a : List ℕ} {w : Held} (k : ArrayHolds a w) where
   next-last : {v : Held} → 1 < w .height → Popped w v → kindsOf v ≡ numberKind (getD a (w .height - 2) 0) ∷ below v
   next-last {v} l p =
       let e : kindsOf v ≡ numberKind (word v % 2) ∷ below v = top v (omega (arith, p .height)) in
-      let d : kindsOf w ≡ numberKind (word w % 2) ∷ (numberKind (word v % 2) ∷ below v) = kinds-popped (omega arith) p ∙ ap (λ s. numberKind (word w % 2) ∷ s) e in
+      let d : kindsOf w ≡ numberKind (word w % 2) ∷ (numberKind (word v % 2) ∷ below v) = kinds-popped (omega arith) p
+      ∙ ap (λ s. numberKind (word w % 2) ∷ s) e in
       let t : numberKind (getD a (w .height - 2) 0) ≡ numberKind (word v % 2) = k .is 1 (omega arith) l ∙ ap (λ s. kindBelow s 1) d in
       e ∙ ap (λ j. j ∷ below v) (sym t)
 
@@ -117,11 +118,13 @@ module _ {a : List ℕ} {w : Held} {n : ℕ} (k : ArrayHolds a w) where
       at : (i : ℕ) → i < 2 → i < r .height → numberKind (getD (set a (w .height) n) (r .height - suc i) 0) ≡ kindBelow (kindsOf r) i
       at zero m g =
           let e : r .height - 1 ≡ w .height = omega (arith, p .height) in
-          ap (λ j. numberKind (getD (set a (w .height) n) j 0)) e ∙ ap (λ x. numberKind x) (getD-set-same a (w .height) n 0 (omega (arith, k .whole))) ∙ sym (ap (λ s. kindBelow s 0) (kinds-pushed b p))
+          ap (λ j. numberKind (getD (set a (w .height) n) j 0)) e ∙ ap (λ x. numberKind x) (getD-set-same a (w .height) n 0 (omega (arith, k .whole)))
+          ∙ sym (ap (λ s. kindBelow s 0) (kinds-pushed b p))
       at (suc i) m g =
           let e : r .height - suc (suc i) ≡ w .height - suc i = omega (arith, p .height) in
           let o : w .height - suc i ≡ w .height → ⊥ = λ q. omega (arith, p .height) in
-          ap (λ j. numberKind (getD (set a (w .height) n) j 0)) e ∙ ap (λ x. numberKind x) (getD-set-other a (w .height) (w .height - suc i) n 0 o) ∙ k .is i (omega arith) (omega (arith, p .height))
+          ap (λ j. numberKind (getD (set a (w .height) n) j 0)) e ∙ ap (λ x. numberKind x) (getD-set-other a (w .height) (w .height - suc i) n 0 o)
+          ∙ k .is i (omega arith) (omega (arith, p .height))
           ∙ sym (ap (λ s. kindBelow s (suc i)) (kinds-pushed b p))
 
   -- the bits as after a pop and a push
@@ -147,11 +150,13 @@ module _ {a : List ℕ} {w : Held} {n : ℕ} (k : ArrayHolds a w) where
       at : (i : ℕ) → i < 2 → i < r .height → numberKind (getD (set a (w .height - 1) n) (r .height - suc i) 0) ≡ kindBelow (kindsOf r) i
       at zero m g =
           let e : r .height - 1 ≡ w .height - 1 = ap (λ h. h - 1) (p .height) in
-          ap (λ j. numberKind (getD (set a (w .height - 1) n) j 0)) e ∙ ap (λ x. numberKind x) (getD-set-same a (w .height - 1) n 0 (omega (arith, k .whole, k .canonical .low))) ∙ sym (ap (λ s. kindBelow s 0) now)
+          ap (λ j. numberKind (getD (set a (w .height - 1) n) j 0)) e ∙ ap (λ x. numberKind x)
+          (getD-set-same a (w .height - 1) n 0 (omega (arith, k .whole, k .canonical .low))) ∙ sym (ap (λ s. kindBelow s 0) now)
       at (suc i) m g =
           let e : r .height - suc (suc i) ≡ w .height - suc (suc i) = ap (λ h. h - suc (suc i)) (p .height) in
           let o : w .height - suc (suc i) ≡ w .height - 1 → ⊥ = λ d. omega (arith, p .height) in
-          ap (λ j. numberKind (getD (set a (w .height - 1) n) j 0)) e ∙ ap (λ x. numberKind x) (getD-set-other a (w .height - 1) (w .height - suc (suc i)) n 0 o)
+          ap (λ j. numberKind (getD (set a (w .height - 1) n) j 0)) e ∙ ap (λ x. numberKind x)
+          (getD-set-other a (w .height - 1) (w .height - suc (suc i)) n 0 o)
           ∙ k .is (suc i) m (omega (arith, p .height)) ∙ ap (λ s. kindBelow s (suc i)) (top w l) ∙ sym (ap (λ s. kindBelow s (suc i)) now)
 
   pub pushes : {r : Held} → n < 2 → w .height < 128 → Pushed n w r → Leaves (set a (w .height) n) (record { reach = 2; held = r }) (pushNumber n (kindsOf w))
@@ -201,7 +206,8 @@ module _ {a : List ℕ} {w : Held} (k : HoldsLast 1 a w) where
 
       at : (i : ℕ) → i < 2 → i < w .height → numberKind (getD (set a (w .height - 2) y) (w .height - suc i) 0) ≡ kindBelow (kindsOf w) i
       at zero m g = ap (λ x. numberKind x) (getD-set-other a (w .height - 2) (w .height - 1) y 0 other) ∙ k .is 0 (omega arith) g
-      at (suc zero) m g = ap (λ x. numberKind x) (getD-set-same a (w .height - 2) y 0 (omega (arith, k .whole, k .canonical .low)) ∙ d) ∙ sym (ap (λ t. kindBelow t 1) both)
+      at (suc zero) m g = ap (λ x. numberKind x) (getD-set-same a (w .height - 2) y 0 (omega (arith, k .whole, k .canonical .low)) ∙ d)
+          ∙ sym (ap (λ t. kindBelow t 1) both)
       at (suc (suc i)) m g = absurd (omega arith)
 
 -- ---- one value is taken, or two
@@ -217,7 +223,8 @@ module _ {a : List ℕ} {w : Held} (k : ArrayHolds a w) {i : Instr} {n : ℕ} wh
     pub taken-one : 0 < w .height → ReplacesKind i (getD a (w .height - 1) 0) n → Leaves b f (leaving n (below w)) → Leaves b f (moveOf i (kindsOf w))
     taken-one l t = likewise (ap (moveOf i) (last k l) ∙ t .is (below w))
 
-    pub taken-two : {v : Held} → 1 < w .height → Popped w v → ReplacesTwo i (getD a (w .height - 2) 0) (getD a (w .height - 1) 0) n → Leaves b f (leaving n (below v))
+    pub taken-two : {v : Held} → 1 < w .height → Popped w v → ReplacesTwo i (getD a (w .height - 2) 0) (getD a (w .height - 1) 0) n
+        → Leaves b f (leaving n (below v))
         → Leaves b f (moveOf i (kindsOf w))
     taken-two {v} l p t = likewise (ap (moveOf i) all ∙ t .is (below v))
       where
@@ -226,7 +233,8 @@ module _ {a : List ℕ} {w : Held} (k : ArrayHolds a w) {i : Instr} {n : ℕ} wh
             let e : below w ≡ kindsOf v = rw (p .height, p .bits) in
             last k (omega arith) ∙ ap (λ s. numberKind (getD a (w .height - 1) 0) ∷ s) (e ∙ next-last k l p)
 
-  pub refused-two : 1 < w .height → ReplacesTwo i (getD a (w .height - 2) 0) (getD a (w .height - 1) 0) n → 2 ≤ n → Leaves a (record { reach = 0; held = w }) (moveOf i (kindsOf w))
+  pub refused-two : 1 < w .height → ReplacesTwo i (getD a (w .height - 2) 0) (getD a (w .height - 1) 0) n → 2 ≤ n
+      → Leaves a (record { reach = 0; held = w }) (moveOf i (kindsOf w))
   refused-two l t g = taken-two l (halves w) t (unplaced k (below (halved w)) g)
 
 -- ---- short of a value

@@ -1,5 +1,5 @@
--- What jumps brought to a place, whether what flows into it agrees, and a jump that merges the kinds held into it, on the arrays: each way through `brought`, `agrees`
--- and `merge`.
+-- What jumps brought to a place, whether what flows into it agrees, and a jump that merges the kinds held into it, on the arrays: each way through
+-- `brought`, `agrees` and `merge`.
 use mathlib.Core.Path.{_≡_, refl, sym, ap, _∙_, subst}
 use mathlib.Core.Bool.{Bool, true, false, cond}
 use mathlib.Core.List.{List}
@@ -69,6 +69,7 @@ module _ {x : State} (h w : Held) (e : holds (kindsOf w) ≡ x) where
   agrees-same true a = rw (← e, a .yes refl) agrees
   agrees-same false a = rw (← e) (differs (a .no refl))
 
-pub merge-same : {before : ℕ → State} {t : ℕ} (h w : Held) (b : Bool) → holds (kindsOf w) ≡ before t → Agrees b (kindsOf h) (kindsOf w) → Merges (kindsOf h) t before b before
+pub merge-same : {before : ℕ → State} {t : ℕ} (h w : Held) (b : Bool) → holds (kindsOf w) ≡ before t → Agrees b (kindsOf h) (kindsOf w)
+    → Merges (kindsOf h) t before b before
 merge-same h w true e a = has (sym e ∙ ap holds (sym (a .yes refl)))
 merge-same h w false e a = clashes (sym e) (a .no refl)

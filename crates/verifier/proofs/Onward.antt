@@ -1,5 +1,5 @@
--- From one place to the next: where the pass knows what is reached at p, a step of it leaves the pass with what comes to the next place; and so does a place that
--- nothing comes to.
+-- From one place to the next: where the pass knows what is reached at p, a step of it leaves the pass with what comes to the next place; and so does a
+-- place that nothing comes to.
 use mathlib.Core.Path.{_≡_, refl, sym, ap, _∙_, subst}
 use mathlib.Core.Logic.{_⊎_, inl, inr}
 use mathlib.Core.Bool.{true, false, true≢false}
@@ -14,7 +14,8 @@ use Rattle.verifier.specs.Accepts.{MovesTo, next-place, jump-target, not
 use Rattle.verifier.specs.private.Shapes.{State, rejected, unreached, holds}
 use Rattle.verifier.specs.private.Pass.{Merges, adds, has, clashes, Steps, stuck, strays, goes, leaps, forks, leap-clash, fork-clash}
 use Rattle.verifier.proofs.Moves.{compare, upto, able, goes-known}
-use Rattle.verifier.proofs.Pass.{holds-same, unheld, unfailed, unarrived, Arrives, first, from, In, flows, jumped, Comes, Knows, Or, refuses, passes, exact, unique}
+use Rattle.verifier.proofs.Pass.{holds-same, unheld, unfailed, unarrived, Arrives, first, from, In, flows, jumped, Comes, Knows, Or, refuses}
+use Rattle.verifier.proofs.Pass.{passes, exact, unique}
 
 -- ---- what is asked of a step, whatever the instruction
 
@@ -61,7 +62,8 @@ module _ {before : ℕ → State} {r : Shape} {t : ℕ} where
   keeps (adds e f o) q x g = compare q t (λ i. unheld (sym e ∙ sym (ap before i) ∙ g)) (λ n. o q n ∙ g)
   keeps (has e) q x g = g
 
-  grows : {after : ℕ → State} {p : ℕ} {m : Move} → Merges r t before true after → MovesTo p m t r → (q : ℕ) (x : Shape) → after q ≡ holds x → (before q ≡ holds x) ⊎ MovesTo p m q x
+  grows : {after : ℕ → State} {p : ℕ} {m : Move} → Merges r t before true after → MovesTo p m t r → (q : ℕ) (x : Shape) → after q ≡ holds x
+      → (before q ≡ holds x) ⊎ MovesTo p m q x
   grows {after} {p} {m} (adds e f o) w q x g = compare q t
       (λ i. inr (subst (λ q. MovesTo p m q x) (sym i) (subst (MovesTo p m t) (holds-same (sym f ∙ ap after (sym i) ∙ g)) w)))
       (λ n. inl (sym (o q n) ∙ g))
@@ -104,25 +106,30 @@ module _ (c : List Instr) (p : ℕ) (before : ℕ → State) (inside : p < lengt
 
   module _ {s r : Shape} (k : Knows c p before (holds s)) where
     goes-on : moveOf (instrAt c p) s ≡ next r → Comes c (suc p) before (holds r)
-    goes-on e = moved k e (goes-known (instrAt c p) s (length c - suc p) e) next-place led (λ q x f. f) (λ x f. subst (MovesTo p (next r) (suc p)) (holds-same f) next-place) (λ q x f. inl f)
+    goes-on e = moved k e (goes-known (instrAt c p) s (length c - suc p) e) next-place led (λ q x f. f)
+        (λ x f. subst (MovesTo p (next r) (suc p)) (holds-same f) next-place) (λ q x f. inl f)
       where
         led : (q : ℕ) (x : Shape) → MovesTo p (next r) q x → In (suc p) before (holds r) q x
         led _ _ next-place = flows refl refl
 
-    leaps-on : {d : ℕ} {after : ℕ → State} → Stands → moveOf (instrAt c p) s ≡ jump d r → Merges r (suc p + d) before true after → Comes c (suc p) after unreached
+    leaps-on : {d : ℕ} {after : ℕ → State} → Stands → moveOf (instrAt c p) s ≡ jump d r → Merges r (suc p + d) before true after
+        → Comes c (suc p) after unreached
     leaps-on {d} {after} known e b = moved k e known jump-target led (keeps b) (λ x f. unheld f) (grows b jump-target)
       where
         led : (q : ℕ) (x : Shape) → MovesTo p (jump d r) q x → In (suc p) after unreached q x
         led _ _ jump-target = jumped (there b)
 
-    forks-on : {d : ℕ} {after : ℕ → State} → Stands → moveOf (instrAt c p) s ≡ fork d r → Merges r (suc p + d) before true after → Comes c (suc p) after (holds r)
-    forks-on {d} {after} known e b = moved k e known not-taken led (keeps b) (λ x f. subst (MovesTo p (fork d r) (suc p)) (holds-same f) not-taken) (grows b taken)
+    forks-on : {d : ℕ} {after : ℕ → State} → Stands → moveOf (instrAt c p) s ≡ fork d r → Merges r (suc p + d) before true after
+        → Comes c (suc p) after (holds r)
+    forks-on {d} {after} known e b = moved k e known not-taken led (keeps b) (λ x f. subst (MovesTo p (fork d r) (suc p)) (holds-same f) not-taken)
+        (grows b taken)
       where
         led : (q : ℕ) (x : Shape) → MovesTo p (fork d r) q x → In (suc p) after (holds r) q x
         led _ _ not-taken = flows refl refl
         led _ _ taken = jumped (there b)
 
-  pub stepped : {s : Shape} {o : State} {after : ℕ → State} → Knows c p before (holds s) → Steps (instrAt c p) (length c - suc p) (suc p) s before o after → Or c (Comes c (suc p) after) o
+  pub stepped : {s : Shape} {o : State} {after : ℕ → State} → Knows c p before (holds s) → Steps (instrAt c p) (length c - suc p) (suc p) s before o after
+      → Or c (Comes c (suc p) after) o
   stepped {s} k (stuck e) = refuses (λ h a. a .acts p s (k .comes .flow s refl) inside e)
   stepped k (strays e) = refuses (λ h a. true≢false (sym (a .each p inside) ∙ e))
   stepped k (goes e) = passes (λ e. unfailed e) (goes-on k e)
@@ -133,7 +140,8 @@ module _ (c : List Instr) (p : ℕ) (before : ℕ → State) (inside : p < lengt
 
 -- ---- a place that nothing comes to is passed over
 
-pub passed : (c : List Instr) (p : ℕ) (before : ℕ → State) → wellFormed (length c - suc p) (instrAt c p) ≡ true → before p ≡ unreached → Comes c p before unreached → Comes c (suc p) before unreached
+pub passed : (c : List Instr) (p : ℕ) (before : ℕ → State) → wellFormed (length c - suc p) (instrAt c p) ≡ true → before p ≡ unreached
+    → Comes c p before unreached → Comes c (suc p) before unreached
 passed c p before known e k = advance c p before unreached w known (record {
   acts = λ s d. unheld (exact w s d);
   led = λ s q r d. unheld (exact w s d);

@@ -106,7 +106,8 @@ begins c brought e = record {
 
 -- ---- what jumps brought to p is joined
 
-pub joined : {c : List Instr} {p : ℕ} {brought : ℕ → State} {o x o′ : State} → brought p ≡ x → Or c (Comes c p brought) o → Joins o x o′ → Or c (Knows c p brought) o′
+pub joined : {c : List Instr} {p : ℕ} {brought : ℕ → State} {o x o′ : State} → brought p ≡ x → Or c (Comes c p brought) o → Joins o x o′
+    → Or c (Knows c p brought) o′
 joined e (refuses f) alone = refuses f
 joined e (passes n k) alone = passes n (record { comes = k; joined = λ s f. unheld (sym e ∙ f) })
 joined {c} {p} {brought} e (passes n k) (takes {s = s}) = passes (λ e. unfailed e) (record {
@@ -130,7 +131,8 @@ joined {c} {p} e (passes n k) (differs {s = s} {r = r} f) = refuses (λ j a. f (
 -- ---- at the end
 
 -- no place beyond it is reached
-pub ahead : {c : List Instr} → ((q : ℕ) → q < length c → wellFormed (length c - suc q) (instrAt c q) ≡ true) → {p : ℕ} {s : Shape} → Reached c p s → p ≤ length c
+pub ahead : {c : List Instr} → ((q : ℕ) → q < length c → wellFormed (length c - suc q) (instrAt c q) ≡ true) → {p : ℕ} {s : Shape} → Reached c p s
+    → p ≤ length c
 ahead f start = omega arith
 ahead {c} f (onward {p = p} {s = s} d l w) = within (instrAt c p) s l (f p l) w
 
@@ -140,7 +142,8 @@ accepted {c} {brought} {k} some few w = record {
   few = few;
   each = w .comes .each;
   acts = λ p s d l. w .comes .acts p s l d;
-  one = λ p s r d f. upto (λ p. Reached c p s → Reached c p r → s ≡ r) (length c) (λ p l. w .comes .one p s r l) (unique w s r) p (omega (arith, ahead (w .comes .each) d)) d f;
+  one = λ p s r d f. upto (λ p. Reached c p s → Reached c p r → s ≡ r) (length c) (λ p l. w .comes .one p s r l)
+      (unique w s r) p (omega (arith, ahead (w .comes .each) d)) d f;
   ended = w .comes .flow (k ∷ []) refl;
 }
 
@@ -158,6 +161,7 @@ verdict-sound {c} {brought} {o} some few w k e =
     let q : o ≡ holds (k ∷ []) = one-held o k e in
     accepted some few (subst (Knows c (length c) brought) q (passage w (λ r. unfailed (sym q ∙ r))))
 
-pub verdict-complete : {c : List Instr} {brought : ℕ → State} {o : State} → Or c (Knows c (length c) brought) o → (k : Kind) → Accepts c k → verdictOf o ≡ Accepted k
+pub verdict-complete : {c : List Instr} {brought : ℕ → State} {o : State} → Or c (Knows c (length c) brought) o → (k : Kind) → Accepts c k
+    → verdictOf o ≡ Accepted k
 verdict-complete (refuses f) k a = absurd (f k a)
 verdict-complete (passes n w) k a = ap verdictOf (exact w (k ∷ []) (a .ended))

@@ -34,7 +34,8 @@ use Rattle.machine.proofs.Laws.{onward as after, count-most}
 use Rattle.machine.proofs.Bounds.{bound-code}
 use Rattle.verifier.specs.Typing.{Shape, Move, illTyped, next, fork, pushKind, moveOf}
 use Rattle.verifier.specs.Accepts.{MovesTo, next-place, jump-target, not-taken, taken, instrAt, Reached, start, onward, Accepts}
-use Rattle.verifier.specs.Stack.{HasOperands, push-int, push-real, load, load-indexed, unary, binary, jump-always, jump-if, push-tick, since, total, matching, StackSafe}
+use Rattle.verifier.specs.Stack.{HasOperands, push-int, push-real, load, load-indexed, unary, binary, jump-always, jump-if, push-tick, since}
+use Rattle.verifier.specs.Stack.{total, matching, StackSafe}
 use Rattle.verifier.specs.Safety.{Kinded, EndsWell, value, fault, Safe}
 use Rattle.verifier.proofs.Moves.{allowed, has-room, Split, split, within}
 
@@ -58,7 +59,8 @@ stay-next p d r = subst (λ n. MovesTo p (fork d r) n r) (sym (add-zero (suc p))
 
 module _ (p : ℕ) (st : List Value) where
   pushes : (v : Value) (k : Kind) → kindOf v ≡ k → length st < maxHeight → Follows p (next (k ∷ map kindOf st)) (pushValue v st)
-  pushes v k e h = rw (lt-ltb (length st) maxHeight h) (leads (subst (λ k. MovesTo p (next (k ∷ map kindOf st)) (suc p + 0) (map kindOf (v ∷ st))) e (on-next p _)) h)
+  pushes v k e h = rw (lt-ltb (length st) maxHeight h) (leads (subst (λ k. MovesTo p (next (k ∷ map kindOf st)) (suc p + 0) (map kindOf (v ∷ st))) e
+      (on-next p _)) h)
 
   gives : {o : Outcome} {k : Kind} → OfKind k o → length st < maxHeight → Follows p (next (k ∷ map kindOf st)) (pushOutcome o st)
   gives {k = k} (done v e) h = pushes v k e h

@@ -17,7 +17,8 @@ use Rattle.verifier.specs.declared.typing.Flow.{Flow}
 use Rattle.verifier.specs.declared.Verdict.{Verdict}
 use Rattle.verifier.specs.declared.Verdict.the-variants as Verdict
 use Rattle.verifier.specs.Typing.{Shape, Move, illTyped, jump, fork, moveOf, wellFormed}
-use Rattle.verifier.specs.private.Shapes.{State, rejected, unreached, holds, pushNumber, numberKind, bitKinds, word, kindsOf, ArrayHolds, Popped, stateAt, stateOf, Leaves, stops, goes}
+use Rattle.verifier.specs.private.Shapes.{State, rejected, unreached, holds, pushNumber, numberKind, bitKinds, word, kindsOf, ArrayHolds}
+use Rattle.verifier.specs.private.Shapes.{Popped, stateAt, stateOf, Leaves, stops, goes}
 use Rattle.verifier.specs.private.Pass as Pass
 use Rattle.verifier.specs.private.Pass.{verdictOf, Skipping, Merges, Steps, stuck, strays, leaps, forks, leap-clash, fork-clash}
 use Rattle.verifier.proofs.Moves.{upto}
@@ -37,7 +38,8 @@ pub typed-keeps : {a : List ℕ} {f : Flow} {m : Move} → Leaves a f m → Arra
 typed-keeps (stops e k) = k
 typed-keeps (goes e k) = k
 
-pub typed-steps : {i : Instr} {k p : ℕ} {s : Shape} {before : ℕ → State} {a : List ℕ} {f : Flow} {m : Move} → moveOf i s ≡ m → Leaves a f m → Steps i k p s before (stateOf f) before
+pub typed-steps : {i : Instr} {k p : ℕ} {s : Shape} {before : ℕ → State} {a : List ℕ} {f : Flow} {m : Move} → moveOf i s ≡ m → Leaves a f m
+    → Steps i k p s before (stateOf f) before
 typed-steps e (stops r k) = rw r (stuck e)
 typed-steps e (goes r k) = rw r (Pass.goes e)
 
@@ -86,7 +88,8 @@ module _ (d m : ℕ) {p : ℕ} {before : ℕ → State} where
     fork-strays e = strays e
 
     module _ {v : Held} {after : ℕ → State} {b : Bool} (some : 0 < h .height) (o : Popped h v) where
-      pub fork-lands : leb d m ≡ true → b ≡ true → Merges (kindsOf v) (p + d) before b after → Steps (JumpIf t d) m p (kindsOf h) before (holds (kindsOf v)) after
+      pub fork-lands : leb d m ≡ true → b ≡ true → Merges (kindsOf v) (p + d) before b after
+          → Steps (JumpIf t d) m p (kindsOf h) before (holds (kindsOf v)) after
       fork-lands e y k = forks e (fork-is t d some o) (rw y at k)
 
       pub fork-fails : b ≡ false → Merges (kindsOf v) (p + d) before b after → Steps (JumpIf t d) m p (kindsOf h) before rejected after
@@ -98,7 +101,8 @@ module _ {code : List ℕ} {n : ℕ} {tops : List ℕ} where
   pub skipping-none : {p : ℕ} → p ≤ n → Skipping code n tops p p
   skipping-none l = record { onward = omega arith; within = l; none = λ q f g. absurd (omega arith); each = λ q f g. absurd (omega arith) }
 
-  pub skipping-more : {p r : ℕ} → Skipping code n tops p r → r < n → getD tops r 0 ≡ 0 → wellFormed (n - suc r) (decodeAt code r) ≡ true → Skipping code n tops p (r + 1)
+  pub skipping-more : {p r : ℕ} → Skipping code n tops p r → r < n → getD tops r 0 ≡ 0 → wellFormed (n - suc r) (decodeAt code r) ≡ true
+      → Skipping code n tops p (r + 1)
   skipping-more {p} {r} k l e f = record {
     onward = omega (arith, k .onward);
     within = omega arith;
@@ -107,7 +111,8 @@ module _ {code : List ℕ} {n : ℕ} {tops : List ℕ} where
   }
 
 -- the number w of an instruction says whether it stands
-pub stands-at : (code : List ℕ) (n p : ℕ) {w : ℕ} {b : Bool} → w ≡ fetched code p → b ≡ wellFormed (n - p - 1) (instructionOf w) → b ≡ wellFormed (n - suc p) (decodeAt code p)
+pub stands-at : (code : List ℕ) (n p : ℕ) {w : ℕ} {b : Bool} → w ≡ fetched code p → b ≡ wellFormed (n - p - 1) (instructionOf w)
+    → b ≡ wellFormed (n - suc p) (decodeAt code p)
 stands-at code n p e f =
     let l : n - p - 1 ≡ n - suc p = omega arith in
     f ∙ rw (decode-fetched code p, ← e, l)

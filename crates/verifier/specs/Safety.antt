@@ -1,6 +1,6 @@
--- What accepted code does, whatever the memory holds (demand 3's second half): it "reaches its end or a fault. It executes at most as many instructions as it
--- has, is never short of a value and never holds more than 128". Paper 02, Ask 2: "The count is now one for each instruction and each cell visited .. the bound is ..
--- a checked code's length, plus 256 for each such call." proofs/Safe.antt proves `Safe`.
+-- What accepted code does, whatever the memory holds (demand 3's second half): it "reaches its end or a fault. It executes at most as many instructions as
+-- it has, is never short of a value and never holds more than 128". Paper 02, Ask 2: "The count is now one for each instruction and each cell visited ..
+-- the bound is .. a checked code's length, plus 256 for each such call." proofs/Safe.antt proves `Safe`.
 use mathlib.Core.Path.{_≡_}
 use mathlib.Core.List.{List, []}
 use Prim.Native.Nat.{ℕ, _+_, _*_, _≤_}

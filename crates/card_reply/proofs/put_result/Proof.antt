@@ -170,7 +170,8 @@ returns c = (
         .answer) (omega (
           arith,
           c .before .before .before .before .before .before .before .before .before .before .before .before .before .before .before
-              .before .before .before .before .before .before .before .before .before .before .before .before .before .before .before .before .before .before .fits
+              .before .before .before .before .before .before .before .before .before .before .before .before .before .before .before .before .before
+              .before .fits
               .answer,
         )),
     at-most 9 (c .before .before .before .before .before .before .before .before .before .before .before .before .before .before .before .before

@@ -6,7 +6,8 @@ use Rattle.format.proofs.finish.Statement.{statement}
 use Rattle.format.proofs.finish.Tie as tie
 
 slice-aggregate-take-line : tie.Need-slice-aggregate-take-line
-slice-aggregate-take-line c = let s = c .before .before .before .before .before in taken (s .args .line .now) (s .args .n .line) (omega (arith, s .pre .line, s .pre .lines))
+slice-aggregate-take-line c = let s = c .before .before .before .before .before in
+    taken (s .args .line .now) (s .args .n .line) (omega (arith, s .pre .line, s .pre .lines))
 
 take-line-requires : tie.Need-take-line-requires
 take-line-requires c κs = let s = c .before .before .before .before .before .before .before .before in (s .pre .image, (within (s .pre), s .pre .inside))
@@ -15,7 +16,9 @@ slice-reshare-prefix-tell : tie.Need-slice-reshare-prefix-tell
 slice-reshare-prefix-tell c = search needs
 
 slice-aggregate-tell : tie.Need-slice-aggregate-tell
-slice-aggregate-tell c = taken (c .before .before .before .before .before .before .before .take-line .last .1 .1 .1 .0) (c .before .before .before .before .before .before .before .take-line .result .text) (c .before .before .before .before .before .before .before .take-line .ensures .0 .text)
+slice-aggregate-tell c = taken (c .before .before .before .before .before .before .before .take-line .last .1 .1 .1 .0)
+    (c .before .before .before .before .before .before .before .take-line .result .text)
+    (c .before .before .before .before .before .before .before .take-line .ensures .0 .text)
 
 tell-requires : tie.Need-tell-requires
 tell-requires c κs = search needs

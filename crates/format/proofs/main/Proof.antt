@@ -47,7 +47,8 @@ slice-aggregate-finish-4 : tie.Need-slice-aggregate-finish-4
 slice-aggregate-finish-4 c = search needs
 
 finish-requires : tie.Need-finish-requires
-finish-requires c κs = known (c .before .before .before .before .before .before .before .before .before .before .before .receive .ensures) (c .before .before .before .before .before .n .given .1) .ready
+finish-requires c κs = known (c .before .before .before .before .before .before .before .before .before .before .before .receive .ensures)
+    (c .before .before .before .before .before .n .given .1) .ready
 
 enum-told : tie.Need-enum-told
 enum-told c = search needs

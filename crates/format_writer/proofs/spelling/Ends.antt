@@ -119,7 +119,8 @@ module _ (s : List ℕ) (at : ℕ) where
   tail-plain o e = rw o e
 
 -- ---- a numeral
-pub numeral : (s : List ℕ) (at whole m r : ℕ) → at ≤ length s → whole ≡ at + length (digitsOf (drop at s)) → whole ≤ m → m ≤ length s → drop m s ≡ behindPart (drop whole s) → r ≡ m + tailLen (drop m s)
+pub numeral : (s : List ℕ) (at whole m r : ℕ) → at ≤ length s → whole ≡ at + length (digitsOf (drop at s)) → whole ≤ m → m ≤ length s
+    → drop m s ≡ behindPart (drop whole s) → r ≡ m + tailLen (drop m s)
     → r ≡ at + numeralLen (drop at s)
 numeral s at whole m r h w l k p e =
     let d : drop m s ≡ behindMantissa (drop at s) = p ∙ ap behindPart (ap (λ (i : ℕ). drop i s) w ∙ sym (drop-drop (length (digitsOf (drop at s))) at s)) in
@@ -175,12 +176,16 @@ module _ {s : List ℕ} {p n : ℕ} (h : StandsAt s p n) where
   split = drop-cons s p 0 inside
 
   pub numeral-ends : {r : ℕ} → isDigit (getD s p 0) ≡ true → r ≡ p + numeralLen (drop p s) → r ≡ h .end
-  numeral-ends d e = e ∙ ap (λ (x : List ℕ). p + numeralLen x) split ∙ sym (judged-end p (numeralLen front) (numeralOf (take (numeralLen front) front)) (sym (digit-lexeme (getD s p 0) (drop (suc p) s) p d) ∙ lexed))
+  numeral-ends d e = e ∙ ap (λ (x : List ℕ). p + numeralLen x) split
+      ∙ sym (judged-end p (numeralLen front) (numeralOf (take (numeralLen front) front)) (sym (digit-lexeme (getD s p 0) (drop (suc p) s) p d) ∙ lexed))
 
   pub word-ends : {r : ℕ} → isDigit (getD s p 0) ≡ false → isLetter (getD s p 0) ≡ true → r ≡ p + runLen isWord (drop p s) → r ≡ h .end
-  word-ends d l e = e ∙ ap (λ (x : List ℕ). p + runLen isWord x) split ∙ sym (judged-end p (runLen isWord front) (wordToken (take (runLen isWord front) front)) (sym (letter-lexeme (getD s p 0) (drop (suc p) s) p d l) ∙ lexed))
+  word-ends d l e = e ∙ ap (λ (x : List ℕ). p + runLen isWord x) split
+      ∙ sym (judged-end p (runLen isWord front) (wordToken (take (runLen isWord front) front))
+      (sym (letter-lexeme (getD s p 0) (drop (suc p) s) p d l) ∙ lexed))
 
-  pub symbol-found : isDigit (getD s p 0) ≡ false → isLetter (getD s p 0) ≡ false → (h .token ≡ Symbol (longest (getD s p 0 ∷ drop (suc p) s))) × (h .end ≡ p + length (symbolBytes (longest (getD s p 0 ∷ drop (suc p) s))))
+  pub symbol-found : isDigit (getD s p 0) ≡ false → isLetter (getD s p 0) ≡ false
+      → (h .token ≡ Symbol (longest (getD s p 0 ∷ drop (suc p) s))) × (h .end ≡ p + length (symbolBytes (longest (getD s p 0 ∷ drop (suc p) s))))
   symbol-found d l = symbol-end p (longest front) (sym (symbol-lexeme (getD s p 0) (drop (suc p) s) p d l) ∙ lexed)
 
   pub symbol-is : isDigit (getD s p 0) ≡ false → isLetter (getD s p 0) ≡ false → (h .token ≡ Symbol n) × (h .end ≡ p + length (symbolBytes n))

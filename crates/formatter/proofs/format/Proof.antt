@@ -18,13 +18,15 @@ enum-told c = search needs
 returns : tie.Need-returns
 returns c =
     let s = c .before .before .before .before .before .before in
-    small-answer (s .args .text .now) (s .args .out .now) (accepted-text (s .args .text .now) (sym (c .before .enum-told .given .1) ∙ c .before .before .before .judge .ensures)) (c .if1 .taken)
+    small-answer (s .args .text .now) (s .args .out .now) (accepted-text (s .args .text .now)
+    (sym (c .before .enum-told .given .1) ∙ c .before .before .before .judge .ensures)) (c .if1 .taken)
 
 slice-aggregate-written : tie.Need-slice-aggregate-written
 slice-aggregate-written c = search needs
 
 written-requires : tie.Need-written-requires
-written-requires c κs = accepted-text (c .before .before .before .before .before .before .before .args .text .now) (sym (c .before .before .enum-told .given .1) ∙ c .before .before .before .before .judge .ensures)
+written-requires c κs = accepted-text (c .before .before .before .before .before .before .before .args .text .now)
+    (sym (c .before .before .enum-told .given .1) ∙ c .before .before .before .before .judge .ensures)
 
 slice-aggregate-finish : tie.Need-slice-aggregate-finish
 slice-aggregate-finish c = search needs
@@ -33,7 +35,8 @@ finish-requires : tie.Need-finish-requires
 finish-requires c κs = search needs
 
 returns-2 : tie.Need-returns-2
-returns-2 c = let s = c .before .before .before .before .before .before in refused-answer (s .args .text .now) (s .args .out .now) (sym (c .before .a .given .1) ∙ c .before .before .before .judge .ensures)
+returns-2 c = let s = c .before .before .before .before .before .before in
+    refused-answer (s .args .text .now) (s .args .out .now) (sym (c .before .a .given .1) ∙ c .before .before .before .judge .ensures)
 
 same-length : tie.Need-same-length
 same-length c = search needs
@@ -41,8 +44,10 @@ same-length c = search needs
 returns-3 : tie.Need-returns-3
 returns-3 c =
     let s = c .before .before .before .before .before .before .before .before .before .before .before .before .before .before in
-    let k = accepted-text (s .args .text .now) (sym (c .before .before .before .before .before .before .before .before .before .enum-told .given .1) ∙ c .before .before .before .before .before .before .before .before .before .before .before .judge .ensures) in
-    good-answer (s .args .text .now) (s .args .out .now) k (omega (arith, c .before .before .before .before .before .before .before .before .if1 .left)) (c .before .before .finish .ensures _ (c .before .before .before .before .before .before .written .ensures .1 (k .tree) (k .is)))
+    let k = accepted-text (s .args .text .now) (sym (c .before .before .before .before .before .before .before .before .before .enum-told .given .1)
+    ∙ c .before .before .before .before .before .before .before .before .before .before .before .judge .ensures) in
+    good-answer (s .args .text .now) (s .args .out .now) k (omega (arith, c .before .before .before .before .before .before .before .before .if1 .left))
+    (c .before .before .finish .ensures _ (c .before .before .before .before .before .before .written .ensures .1 (k .tree) (k .is)))
 
 pub format-spec : {M : Type 1} → statement M
 format-spec =

@@ -26,7 +26,12 @@ shared-slice-read-open-behind : tie.Need-shared-slice-read-open-behind Inv-loop 
 shared-slice-read-open-behind c = search needs
 
 open-behind-requires : tie.Need-open-behind-requires Inv-loop μ-loop
-open-behind-requires c κs = omega (arith, c .before .before .before .loop .inv .0, c .before .before .before .loop .inv .1, c .before .before .before .before .before .pre)
+open-behind-requires c κs = omega (
+  arith,
+  c .before .before .before .loop .inv .0,
+  c .before .before .before .loop .inv .1,
+  c .before .before .before .before .before .pre,
+)
 
 add-i : tie.Need-add-i Inv-loop μ-loop
 add-i c = search needs
@@ -38,8 +43,11 @@ loop-again : tie.Need-loop-again Inv-loop μ-loop
 loop-again c =
     let l = c .before .before .before .before .loop in
     let text = c .before .before .before .before .before .before .args .text .now in
-    let o = c .open-behind .ensures in
-    (omega arith, omega (arith, o, open-most (l .depth) (getD text (l .i) 0), l .inv .1), depth-step text (l .i) (l .most) (l .depth) (c .before .before .before .loop-test .taken) (c .before .before .larger .ensures) o ∙ l .inv .2)
+    let o = c .open-behind .ensures in (
+      omega arith,
+      omega (arith, o, open-most (l .depth) (getD text (l .i) 0), l .inv .1),
+      depth-step text (l .i) (l .most) (l .depth) (c .before .before .before .loop-test .taken) (c .before .before .larger .ensures) o ∙ l .inv .2,
+    )
 
 larger-requires-2 : tie.Need-larger-requires-2 Inv-loop μ-loop
 larger-requires-2 c κs = search needs

@@ -30,7 +30,8 @@ same-length-2 c = search needs
 
 returns : tie.Need-returns
 returns c =
-    let g = subst (Fills _ _) (c .before .before .before .before .before .enum-told .given .1) (c .before .before .before .before .before .before .before .before .before .fill .ensures .1 .0) in
+    let g = subst (Fills _ _) (c .before .before .before .before .before .enum-told .given .1)
+    (c .before .before .before .before .before .before .before .before .before .fill .ensures .1 .0) in
     let f = c .before .before .formula .ensures in
     (f .0, λ t e. f .1 _ _ _ (whole-says _ _ g e))
 
@@ -38,7 +39,8 @@ same-length-3 : tie.Need-same-length-3
 same-length-3 c = search needs
 
 returns-2 : tie.Need-returns-2
-returns-2 c = absurd (no-wrong _ _ (c .before .before .before .before .before .before .before .before .before .pre .1) (subst (Fills _ _) (c .enum-told2 .given .1) (c .before .before .before .before .fill .ensures .1 .0)))
+returns-2 c = absurd (no-wrong _ _ (c .before .before .before .before .before .before .before .before .before .pre .1)
+    (subst (Fills _ _) (c .enum-told2 .given .1) (c .before .before .before .before .fill .ensures .1 .0)))
 
 pub write-spec : {M : Type 1} → statement M
 write-spec =

@@ -21,7 +21,8 @@ slice-aggregate-write-2 : tie.Need-slice-aggregate-write-2
 slice-aggregate-write-2 c = search needs
 
 write-requires-2 : tie.Need-write-requires-2
-write-requires-2 c κs = let s = c .before .before .before .before .before in ((accepted-short (s .pre), omega (arith, accepted-short (s .pre)), no-tokens 1025), s .pre)
+write-requires-2 c κs = let s = c .before .before .before .before .before in
+    ((accepted-short (s .pre), omega (arith, accepted-short (s .pre)), no-tokens 1025), s .pre)
 
 same-length-2 : tie.Need-same-length-2
 same-length-2 c = search needs

@@ -1,4 +1,5 @@
--- For the contracts of private functions: what a walk over the table of an accepted text's tokens writes. The parser's result is known beforehand, so no refusal is left.
+-- For the contracts of private functions: what a walk over the table of an accepted text's tokens writes. The parser's result is known beforehand, so no
+-- refusal is left.
 use mathlib.Core.Path.{_≡_}
 use mathlib.Core.List.{List, [], _∷_, _++_}
 use Prim.Native.Nat.{ℕ, suc, _+_, _≤_, _<_}
@@ -54,7 +55,8 @@ SaysPrimary s ts = Says (λ f d xs. primaryOf f d xs) s ts
 
 -- expressions with commas between them, and a closing symbol
 pub data SaysItems (s : List ℕ) : List Tok → List ℕ → List Tok → Type 0 where
-  last : {ts r : List Tok} (f d : ℕ) {t : Tree} (n p : ℕ) → (n ≡ comma → ⊥) → expression f d loosest ts ≡ ok t (tok (Symbol n) p ∷ r) → SaysItems s ts (formatted s t ++ symbolBytes n) r
+  last : {ts r : List Tok} (f d : ℕ) {t : Tree} (n p : ℕ) → (n ≡ comma → ⊥) → expression f d loosest ts ≡ ok t (tok (Symbol n) p ∷ r)
+      → SaysItems s ts (formatted s t ++ symbolBytes n) r
   more : {ts q r : List Tok} {x : List ℕ} (f d : ℕ) {t : Tree} (p : ℕ) → expression f d loosest ts ≡ ok t (tok (Symbol comma) p ∷ q) → SaysItems s q x r
       → SaysItems s ts (formatted s t ++ (ascii ", " ++ x)) r
 

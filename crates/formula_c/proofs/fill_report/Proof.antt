@@ -25,7 +25,14 @@ bits-of-requires : tie.Need-bits-of-requires
 bits-of-requires c κs = search needs
 
 returns : tie.Need-returns
-returns c = rw (c .before .bits-of .ensures, c .before .before .kind-number .ensures, c .before .before .before .bank-number .ensures, c .before .before .before .before .low2 .ensures, c .before .before .before .before .before .low .ensures, c .before .before .before .before .before .before .reported .ensures)
+returns c = rw (
+  c .before .bits-of .ensures,
+  c .before .before .kind-number .ensures,
+  c .before .before .before .bank-number .ensures,
+  c .before .before .before .before .low2 .ensures,
+  c .before .before .before .before .before .low .ensures,
+  c .before .before .before .before .before .before .reported .ensures,
+)
 
 pub fill-report-spec : {M : Type 1} → statement M
 fill-report-spec =

@@ -15,7 +15,10 @@ same-length : tie.Need-same-length
 same-length c = search needs
 
 returns : tie.Need-returns
-returns c = (c .fill-report .ensures ∙ ap reportWords (c .before .before .before .before .compile .ensures .0), c .before .before .before .before .compile .ensures .1)
+returns c = (
+  c .fill-report .ensures ∙ ap reportWords (c .before .before .before .before .compile .ensures .0),
+  c .before .before .before .before .compile .ensures .1,
+)
 
 pub formula-compile-spec : {M : Type 1} → statement M
 formula-compile-spec = tie.close (tie.spec compile-requires fill-report-requires same-length returns)

@@ -21,7 +21,10 @@ same-length-3 : tie.Need-same-length-3
 same-length-3 c = search needs
 
 returns : tie.Need-returns
-returns c = (c .fill-report .ensures ∙ ap reportWords (c .before .before .before .before .before .before .before .before .compile-and-run .ensures .0), c .before .before .before .before .before .before .before .before .compile-and-run .ensures .1)
+returns c = (
+  c .fill-report .ensures ∙ ap reportWords (c .before .before .before .before .before .before .before .before .compile-and-run .ensures .0),
+  c .before .before .before .before .before .before .before .before .compile-and-run .ensures .1,
+)
 
 pub formula-compile-and-run-spec : {M : Type 1} → statement M
 formula-compile-and-run-spec =

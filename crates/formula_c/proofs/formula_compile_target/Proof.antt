@@ -15,7 +15,10 @@ same-length : tie.Need-same-length
 same-length c = search needs
 
 returns : tie.Need-returns
-returns c = (c .fill-report .ensures ∙ ap reportWords (c .before .before .before .before .compile-target .ensures .0), c .before .before .before .before .compile-target .ensures .1)
+returns c = (
+  c .fill-report .ensures ∙ ap reportWords (c .before .before .before .before .compile-target .ensures .0),
+  c .before .before .before .before .compile-target .ensures .1,
+)
 
 pub formula-compile-target-spec : {M : Type 1} → statement M
 formula-compile-target-spec =

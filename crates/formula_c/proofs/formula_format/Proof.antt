@@ -15,7 +15,10 @@ same-length : tie.Need-same-length
 same-length c = search needs
 
 returns : tie.Need-returns
-returns c = (c .fill-report .ensures ∙ ap reportWords (c .before .before .before .before .format .ensures .0), c .before .before .before .before .format .ensures .1)
+returns c = (
+  c .fill-report .ensures ∙ ap reportWords (c .before .before .before .before .format .ensures .0),
+  c .before .before .before .before .format .ensures .1,
+)
 
 pub formula-format-spec : {M : Type 1} → statement M
 formula-format-spec = tie.close (tie.spec format-requires fill-report-requires same-length returns)

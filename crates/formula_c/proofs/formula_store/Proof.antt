@@ -15,7 +15,10 @@ same-length : tie.Need-same-length
 same-length c = search needs
 
 returns : tie.Need-returns
-returns c = (c .fill-report .ensures ∙ ap reportWords (c .before .before .before .before .store .ensures .0), c .before .before .before .before .store .ensures .1)
+returns c = (
+  c .fill-report .ensures ∙ ap reportWords (c .before .before .before .before .store .ensures .0),
+  c .before .before .before .before .store .ensures .1,
+)
 
 pub formula-store-spec : {M : Type 1} → statement M
 formula-store-spec = tie.close (tie.spec store-requires fill-report-requires same-length returns)

@@ -57,7 +57,8 @@ returns : tie.Need-returns Inv-loop μ-loop
 returns c =
     let l = c .before .loop in
     let a = c .before .before in
-    copied-all (a .args .from .now) (a .args .at) (a .args .to .now) (a .args .place) (a .pre .0) (a .pre .1) (omega (arith, l .inv .0, c .loop-test .left)) (l .inv .2)
+    copied-all (a .args .from .now) (a .args .at) (a .args .to .now) (a .args .place) (a .pre .0) (a .pre .1) (omega (arith, l .inv .0, c .loop-test .left))
+    (l .inv .2)
 
 pub copy-rest-spec : {M : Type 1} → statement M
 copy-rest-spec =

@@ -48,7 +48,8 @@ loop-again c =
     let l = c .before .before .loop in
     let a = c .before .before .before .before .before in (
       omega (arith, c .before .loop-test .taken),
-      filled-next {f = eight (a .args .old .now)} (c .byte-of .result) (l .inv .1) (omega (arith, a .pre .1, c .before .loop-test .taken)) (c .byte-of .ensures),
+      filled-next {f = eight (a .args .old .now)} (c .byte-of .result) (l .inv .1) (omega (arith, a .pre .1, c .before .loop-test .taken))
+          (c .byte-of .ensures),
     )
 
 same-length : tie.Need-same-length Inv-loop μ-loop

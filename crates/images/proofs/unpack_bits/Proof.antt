@@ -49,7 +49,8 @@ loop-again c =
     let l = c .before .before .before .loop in
     let a = c .before .before .before .before .before .before in (
       omega (arith, c .before .before .loop-test .taken),
-      filled-next {f = bitAt (a .args .image .now)} (c .bit .result) (l .inv .1) (omega (arith, a .pre .1, c .before .before .loop-test .taken)) (omega (arith, c .bit .ensures)),
+      filled-next {f = bitAt (a .args .image .now)} (c .bit .result) (l .inv .1) (omega (arith, a .pre .1, c .before .before .loop-test .taken))
+          (omega (arith, c .bit .ensures)),
     )
 
 same-length : tie.Need-same-length Inv-loop μ-loop

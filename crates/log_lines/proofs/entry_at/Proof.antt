@@ -13,13 +13,18 @@ returns : tie.Need-returns
 returns c = (ap entryIn (entry-bad (c .before .before .args .rest .now) (c .before .before .pre) (c .if1 .taken)), bad-inside)
 
 slice-aggregate-entry-of : tie.Need-slice-aggregate-entry-of
-slice-aggregate-entry-of c = sym (length-take-le (c .before .before .before .args .k) (c .before .before .before .args .rest .now) (omega (arith, c .before .if1 .left)))
+slice-aggregate-entry-of c = sym (length-take-le (c .before .before .before .args .k) (c .before .before .before .args .rest .now)
+    (omega (arith, c .before .if1 .left)))
 
 entry-of-requires : tie.Need-entry-of-requires
 entry-of-requires c κs = search needs
 
 returns-2 : tie.Need-returns-2
-returns-2 c = (c .entry-of .ensures .0 ∙ ap entryIn (entry-text (c .before .before .before .before .args .rest .now) (c .before .before .before .before .pre) (c .before .before .if1 .left)), c .entry-of .ensures .1)
+returns-2 c = (
+  c .entry-of .ensures .0 ∙ ap entryIn (entry-text (c .before .before .before .before .args .rest .now)
+      (c .before .before .before .before .pre) (c .before .before .if1 .left)),
+  c .entry-of .ensures .1,
+)
 
 pub entry-at-spec : {M : Type 1} → statement M
 entry-at-spec = tie.close (tie.spec returns slice-aggregate-entry-of entry-of-requires returns-2)

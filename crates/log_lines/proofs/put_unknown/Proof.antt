@@ -20,13 +20,28 @@ slice-aggregate-put-all-2 : tie.Need-slice-aggregate-put-all-2
 slice-aggregate-put-all-2 c = search needs
 
 put-all-requires-2 : tie.Need-put-all-requires-2
-put-all-requires-2 c κs = omega (arith, at-most 9 (c .before .before .before .before .before .before .before .before .before .before .before .before .args .k) (omega arith))
+put-all-requires-2 c κs = omega (
+  arith,
+  at-most 9 (c .before .before .before .before .before .before .before .before .before .before .before .before .args
+      .k) (omega arith),
+)
 
 same-length : tie.Need-same-length
 same-length c = search needs
 
 returns : tie.Need-returns
-returns c = (then (then (c .before .before .before .before .before .before .before .before .before .before .before .put-all .ensures) (c .before .before .before .before .before .before .before .put-decimal .ensures .0)) (c .before .before .put-all2 .ensures), omega (arith, c .before .before .put-all2 .ensures .end, c .before .before .before .before .before .before .before .put-decimal .ensures .1, c .before .before .before .before .before .before .before .before .before .before .before .put-all .ensures .end, at-most 9 (c .before .before .before .before .before .before .before .before .before .before .before .before .before .before .before .args .k) (omega arith)))
+returns c = (
+  then (then (c .before .before .before .before .before .before .before .before .before .before .before .put-all .ensures)
+      (c .before .before .before .before .before .before .before .put-decimal .ensures .0)) (c .before .before .put-all2 .ensures),
+  omega (
+    arith,
+    c .before .before .put-all2 .ensures .end,
+    c .before .before .before .before .before .before .before .put-decimal .ensures .1,
+    c .before .before .before .before .before .before .before .before .before .before .before .put-all .ensures .end,
+    at-most 9 (c .before .before .before .before .before .before .before .before .before .before .before .before .before .before .before .args .k)
+        (omega arith),
+  ),
+)
 
 pub put-unknown-spec : {M : Type 1} → statement M
 put-unknown-spec =

@@ -15,7 +15,11 @@ same-length : tie.Need-same-length
 same-length c = search needs
 
 returns : tie.Need-returns
-returns c = unknown (c .before .before .before .before .before .before .before .before .before .args .k) (c .before .before .before .before .before .before .before .before .before .args .memory .now) (c .before .before .before .before .before .before .before .before .before .args .tick) (lacking (c .before .before .before .before .before .find-card .ensures) (c .before .before .before .before .if1 .taken)) (c .before .before .put-unknown .ensures .0) (c .before .before .put-unknown .ensures .1)
+returns c = unknown (c .before .before .before .before .before .before .before .before .before .args .k)
+    (c .before .before .before .before .before .before .before .before .before .args .memory .now)
+    (c .before .before .before .before .before .before .before .before .before .args .tick)
+    (lacking (c .before .before .before .before .before .find-card .ensures) (c .before .before .before .before .if1 .taken))
+    (c .before .before .put-unknown .ensures .0) (c .before .before .put-unknown .ensures .1)
 
 add-target : tie.Need-add-target
 add-target c = omega (arith, (located (c .before .find-card .ensures) (c .if1 .left)) .high)
@@ -66,10 +70,18 @@ element-copy-out-expr-end : tie.Need-element-copy-out-expr-end
 element-copy-out-expr-end c = omega (arith, (located (c .before .before .before .before .find-card .ensures) (c .before .before .before .if1 .left)) .high)
 
 cast-expr-end : tie.Need-cast-expr-end
-cast-expr-end c = omega (arith, (located (c .before .before .before .before .before .find-card .ensures) (c .before .before .before .before .if1 .left)) .expr-part .inside)
+cast-expr-end c = omega (
+  arith,
+  (located (c .before .before .before .before .before .find-card .ensures)
+      (c .before .before .before .before .if1 .left)) .expr-part .inside,
+)
 
 add-expr-end-2 : tie.Need-add-expr-end-2
-add-expr-end-2 c = omega (arith, (located (c .before .before .before .before .before .find-card .ensures) (c .before .before .before .before .if1 .left)) .expr-part .inside)
+add-expr-end-2 c = omega (
+  arith,
+  (located (c .before .before .before .before .before .find-card .ensures)
+      (c .before .before .before .before .if1 .left)) .expr-part .inside,
+)
 
 blank-code-requires : tie.Need-blank-code-requires
 blank-code-requires c κs = search needs
@@ -84,7 +96,11 @@ part-compile-and-run-start : tie.Need-part-compile-and-run-start
 part-compile-and-run-start c = search needs
 
 part-compile-and-run-end : tie.Need-part-compile-and-run-end
-part-compile-and-run-end c = omega (arith, (located (c .before .before .before .before .before .before .before .find-card .ensures) (c .before .before .before .before .before .before .if1 .left)) .target-part .inside)
+part-compile-and-run-end c = omega (
+  arith,
+  (located (c .before .before .before .before .before .before .before .find-card .ensures)
+      (c .before .before .before .before .before .before .if1 .left)) .target-part .inside,
+)
 
 sub-compile-and-run-2 : tie.Need-sub-compile-and-run-2
 sub-compile-and-run-2 c = search needs
@@ -93,7 +109,11 @@ part-compile-and-run-start-2 : tie.Need-part-compile-and-run-start-2
 part-compile-and-run-start-2 c = search needs
 
 part-compile-and-run-end-2 : tie.Need-part-compile-and-run-end-2
-part-compile-and-run-end-2 c = omega (arith, (located (c .before .before .before .before .before .before .before .before .find-card .ensures) (c .before .before .before .before .before .before .before .if1 .left)) .expr-part .inside)
+part-compile-and-run-end-2 c = omega (
+  arith,
+  (located (c .before .before .before .before .before .before .before .before .find-card .ensures)
+      (c .before .before .before .before .before .before .before .if1 .left)) .expr-part .inside,
+)
 
 slice-aggregate-compile-and-run : tie.Need-slice-aggregate-compile-and-run
 slice-aggregate-compile-and-run c = search needs
@@ -105,7 +125,24 @@ compile-and-run-requires : tie.Need-compile-and-run-requires
 compile-and-run-requires c κs = search needs
 
 put-reply-requires : tie.Need-put-reply-requires
-put-reply-requires c κs = (search needs, (cell-inside (c .before .before .before .before .before .before .before .before .before .before .before .before .before .before .before .before .before .before .before .before .before .before .before .args .tick) (c .before .before .before .before .before .before .before .before .before .before .before .before .before .before .before .before .before .before .before .before .before .before .before .args .memory .now) (part-cut ((located (c .before .before .before .before .before .before .before .before .before .before .before .before .before .before .before .before .before .before .before .find-card .ensures) (c .before .before .before .before .before .before .before .before .before .before .before .before .before .before .before .before .before .before .if1 .left)) .target-part)) (part-cut ((located (c .before .before .before .before .before .before .before .before .before .before .before .before .before .before .before .before .before .before .before .find-card .ensures) (c .before .before .before .before .before .before .before .before .before .before .before .before .before .before .before .before .before .before .if1 .left)) .expr-part)) (c .before .before .before .before .before .before .before .before .before .before .before .before .before .blank-code .ensures .1) (c .before .before .before .before .before .before .before .before .before .before .before .before .blank-code2 .ensures .1) (c .before .before .before .before .before .before .compile-and-run .ensures .0), search needs))
+put-reply-requires c κs = (
+  search needs,
+  (
+    cell-inside (c .before .before .before .before .before .before .before .before .before .before .before .before
+        .before .before .before .before .before .before .before .before .before .before .before .args .tick)
+        (c .before .before .before .before .before .before .before .before .before .before .before .before .before .before .before .before .before .before
+        .before .before .before .before .before .args .memory .now) (part-cut
+        ((located (c .before .before .before .before .before .before .before .before .before .before .before .before .before .before .before .before .before
+        .before .before .find-card .ensures) (c .before .before .before .before .before .before .before .before .before .before .before .before .before .before
+        .before .before .before .before .if1 .left)) .target-part)) (part-cut
+        ((located (c .before .before .before .before .before .before .before .before .before .before .before .before .before .before .before .before .before
+        .before .before .find-card .ensures) (c .before .before .before .before .before .before .before .before .before .before .before .before .before .before
+        .before .before .before .before .if1 .left)) .expr-part)) (c .before .before .before .before .before .before .before .before .before .before .before
+        .before .before .blank-code .ensures .1) (c .before .before .before .before .before .before .before .before .before .before .before .before .blank-code2
+        .ensures .1) (c .before .before .before .before .before .before .compile-and-run .ensures .0),
+    search needs,
+  ),
+)
 
 same-length-2 : tie.Need-same-length-2
 same-length-2 c = search needs
@@ -114,7 +151,27 @@ same-length-3 : tie.Need-same-length-3
 same-length-3 c = search needs
 
 returns-2 : tie.Need-returns-2
-returns-2 c = ran (c .before .before .before .before .before .before .before .before .before .before .before .before .before .before .before .before .before .before .before .before .before .before .before .before .before .before .args .k) (c .before .before .before .before .before .before .before .before .before .before .before .before .before .before .before .before .before .before .before .before .before .before .before .before .before .before .args .memory .now) (c .before .before .before .before .before .before .before .before .before .before .before .before .before .before .before .before .before .before .before .before .before .before .before .before .before .before .args .tick) ((located (c .before .before .before .before .before .before .before .before .before .before .before .before .before .before .before .before .before .before .before .before .before .before .find-card .ensures) (c .before .before .before .before .before .before .before .before .before .before .before .before .before .before .before .before .before .before .before .before .before .if1 .left)) .is) (part-cut ((located (c .before .before .before .before .before .before .before .before .before .before .before .before .before .before .before .before .before .before .before .before .before .before .find-card .ensures) (c .before .before .before .before .before .before .before .before .before .before .before .before .before .before .before .before .before .before .before .before .before .if1 .left)) .target-part)) (part-cut ((located (c .before .before .before .before .before .before .before .before .before .before .before .before .before .before .before .before .before .before .before .before .before .before .find-card .ensures) (c .before .before .before .before .before .before .before .before .before .before .before .before .before .before .before .before .before .before .before .before .before .if1 .left)) .expr-part)) (c .before .before .before .before .before .before .before .before .before .before .before .before .before .before .before .before .blank-code .ensures .1) (c .before .before .before .before .before .before .before .before .before .before .before .before .before .before .before .blank-code2 .ensures .1) (c .before .before .before .before .before .before .before .before .before .compile-and-run .ensures .0) (c .before .before .before .before .before .before .before .before .before .compile-and-run .ensures .1 .0) (c .before .before .put-reply .ensures .0) (c .before .before .put-reply .ensures .1)
+returns-2 c = ran (c .before .before .before .before .before .before .before .before .before .before .before .before .before .before .before .before .before
+    .before .before .before .before .before .before .before .before .before .args .k)
+    (c .before .before .before .before .before .before .before .before .before .before .before .before .before .before .before .before .before .before
+    .before .before .before .before .before .before .before .before .args .memory .now)
+    (c .before .before .before .before .before .before .before .before .before .before .before .before .before .before .before .before .before .before
+    .before .before .before .before .before .before .before .before .args .tick)
+    ((located (c .before .before .before .before .before .before .before .before .before .before .before .before .before .before .before .before .before
+    .before .before .before .before .before .find-card .ensures) (c .before .before .before .before .before .before .before .before .before .before .before
+    .before .before .before .before .before .before .before .before .before .before .if1 .left)) .is)
+    (part-cut ((located (c .before .before .before .before .before .before .before .before .before .before .before .before .before .before .before .before
+    .before .before .before .before .before .before .find-card .ensures)
+    (c .before .before .before .before .before .before .before .before .before .before .before .before .before .before .before .before .before .before
+    .before .before .before .if1 .left)) .target-part)) (part-cut
+    ((located (c .before .before .before .before .before .before .before .before .before .before .before .before .before .before .before .before .before
+    .before .before .before .before .before .find-card .ensures) (c .before .before .before .before .before .before .before .before .before .before .before
+    .before .before .before .before .before .before .before .before .before .before .if1 .left)) .expr-part))
+    (c .before .before .before .before .before .before .before .before .before .before .before .before .before .before .before .before .blank-code .ensures
+    .1) (c .before .before .before .before .before .before .before .before .before .before .before .before .before .before .before .blank-code2 .ensures .1)
+    (c .before .before .before .before .before .before .before .before .before .compile-and-run .ensures .0)
+    (c .before .before .before .before .before .before .before .before .before .compile-and-run .ensures .1 .0) (c .before .before .put-reply .ensures .0)
+    (c .before .before .put-reply .ensures .1)
 
 pub run-card-spec : {M : Type 1} → statement M
 run-card-spec =

@@ -39,7 +39,18 @@ same-length-2 : tie.Need-same-length-2
 same-length-2 c = search needs
 
 returns : tie.Need-returns
-returns c = lines-give (cardsIn (c .before .before .before .before .before .before .before .before .before .before .before .before .before .before .before .before .before .before .before .args .cards .now)) (length (c .before .before .before .before .before .before .before .before .before .before .before .before .before .before .before .before .before .before .before .args .out .now)) (c .before .before .before .before .before .before .before .before .before .before .before .before .before .before .before .before .before .before .before .args .words .at) (c .before .before .before .before .before .before .before .before .before .before .before .before .before .begin .ensures) (ap (λ (n : ℕ). take (length (c .before .before .before .before .before .before .before .before .before .before .before .before .before .before .before .before .before .before .before .args .log .now) - n) (drop n (c .before .before .before .before .before .before .before .before .before .before .before .before .before .before .before .before .before .before .before .args .log .now))) (c .before .before .before .before .before .before .before .before .before .before .clip .ensures) ∙ clipped (c .before .before .before .before .before .before .before .before .before .before .before .before .before .before .before .before .before .before .before .args .words .at) (c .before .before .before .before .before .before .before .before .before .before .before .before .before .before .before .before .before .before .before .args .log .now)) (c .before .before .before .before .before .before .replay-lines .ensures) (c .over .ensures)
+returns c = lines-give (cardsIn (c .before .before .before .before .before .before .before .before .before .before .before .before .before .before .before
+    .before .before .before .before .args .cards .now)) (length (c .before .before .before .before .before .before .before .before .before .before .before
+    .before .before .before .before .before .before .before .before .args .out .now))
+    (c .before .before .before .before .before .before .before .before .before .before .before .before .before .before .before .before .before .before
+    .before .args .words .at) (c .before .before .before .before .before .before .before .before .before .before .before .before .before .begin .ensures)
+    (ap (λ (n : ℕ). take (length (c .before .before .before .before .before .before .before .before .before .before .before .before .before .before .before
+    .before .before .before .before .args .log .now) - n) (drop n
+    (c .before .before .before .before .before .before .before .before .before .before .before .before .before .before .before .before .before .before
+    .before .args .log .now))) (c .before .before .before .before .before .before .before .before .before .before .clip .ensures)
+    ∙ clipped (c .before .before .before .before .before .before .before .before .before .before .before .before .before .before .before .before .before
+    .before .before .args .words .at) (c .before .before .before .before .before .before .before .before .before .before .before .before .before .before
+    .before .before .before .before .before .args .log .now)) (c .before .before .before .before .before .before .replay-lines .ensures) (c .over .ensures)
 
 pub play-spec : {M : Type 1} → statement M
 play-spec =

@@ -21,16 +21,24 @@ array-share-prefix-bytes : tie.Need-array-share-prefix-bytes
 array-share-prefix-bytes c = search needs
 
 slice-aggregate-put-all : tie.Need-slice-aggregate-put-all
-slice-aggregate-put-all c = sym (length-take-le (c .before .before .before .put-report .result) (c .before .before .before .put-report .last .0) (omega (arith, c .before .before .before .put-report .ensures .1)))
+slice-aggregate-put-all c = sym (length-take-le (c .before .before .before .put-report .result) (c .before .before .before .put-report .last .0)
+    (omega (arith, c .before .before .before .put-report .ensures .1)))
 
 put-all-requires : tie.Need-put-all-requires
-put-all-requires c κs = omega (arith, length-take (c .before .before .before .put-report .result) (c .before .before .before .put-report .last .0), c .before .before .before .put-report .ensures .1, c .before .before .before .before .before .before .before .pre)
+put-all-requires c κs = omega (
+  arith,
+  length-take (c .before .before .before .put-report .result) (c .before .before .before .put-report .last .0),
+  c .before .before .before .put-report .ensures .1,
+  c .before .before .before .before .before .before .before .pre,
+)
 
 same-length : tie.Need-same-length
 same-length c = search needs
 
 returns : tie.Need-returns
-returns c = refusal-put (c .before .before .before .before .before .before .before .reported .ensures) (c .before .before .before .before .before .before .put-report .ensures .0) (omega (arith, c .before .before .before .before .before .before .put-report .ensures .1)) (c .before .before .put-all .ensures)
+returns c = refusal-put (c .before .before .before .before .before .before .before .reported .ensures)
+    (c .before .before .before .before .before .before .put-report .ensures .0)
+    (omega (arith, c .before .before .before .before .before .before .put-report .ensures .1)) (c .before .before .put-all .ensures)
 
 pub put-refusal-spec : {M : Type 1} → statement M
 put-refusal-spec =

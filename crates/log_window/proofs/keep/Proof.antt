@@ -35,7 +35,11 @@ loop-less : tie.Need-loop-less Inv-loop μ-loop
 loop-less c = omega (arith, c .before .before .loop .inv .0)
 
 loop-again : tie.Need-loop-again Inv-loop μ-loop
-loop-again c = (omega (arith, c .before .before .loop .inv .0), further _ _ _ (c .before .before .loop .inv .1) (c .before .before .before .pre .0) (c .before .before .before .pre .1) (c .before .loop-test .taken))
+loop-again c = (
+  omega (arith, c .before .before .loop .inv .0),
+  further _ _ _ (c .before .before .loop .inv .1) (c .before .before .before .pre .0)
+      (c .before .before .before .pre .1) (c .before .loop-test .taken),
+)
 
 same-length : tie.Need-same-length Inv-loop μ-loop
 same-length c = size _ _ _ (c .before .loop .inv .1)

@@ -11,13 +11,18 @@ through-last-end-requires : tie.Need-through-last-end-requires
 through-last-end-requires c κs = search needs
 
 returns-2 : tie.Need-returns-2
-returns-2 c = whole-lines (c .before .before .before .before .args .size) (c .before .before .before .before .args .last) (c .before .before .before .before .args .held .now) (c .before .before .if1 .left) (c .before .through-last-end .ensures) (c .if2 .taken)
+returns-2 c = whole-lines (c .before .before .before .before .args .size) (c .before .before .before .before .args .last)
+    (c .before .before .before .before .args .held .now) (c .before .before .if1 .left) (c .before .through-last-end .ensures) (c .if2 .taken)
 
 returns-3 : tie.Need-returns-3
-returns-3 c = too-short (c .before .before .before .before .before .args .size) (c .before .before .before .before .before .args .last) (c .before .before .before .before .before .args .held .now) (c .before .before .before .if1 .left) (c .before .before .through-last-end .ensures) (c .before .if2 .left) (c .if3 .taken)
+returns-3 c = too-short (c .before .before .before .before .before .args .size) (c .before .before .before .before .before .args .last)
+    (c .before .before .before .before .before .args .held .now) (c .before .before .before .if1 .left) (c .before .before .through-last-end .ensures)
+    (c .before .if2 .left) (c .if3 .taken)
 
 returns-4 : tie.Need-returns-4
-returns-4 c = too-long (c .before .before .before .before .before .args .size) (c .before .before .before .before .before .args .last) (c .before .before .before .before .before .args .held .now) (c .before .before .before .if1 .left) (c .before .before .through-last-end .ensures) (c .before .if2 .left) (c .if3 .left)
+returns-4 c = too-long (c .before .before .before .before .before .args .size) (c .before .before .before .before .before .args .last)
+    (c .before .before .before .before .before .args .held .now) (c .before .before .before .if1 .left) (c .before .before .through-last-end .ensures)
+    (c .before .if2 .left) (c .if3 .left)
 
 pub playable-bytes-spec : {M : Type 1} → statement M
 playable-bytes-spec = tie.close (tie.spec returns through-last-end-requires returns-2 returns-3 returns-4)

@@ -20,23 +20,84 @@ playable-bytes-requires : tie.Need-playable-bytes-requires
 playable-bytes-requires c κs = search needs
 
 slice-reshare-prefix-replay-lines : tie.Need-slice-reshare-prefix-replay-lines
-slice-reshare-prefix-replay-lines c = omega (arith, at-most (length (c .before .before .before .before .before .before .args .window .now)) (c .before .before .before .before .before .before .args .last) (c .before .before .before .before .before .before .args .window .now) (c .before .before .before .before .before .before .args .held) (c .before .before .before .before .before .before .pre .1 .2) (c .playable-bytes .ensures), c .before .before .before .before .before .before .pre .1 .2)
+slice-reshare-prefix-replay-lines c = omega (
+  arith,
+  at-most (length (c .before .before .before .before .before .before .args .window .now))
+      (c .before .before .before .before .before .before .args .last) (c .before .before .before .before .before .before .args .window .now)
+      (c .before .before .before .before .before .before .args .held) (c .before .before .before .before .before .before .pre .1 .2)
+      (c .playable-bytes .ensures),
+  c .before .before .before .before .before .before .pre .1 .2,
+)
 
 slice-aggregate-replay-lines : tie.Need-slice-aggregate-replay-lines
 slice-aggregate-replay-lines c =
-    let h : c .before .playable-bytes .result ≤ length (c .before .before .before .before .before .before .before .args .window .now) = omega (arith, at-most (length (c .before .before .before .before .before .before .before .args .window .now)) (c .before .before .before .before .before .before .before .args .last) (c .before .before .before .before .before .before .before .args .window .now) (c .before .before .before .before .before .before .before .args .held) (c .before .before .before .before .before .before .before .pre .1 .2) (c .before .playable-bytes .ensures), c .before .before .before .before .before .before .before .pre .1 .2) in
+    let h : c .before .playable-bytes .result ≤ length (c .before .before .before .before .before .before .before .args .window .now) =
+    omega (
+      arith,
+      at-most (length (c .before .before .before .before .before .before .before .args .window .now))
+          (c .before .before .before .before .before .before .before .args .last)
+          (c .before .before .before .before .before .before .before .args .window .now)
+          (c .before .before .before .before .before .before .before .args .held) (c .before .before .before .before .before .before .before .pre .1 .2)
+          (c .before .playable-bytes .ensures),
+      c .before .before .before .before .before .before .before .pre .1 .2,
+    ) in
     sym (length-take-le _ _ h)
 
 replay-lines-requires : tie.Need-replay-lines-requires
 replay-lines-requires c κs =
-    let h = at-most (length (c .before .before .before .before .before .before .before .before .before .args .window .now)) (c .before .before .before .before .before .before .before .before .before .args .last) (c .before .before .before .before .before .before .before .before .before .args .window .now) (c .before .before .before .before .before .before .before .before .before .args .held) (c .before .before .before .before .before .before .before .before .before .pre .1 .2) (c .before .before .before .playable-bytes .ensures) in
-    (c .before .before .before .before .before .before .before .before .before .pre .0, (c .before .before .before .before .before .before .before .before .before .pre .1 .0, omega (arith, length-take-le (c .before .before .before .playable-bytes .result) (c .before .before .before .before .before .before .before .before .before .args .window .now) (omega (arith, h, c .before .before .before .before .before .before .before .before .before .pre .1 .2)), h, c .before .before .before .before .before .before .before .before .before .pre .1 .3)))
+    let h = at-most (length (c .before .before .before .before .before .before .before .before .before .args .window .now))
+    (c .before .before .before .before .before .before .before .before .before .args .last)
+    (c .before .before .before .before .before .before .before .before .before .args .window .now)
+    (c .before .before .before .before .before .before .before .before .before .args .held)
+    (c .before .before .before .before .before .before .before .before .before .pre .1 .2) (c .before .before .before .playable-bytes .ensures) in (
+      c .before .before .before .before .before .before .before .before .before .pre .0,
+      (
+        c .before .before .before .before .before .before .before .before .before .pre .1 .0,
+        omega (
+          arith,
+          length-take-le (c .before .before .before .playable-bytes .result)
+              (c .before .before .before .before .before .before .before .before .before .args .window .now)
+              (omega (arith, h, c .before .before .before .before .before .before .before .before .before .pre .1 .2)),
+          h,
+          c .before .before .before .before .before .before .before .before .before .pre .1 .3,
+        ),
+      ),
+    )
 
 sub-taken : tie.Need-sub-taken
-sub-taken c = omega (arith, from (cardsIn (c .before .before .before .before .before .before .before .before .before .before .before .before .before .before .before .before .args .cards .now)) (length (c .before .before .before .before .before .before .before .before .before .before .before .before .before .before .before .before .args .window .now)) (length (c .before .before .before .before .before .before .before .before .before .before .before .before .before .before .before .before .args .out .now)) (c .before .before .before .before .before .before .before .before .before .before .before .before .before .before .before .before .args .last) (stateIn (c .before .before .before .before .before .before .before .before .before .before .before .before .before .before .before .before .args .memory .now) (c .before .before .before .before .before .before .before .before .before .before .before .before .before .before .before .before .args .cursor .tick)) (c .before .before .before .before .before .before .before .before .before .before .before .before .before .before .before .before .args .cursor) (c .before .before .before .before .before .before .before .before .before .before .before .before .before .before .before .before .args .window .now) (c .before .before .before .before .before .before .before .before .before .before .before .before .before .before .before .before .args .held) (c .before .before .before .before .before .before .before .before .before .before .before .before .before .before .before .before .pre .1 .2) (c .before .before .before .before .before .before .before .before .before .before .playable-bytes .ensures) (c .before .before .before .before .before .before .replay-lines .ensures))
+sub-taken c = omega (
+  arith,
+  from (cardsIn (c .before .before .before .before .before .before .before .before .before .before .before .before .before .before
+      .before .before .args .cards .now)) (length (c .before .before .before .before .before .before .before .before .before .before .before .before .before
+      .before .before .before .args .window .now)) (length (c .before .before .before .before .before .before .before .before .before .before .before .before
+      .before .before .before .before .args .out .now)) (c .before .before .before .before .before .before .before .before .before .before .before .before
+      .before .before .before .before .args .last) (stateIn (c .before .before .before .before .before .before .before .before .before .before .before .before
+      .before .before .before .before .args .memory .now) (c .before .before .before .before .before .before .before .before .before .before .before .before
+      .before .before .before .before .args .cursor .tick)) (c .before .before .before .before .before .before .before .before .before .before .before .before
+      .before .before .before .before .args .cursor) (c .before .before .before .before .before .before .before .before .before .before .before .before
+      .before .before .before .before .args .window .now) (c .before .before .before .before .before .before .before .before .before .before .before .before
+      .before .before .before .before .args .held) (c .before .before .before .before .before .before .before .before .before .before .before .before .before
+      .before .before .before .pre .1 .2) (c .before .before .before .before .before .before .before .before .before .before .playable-bytes .ensures)
+      (c .before .before .before .before .before .before .replay-lines .ensures),
+)
 
 keep-requires : tie.Need-keep-requires
-keep-requires c κs = (to (cardsIn (c .before .before .before .before .before .before .before .before .before .before .before .before .before .before .before .before .before .args .cards .now)) (length (c .before .before .before .before .before .before .before .before .before .before .before .before .before .before .before .before .before .args .window .now)) (length (c .before .before .before .before .before .before .before .before .before .before .before .before .before .before .before .before .before .args .out .now)) (c .before .before .before .before .before .before .before .before .before .before .before .before .before .before .before .before .before .args .last) (stateIn (c .before .before .before .before .before .before .before .before .before .before .before .before .before .before .before .before .before .args .memory .now) (c .before .before .before .before .before .before .before .before .before .before .before .before .before .before .before .before .before .args .cursor .tick)) (c .before .before .before .before .before .before .before .before .before .before .before .before .before .before .before .before .before .args .cursor) (c .before .before .before .before .before .before .before .before .before .before .before .before .before .before .before .before .before .args .window .now) (c .before .before .before .before .before .before .before .before .before .before .before .before .before .before .before .before .before .args .held) (c .before .before .before .before .before .before .before .before .before .before .before .before .before .before .before .before .before .pre .1 .2) (c .before .before .before .before .before .before .before .before .before .before .before .playable-bytes .ensures) (c .before .before .before .before .before .before .before .replay-lines .ensures), c .before .before .before .before .before .before .before .before .before .before .before .before .before .before .before .before .before .pre .1 .2)
+keep-requires c κs = (
+  to (cardsIn (c .before .before .before .before .before .before .before .before .before .before .before .before .before .before .before
+      .before .before .args .cards .now)) (length (c .before .before .before .before .before .before .before .before .before .before .before .before .before
+      .before .before .before .before .args .window .now)) (length (c .before .before .before .before .before .before .before .before .before .before .before
+      .before .before .before .before .before .before .args .out .now))
+      (c .before .before .before .before .before .before .before .before .before .before .before .before .before .before .before .before .before .args .last)
+      (stateIn (c .before .before .before .before .before .before .before .before .before .before .before .before .before .before .before .before .before
+      .args .memory .now) (c .before .before .before .before .before .before .before .before .before .before .before .before .before .before .before .before
+      .before .args .cursor .tick)) (c .before .before .before .before .before .before .before .before .before .before .before .before .before .before .before
+      .before .before .args .cursor) (c .before .before .before .before .before .before .before .before .before .before .before .before .before .before
+      .before .before .before .args .window .now) (c .before .before .before .before .before .before .before .before .before .before .before .before .before
+      .before .before .before .before .args .held) (c .before .before .before .before .before .before .before .before .before .before .before .before .before
+      .before .before .before .before .pre .1 .2) (c .before .before .before .before .before .before .before .before .before .before .before .playable-bytes
+      .ensures) (c .before .before .before .before .before .before .before .replay-lines .ensures),
+  c .before .before .before .before .before .before .before .before .before .before .before .before .before .before .before .before .before .pre .1 .2,
+)
 
 same-length : tie.Need-same-length
 same-length c = search needs
@@ -49,8 +110,44 @@ same-length-3 c = search needs
 
 returns : tie.Need-returns
 returns c = (
-  gives (cardsIn (c .before .before .before .before .before .before .before .before .before .before .before .before .before .before .before .before .before .before .before .before .args .cards .now)) (length (c .before .before .before .before .before .before .before .before .before .before .before .before .before .before .before .before .before .before .before .before .args .window .now)) (length (c .before .before .before .before .before .before .before .before .before .before .before .before .before .before .before .before .before .before .before .before .args .out .now)) (c .before .before .before .before .before .before .before .before .before .before .before .before .before .before .before .before .before .before .before .before .args .last) (stateIn (c .before .before .before .before .before .before .before .before .before .before .before .before .before .before .before .before .before .before .before .before .args .memory .now) (c .before .before .before .before .before .before .before .before .before .before .before .before .before .before .before .before .before .before .before .before .args .cursor .tick)) (c .before .before .before .before .before .before .before .before .before .before .before .before .before .before .before .before .before .before .before .before .args .cursor) (c .before .before .before .before .before .before .before .before .before .before .before .before .before .before .before .before .before .before .before .before .args .window .now) (c .before .before .before .before .before .before .before .before .before .before .before .before .before .before .before .before .before .before .before .before .args .held) (c .before .before .before .before .before .before .before .before .before .before .before .before .before .before .before .before .before .before .before .before .pre .1 .2) (c .before .before .before .before .before .before .before .before .before .before .before .before .before .before .playable-bytes .ensures) (c .before .before .before .before .before .before .before .before .before .before .replay-lines .ensures) (c .before .before .keep .ensures),
-  stays (cardsIn (c .before .before .before .before .before .before .before .before .before .before .before .before .before .before .before .before .before .before .before .before .args .cards .now)) (length (c .before .before .before .before .before .before .before .before .before .before .before .before .before .before .before .before .before .before .before .before .args .window .now)) (length (c .before .before .before .before .before .before .before .before .before .before .before .before .before .before .before .before .before .before .before .before .args .out .now)) (c .before .before .before .before .before .before .before .before .before .before .before .before .before .before .before .before .before .before .before .before .args .last) (stateIn (c .before .before .before .before .before .before .before .before .before .before .before .before .before .before .before .before .before .before .before .before .args .memory .now) (c .before .before .before .before .before .before .before .before .before .before .before .before .before .before .before .before .before .before .before .before .args .cursor .tick)) (c .before .before .before .before .before .before .before .before .before .before .before .before .before .before .before .before .before .before .before .before .args .cursor) (c .before .before .before .before .before .before .before .before .before .before .before .before .before .before .before .before .before .before .before .before .args .window .now) (c .before .before .before .before .before .before .before .before .before .before .before .before .before .before .before .before .before .before .before .before .args .held) (c .before .before .before .before .before .before .before .before .before .before .before .before .before .before .before .before .before .before .before .before .pre .1 .2) (c .before .before .before .before .before .before .before .before .before .before .before .before .before .before .playable-bytes .ensures) (c .before .before .before .before .before .before .before .before .before .before .replay-lines .ensures) (c .before .before .keep .ensures) (c .before .before .before .before .before .before .before .before .before .before .before .before .before .before .before .before .before .before .before .before .pre .1 .0) (c .before .before .before .before .before .before .before .before .before .before .before .before .before .before .before .before .before .before .before .before .pre .1 .1) (c .before .before .before .before .before .before .before .before .before .before .before .before .before .before .before .before .before .before .before .before .pre .1 .3),
+  gives (cardsIn (c .before .before .before .before .before .before .before .before .before .before .before .before .before .before .before .before .before
+      .before .before .before .args .cards .now)) (length (c .before .before .before .before .before .before .before .before .before .before .before .before
+      .before .before .before .before .before .before .before .before .args .window .now))
+      (length (c .before .before .before .before .before .before .before .before .before .before .before .before .before .before .before .before .before
+      .before .before .before .args .out .now)) (c .before .before .before .before .before .before .before .before .before .before .before .before .before
+      .before .before .before .before .before .before .before .args .last)
+      (stateIn (c .before .before .before .before .before .before .before .before .before .before .before .before .before .before .before .before .before
+      .before .before .before .args .memory .now) (c .before .before .before .before .before .before .before .before .before .before .before .before .before
+      .before .before .before .before .before .before .before .args .cursor .tick))
+      (c .before .before .before .before .before .before .before .before .before .before .before .before .before .before .before .before .before .before
+      .before .before .args .cursor) (c .before .before .before .before .before .before .before .before .before .before .before .before .before .before
+      .before .before .before .before .before .before .args .window .now)
+      (c .before .before .before .before .before .before .before .before .before .before .before .before .before .before .before .before .before .before
+      .before .before .args .held) (c .before .before .before .before .before .before .before .before .before .before .before .before .before .before
+      .before .before .before .before .before .before .pre .1 .2) (c .before .before .before .before .before .before .before .before .before .before .before
+      .before .before .before .playable-bytes .ensures) (c .before .before .before .before .before .before .before .before .before .before .replay-lines
+      .ensures) (c .before .before .keep .ensures),
+  stays (cardsIn (c .before .before .before .before .before .before .before .before .before .before .before .before .before .before .before .before .before
+      .before .before .before .args .cards .now)) (length (c .before .before .before .before .before .before .before .before .before .before .before .before
+      .before .before .before .before .before .before .before .before .args .window .now))
+      (length (c .before .before .before .before .before .before .before .before .before .before .before .before .before .before .before .before .before
+      .before .before .before .args .out .now)) (c .before .before .before .before .before .before .before .before .before .before .before .before .before
+      .before .before .before .before .before .before .before .args .last)
+      (stateIn (c .before .before .before .before .before .before .before .before .before .before .before .before .before .before .before .before .before
+      .before .before .before .args .memory .now) (c .before .before .before .before .before .before .before .before .before .before .before .before .before
+      .before .before .before .before .before .before .before .args .cursor .tick))
+      (c .before .before .before .before .before .before .before .before .before .before .before .before .before .before .before .before .before .before
+      .before .before .args .cursor) (c .before .before .before .before .before .before .before .before .before .before .before .before .before .before
+      .before .before .before .before .before .before .args .window .now)
+      (c .before .before .before .before .before .before .before .before .before .before .before .before .before .before .before .before .before .before
+      .before .before .args .held) (c .before .before .before .before .before .before .before .before .before .before .before .before .before .before
+      .before .before .before .before .before .before .pre .1 .2) (c .before .before .before .before .before .before .before .before .before .before .before
+      .before .before .before .playable-bytes .ensures) (c .before .before .before .before .before .before .before .before .before .before .replay-lines
+      .ensures) (c .before .before .keep .ensures) (c .before .before .before .before .before .before .before .before .before .before .before .before
+      .before .before .before .before .before .before .before .before .pre .1 .0)
+      (c .before .before .before .before .before .before .before .before .before .before .before .before .before .before .before .before .before .before
+      .before .before .pre .1 .1) (c .before .before .before .before .before .before .before .before .before .before .before .before .before .before .before
+      .before .before .before .before .before .pre .1 .3),
 )
 
 pub turn-spec : {M : Type 1} → statement M

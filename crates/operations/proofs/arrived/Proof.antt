@@ -39,13 +39,27 @@ same-length : tie.Need-same-length
 same-length c = search needs
 
 returns : tie.Need-returns
-returns c = rw (c .before .before .before .before .before .before .before .before .before .before .end .given .1, sym (c .before .before .before .before .before .before .before .before .position .ensures) ∙ c .before .before .before .before .before .before .i .given .1) (stores (c .before .before .before .before .before .before .before .before .before .before .before .before .before .args .memory .now) (c .before .before .before .before .before .before .before .before .before .before .before .before .before .args .bank) (c .before .before .before .before .before .before .i .given .0 .0) (c .before .before .before .before .before .before .before .before .before .before .before .before .before .args .v) (c .before .before .before .before .before .before .before .before .before .before .before .before .before .args .count) (c .before .before .before .store .ensures) (c .after-store .ensures))
+returns c = rw (
+  c .before .before .before .before .before .before .before .before .before .before .end .given .1,
+  sym (c .before .before .before .before .before .before .before .before .position .ensures)
+      ∙ c .before .before .before .before .before .before .i .given .1,
+)
+    (stores (c .before .before .before .before .before .before .before .before .before .before .before .before .before .args .memory .now)
+    (c .before .before .before .before .before .before .before .before .before .before .before .before .before .args .bank)
+    (c .before .before .before .before .before .before .i .given .0 .0)
+    (c .before .before .before .before .before .before .before .before .before .before .before .before .before .args .v)
+    (c .before .before .before .before .before .before .before .before .before .before .before .before .before .args .count)
+    (c .before .before .before .store .ensures) (c .after-store .ensures))
 
 same-length-2 : tie.Need-same-length-2
 same-length-2 c = search needs
 
 returns-2 : tie.Need-returns-2
-returns-2 c = rw (c .before .before .before .before .before .before .before .before .before .end .given .1, sym (c .before .before .before .before .before .before .before .position .ensures) ∙ c .before .before .before .before .before .f .given .1) (c .before .before .flagged .ensures)
+returns-2 c = rw (
+  c .before .before .before .before .before .before .before .before .before .end .given .1,
+  sym (c .before .before .before .before .before .before .before .position .ensures) ∙ c .before .before .before .before .before .f .given .1,
+)
+    (c .before .before .flagged .ensures)
 
 same-length-3 : tie.Need-same-length-3
 same-length-3 c = search needs

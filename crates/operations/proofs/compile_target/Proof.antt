@@ -33,22 +33,38 @@ same-length c = search needs
 
 returns-2 : tie.Need-returns-2
 returns-2 c =
-    let f = sym (c .before .before .before .before .before .before .before .before .compile .ensures .0) ∙ c .before .before .before .before .bank .given .1 ∙ ap (In (c .before .before .before .before .bank .given .0 .0)) (c .before .element .given .1) in
-    rw (le-ltb (length (c .before .before .before .before .before .before .before .before .before .before .before .before .before .args .index .now)) 16384 (omega arith)) (plain-answer (targetOf (c .before .before .before .before .before .before .before .before .before .before .before .before .before .args .target .now)) f, c .before .before .before .before .before .before .before .before .compile .ensures .1)
+    let f = sym (c .before .before .before .before .before .before .before .before .compile .ensures .0) ∙ c .before .before .before .before .bank .given .1
+    ∙ ap (In (c .before .before .before .before .bank .given .0 .0)) (c .before .element .given .1) in
+    rw (le-ltb (length (c .before .before .before .before .before .before .before .before .before .before .before .before .before .args .index .now)) 16384
+    (omega arith)) (
+      plain-answer (targetOf (c .before .before .before .before .before .before .before .before .before .before .before .before .before
+          .args .target .now)) f,
+      c .before .before .before .before .before .before .before .before .compile .ensures .1,
+    )
 
 same-length-2 : tie.Need-same-length-2
 same-length-2 c = search needs
 
 returns-3 : tie.Need-returns-3
 returns-3 c =
-    let f = sym (c .before .before .before .before .before .before .before .before .compile .ensures .0) ∙ c .before .before .before .before .bank .given .1 ∙ ap (In (c .before .before .before .before .bank .given .0 .0)) (c .before .element2 .given .1) in
-    rw (le-ltb (length (c .before .before .before .before .before .before .before .before .before .before .before .before .before .args .index .now)) 16384 (omega arith)) (indexed-answer (targetOf (c .before .before .before .before .before .before .before .before .before .before .before .before .before .args .target .now)) f, c .before .before .before .before .before .before .before .before .compile .ensures .1)
+    let f = sym (c .before .before .before .before .before .before .before .before .compile .ensures .0) ∙ c .before .before .before .before .bank .given .1
+    ∙ ap (In (c .before .before .before .before .bank .given .0 .0)) (c .before .element2 .given .1) in
+    rw (le-ltb (length (c .before .before .before .before .before .before .before .before .before .before .before .before .before .args .index .now)) 16384
+    (omega arith)) (
+      indexed-answer (targetOf (c .before .before .before .before .before .before .before .before .before .before .before .before .before
+          .args .target .now)) f,
+      c .before .before .before .before .before .before .before .before .compile .ensures .1,
+    )
 
 same-length-3 : tie.Need-same-length-3
 same-length-3 c = search needs
 
 returns-4 : tie.Need-returns-4
-returns-4 c = rw (le-ltb (length (c .before .before .before .before .before .before .before .before .before .args .index .now)) 16384 (omega arith)) (bad-answer (targetOf (c .before .before .before .before .before .before .before .before .before .args .target .now)) (sym (c .before .before .before .before .compile .ensures .0) ∙ c .enum-told .given .1), c .before .before .before .before .compile .ensures .1)
+returns-4 c = rw (le-ltb (length (c .before .before .before .before .before .before .before .before .before .args .index .now)) 16384 (omega arith)) (
+  bad-answer (targetOf (c .before .before .before .before .before .before .before .before .before .args .target .now))
+      (sym (c .before .before .before .before .compile .ensures .0) ∙ c .enum-told .given .1),
+  c .before .before .before .before .compile .ensures .1,
+)
 
 pub compile-target-spec : {M : Type 1} → statement M
 compile-target-spec =

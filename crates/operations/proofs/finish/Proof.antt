@@ -22,7 +22,12 @@ enum-known-element-2 : tie.Need-enum-known-element-2
 enum-known-element-2 c = search needs
 
 to-element-requires : tie.Need-to-element-requires
-to-element-requires c κs = (few-index (c .before .before .before .before .before .before .before .before .before .pre .0) (c .before .before .element2 .given .1), omega (arith, c .before .before .before .before .before .before .before .before .before .pre .1), given-finite (c .before .before .before .before .before .before .before .before .before .pre .2) (c .before .before .before .before .before .end .given .1))
+to-element-requires c κs = (
+  few-index (c .before .before .before .before .before .before .before .before .before .pre .0)
+      (c .before .before .element2 .given .1),
+  omega (arith, c .before .before .before .before .before .before .before .before .before .pre .1),
+  given-finite (c .before .before .before .before .before .before .before .before .before .pre .2) (c .before .before .before .before .before .end .given .1),
+)
 
 enum-known-end-2 : tie.Need-enum-known-end-2
 enum-known-end-2 c = search needs
@@ -37,13 +42,37 @@ same-length : tie.Need-same-length
 same-length c = search needs
 
 returns : tie.Need-returns
-returns c = rw (c .before .before .before .before .before .before .before .before .before .end .given .1) (to-cell (c .before .before .before .before .before .before .before .before .before .before .before .before .before .args .tick) (c .before .before .before .before .before .before .before .before .before .before .before .before .before .args .index .now) (c .before .before .before .before .before .before .before .before .before .before .before .before .before .args .memory .now) (c .before .before .before .before .before .before .before .before .before .before .before .before .before .args .bank) (c .before .before .before .before .before .before .before .before .before .before .before .before .before .args .element) (c .before .before .before .before .before .before .before .before .before .end .given .0 .0) (c .before .before .before .before .before .before .before .before .before .before .before .before .before .args .ran .count) (given-finite (c .before .before .before .before .before .before .before .before .before .before .before .before .before .pre .2) (c .before .before .before .before .before .before .before .before .before .end .given .1)) (c .before .before .before .before .before .before .element .given .1) (stores (c .before .before .before .before .before .before .before .before .before .before .before .before .before .args .memory .now) (c .before .before .before .before .before .before .before .before .before .before .before .before .before .args .bank) (c .before .before .before .before .before .before .element .given .0 .0) (c .before .before .before .before .before .before .before .before .before .end .given .0 .0) (c .before .before .before .before .before .before .before .before .before .before .before .before .before .args .ran .count) (c .before .before .before .store .ensures) (c .after-store .ensures)))
+returns c = rw (c .before .before .before .before .before .before .before .before .before .end .given .1)
+    (to-cell (c .before .before .before .before .before .before .before .before .before .before .before .before .before .args .tick)
+    (c .before .before .before .before .before .before .before .before .before .before .before .before .before .args .index .now)
+    (c .before .before .before .before .before .before .before .before .before .before .before .before .before .args .memory .now)
+    (c .before .before .before .before .before .before .before .before .before .before .before .before .before .args .bank)
+    (c .before .before .before .before .before .before .before .before .before .before .before .before .before .args .element)
+    (c .before .before .before .before .before .before .before .before .before .end .given .0 .0)
+    (c .before .before .before .before .before .before .before .before .before .before .before .before .before .args .ran .count)
+    (given-finite (c .before .before .before .before .before .before .before .before .before .before .before .before .before .pre .2)
+    (c .before .before .before .before .before .before .before .before .before .end .given .1))
+    (c .before .before .before .before .before .before .element .given .1)
+    (stores (c .before .before .before .before .before .before .before .before .before .before .before .before .before .args .memory .now)
+    (c .before .before .before .before .before .before .before .before .before .before .before .before .before .args .bank)
+    (c .before .before .before .before .before .before .element .given .0 .0)
+    (c .before .before .before .before .before .before .before .before .before .end .given .0 .0)
+    (c .before .before .before .before .before .before .before .before .before .before .before .before .before .args .ran .count)
+    (c .before .before .before .store .ensures) (c .after-store .ensures)))
 
 same-length-2 : tie.Need-same-length-2
 same-length-2 c = search needs
 
 returns-2 : tie.Need-returns-2
-returns-2 c = rw (c .before .before .before .before .before .before .before .before .end .given .1) (by-index (c .before .before .before .before .before .before .before .before .before .before .before .before .args .tick) (c .before .before .before .before .before .before .before .before .before .before .before .before .args .index .now) (c .before .before .before .before .before .before .before .before .before .before .before .before .args .memory .now) (c .before .before .before .before .before .before .before .before .before .before .before .before .args .bank) (c .before .before .before .before .before .before .before .before .before .before .before .before .args .element) (c .before .before .before .before .before .before .before .before .end .given .0 .0) (c .before .before .before .before .before .before .before .before .before .before .before .before .args .ran .count) (c .before .before .before .before .before .element2 .given .1) (c .before .before .to-element .ensures))
+returns-2 c = rw (c .before .before .before .before .before .before .before .before .end .given .1)
+    (by-index (c .before .before .before .before .before .before .before .before .before .before .before .before .args .tick)
+    (c .before .before .before .before .before .before .before .before .before .before .before .before .args .index .now)
+    (c .before .before .before .before .before .before .before .before .before .before .before .before .args .memory .now)
+    (c .before .before .before .before .before .before .before .before .before .before .before .before .args .bank)
+    (c .before .before .before .before .before .before .before .before .before .before .before .before .args .element)
+    (c .before .before .before .before .before .before .before .before .end .given .0 .0)
+    (c .before .before .before .before .before .before .before .before .before .before .before .before .args .ran .count)
+    (c .before .before .before .before .before .element2 .given .1) (c .before .before .to-element .ensures))
 
 same-length-3 : tie.Need-same-length-3
 same-length-3 c = search needs

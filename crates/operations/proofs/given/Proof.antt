@@ -18,7 +18,8 @@ returns : tie.Need-returns
 returns c =
     let z = c .from-pattern .result in
     let F : SFits w32 z = search needs in
-    ap Int (toZ-ofZ w32 z F) ∙ ap Int (c .from-pattern .ensures) ∙ sym (integer (c .before .before .args .kind) (c .before .before .args .bits) (c .before .if1 .taken))
+    ap Int (toZ-ofZ w32 z F) ∙ ap Int (c .from-pattern .ensures) ∙ sym
+    (integer (c .before .before .args .kind) (c .before .before .args .bits) (c .before .if1 .taken))
 
 float-from-bits-t5 : tie.Need-float-from-bits-t5
 float-from-bits-t5 c = no-nan (c .before .args .bits) (ap isFinite (sym (real (c .before .args .kind) (c .before .args .bits) (c .if1 .left))) ∙ c .before .pre)

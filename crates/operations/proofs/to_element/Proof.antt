@@ -17,7 +17,9 @@ run-requires c κs = search needs
 add-arrived : tie.Need-add-arrived
 add-arrived c =
     let few : c .before .before .run .result .count ≤ mostBegun =
-    subst⁻¹ (λ (x : Ran). x .count ≤ mostBegun) (c .before .before .run .ensures) (few-begun (c .before .before .before .before .before .before .args .index .now) _ (c .before .before .before .before .before .before .args .tick) (c .before .before .before .before .before .before .args .memory .now) (c .before .before .before .before .before .before .pre .0)) in
+    subst⁻¹ (λ (x : Ran). x .count ≤ mostBegun) (c .before .before .run .ensures)
+    (few-begun (c .before .before .before .before .before .before .args .index .now) _ (c .before .before .before .before .before .before .args .tick)
+    (c .before .before .before .before .before .before .args .memory .now) (c .before .before .before .before .before .before .pre .0)) in
     omega (arith, few, c .before .before .before .before .before .before .pre .1)
 
 arrived-requires : tie.Need-arrived-requires
@@ -27,7 +29,15 @@ same-length : tie.Need-same-length
 same-length c = search needs
 
 returns : tie.Need-returns
-returns c = to-element (c .before .before .before .before .before .before .before .before .before .args .tick) (c .before .before .before .before .before .before .before .before .before .args .index .now) (c .before .before .before .before .before .before .before .before .before .args .memory .now) (c .before .before .before .before .before .before .before .before .before .args .bank) (By (c .before .before .before .before .before .before .before .before .before .args .k)) (c .before .before .before .before .before .before .before .before .before .args .v) (c .before .before .before .before .before .before .before .before .before .args .count) (c .before .before .before .before .before .before .before .before .before .pre .2) refl (c .before .before .before .before .before .run .ensures) (c .before .before .arrived .ensures)
+returns c = to-element (c .before .before .before .before .before .before .before .before .before .args .tick)
+    (c .before .before .before .before .before .before .before .before .before .args .index .now)
+    (c .before .before .before .before .before .before .before .before .before .args .memory .now)
+    (c .before .before .before .before .before .before .before .before .before .args .bank)
+    (By (c .before .before .before .before .before .before .before .before .before .args .k))
+    (c .before .before .before .before .before .before .before .before .before .args .v)
+    (c .before .before .before .before .before .before .before .before .before .args .count)
+    (c .before .before .before .before .before .before .before .before .before .pre .2) refl (c .before .before .before .before .before .run .ensures)
+    (c .before .before .arrived .ensures)
 
 pub to-element-spec : {M : Type 1} → statement M
 to-element-spec =

@@ -17,7 +17,8 @@ compile-requires : tie.Need-compile-requires
 compile-requires c κs = search needs
 
 returns : tie.Need-returns
-returns c = keeps-index (c .before .before .before .before .args .index .now) (targetOf (c .before .before .before .before .args .target .now)) (c .before .before .before .before .pre .1 .1 ∙ ap (In (c .before .before .before .before .pre .1 .0)) (c .enum-told .given .1))
+returns c = keeps-index (c .before .before .before .before .args .index .now) (targetOf (c .before .before .before .before .args .target .now))
+    (c .before .before .before .before .pre .1 .1 ∙ ap (In (c .before .before .before .before .pre .1 .0)) (c .enum-told .given .1))
 
 same-length : tie.Need-same-length
 same-length c = search needs

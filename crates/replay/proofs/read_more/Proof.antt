@@ -45,7 +45,8 @@ same-length-4 : tie.Need-same-length-4
 same-length-4 c = search needs
 
 returns-4 : tie.Need-returns-4
-returns-4 c = some (c .before .before .count .result) (omega (arith, c .before .if2 .left)) (omega (arith, c .if3 .left, c .before .before .before .before .before .before .before .before .before .before .pre))
+returns-4 c = some (c .before .before .count .result) (omega (arith, c .before .if2 .left))
+    (omega (arith, c .if3 .left, c .before .before .before .before .before .before .before .before .before .before .pre))
 
 pub read-more-spec : {M : Type 1} → statement M
 read-more-spec =

@@ -56,8 +56,14 @@ slice-aggregate-replay-log-3 c = search needs
 
 replay-log-requires : tie.Need-replay-log-requires
 replay-log-requires c κs = (
-  fine-is (read-as (formula-card-theorems .answers) (c .before .before .before .before .before .before .before .before .before .before .before .before .args .cards .now) _ (c .before .before .before .before .before .before .before .read2 .ensures)) (c .before .before .before .before .before .before .if1 .left),
-  (omega (arith, c .before .before .before .before .before .large-buffer2 .ensures), omega (arith, c .before .before .before .before .blank-image .ensures .0), omega (arith, c .before .before .before .before .before .before .before .before .before .before .large-buffer .ensures)),
+  fine-is (read-as (formula-card-theorems .answers) (c .before .before .before .before .before .before .before .before .before .before .before .before .args
+      .cards .now) _ (c .before .before .before .before .before .before .before .read2 .ensures))
+      (c .before .before .before .before .before .before .if1 .left),
+  (
+    omega (arith, c .before .before .before .before .before .large-buffer2 .ensures),
+    omega (arith, c .before .before .before .before .blank-image .ensures .0),
+    omega (arith, c .before .before .before .before .before .before .before .before .before .before .large-buffer .ensures),
+  ),
 )
 
 returns-2 : tie.Need-returns-2

@@ -17,7 +17,8 @@ same-requires : tie.Need-same-requires
 same-requires c κs = search needs
 
 returns-2 : tie.Need-returns-2
-returns-2 c = agrees-same (c .before .before .before .before .before .before .before .args .held) (c .before .joined-at .result) (c .before .joined-at .ensures .1) _ (c .same .ensures)
+returns-2 c = agrees-same (c .before .before .before .before .before .before .before .args .held) (c .before .joined-at .result)
+    (c .before .joined-at .ensures .1) _ (c .same .ensures)
 
 pub agrees-spec : {M : Type 1} → statement M
 agrees-spec =

@@ -56,7 +56,9 @@ brought m = let l = m .step .last .1 .1 .1 .1 .1 in tableOf (l .0) (l .1 .0) (l 
 came : (m : M) → Came (entry m .args .code .now) (entry m .args .n) (at-loop m .loop .place + 1) (brought m) (stateOf (m .step .result))
 came m =
     let code = now (entry m .args .code) in
-    turn code (entry m .args .n) {after = brought m} (m .before .before .before .before .before .before .loop-test .taken) (decode-fetched code (at-loop m .loop .place) ∙ ap instructionOf (sym (m .before .before .before .before .before .fetch .ensures))) (at-loop m .loop .inv .knows)
+    turn code (entry m .args .n) {after = brought m} (m .before .before .before .before .before .before .loop-test .taken)
+    (decode-fetched code (at-loop m .loop .place) ∙ ap instructionOf (sym (m .before .before .before .before .before .fetch .ensures)))
+    (at-loop m .loop .inv .knows)
     (m .step .ensures .1 .1)
 
 came-not : (m : M) → m .step .result .reach ≡ 1 → stateOf (m .step .result) ≡ unreached
@@ -104,12 +106,19 @@ same-length-3 : tie.Need-same-length-3 Inv-loop μ-loop
 same-length-3 c = highs-after (c .before .before .before .before .before .before .before .before)
 
 returns-2 : tie.Need-returns-2 Inv-loop μ-loop
-returns-2 c = fails _ _ (came (c .before .before .before .before .before .before .before .before)) (ap (λ k. stateAt k (kindsOf (c .before .before .before .before .before .before .before .before .step .result .held))) (c .if2 .taken))
+returns-2 c = fails _ _ (came (c .before .before .before .before .before .before .before .before))
+    (ap (λ k. stateAt k (kindsOf (c .before .before .before .before .before .before .before .before .step .result .held))) (c .if2 .taken))
 
 skipped-requires : tie.Need-skipped-requires Inv-loop μ-loop
 skipped-requires c κs =
-    let m = c .before .before .before .before .before .before .before .before .before .before .before .before in
-    (omega (arith, c .before .before .before .before .before .before .before .before .before .before .before .before .before .before .before .before .before .before .loop-test .taken), omega (arith, tops-after m, entry m .pre .1 .room))
+    let m = c .before .before .before .before .before .before .before .before .before .before .before .before in (
+      omega (
+        arith,
+        c .before .before .before .before .before .before .before .before .before .before .before .before .before .before .before .before .before
+            .before .loop-test .taken,
+      ),
+      omega (arith, tops-after m, entry m .pre .1 .room),
+    )
 
 slice-read-if4 : tie.Need-slice-read-if4 Inv-loop μ-loop
 slice-read-if4 c =
@@ -128,33 +137,62 @@ same-length-6 c = highs-after (c .before .before .before .before .before .before
 returns-3 : tie.Need-returns-3 Inv-loop μ-loop
 returns-3 c =
     let m = c .before .before .before .before .before .before .before .before .before .before .before .before .before .before .before in
-    lost _ _ (came m) (came-not m (c .before .before .before .before .if3 .taken)) (λ q e. rw e) (c .before .before .skipped .ensures) (entry m .pre .0 .0) (entry m .pre .0 .1) (c .if4 .taken)
+    lost _ _ (came m) (came-not m (c .before .before .before .before .if3 .taken)) (λ q e. rw e) (c .before .before .skipped .ensures) (entry m .pre .0 .0)
+    (entry m .pre .0 .1) (c .if4 .taken)
 
 joined-at-requires : tie.Need-joined-at-requires Inv-loop μ-loop
 joined-at-requires c κs =
-    let m = c .before .before .before .before .before .before .before .before .before .before .before .before .before .before .before .before .before .before in
-    ((omega (arith, c .before .before .before .before .before .skipped .ensures .way .within, tops-after m, entry m .pre .1 .room), some (c .before .before .before .if4 .left)), sized (m .step .ensures .1 .0))
+    let m = c .before .before .before .before .before .before .before .before .before .before .before .before .before .before .before .before .before .before in (
+      (
+        omega (arith, c .before .before .before .before .before .skipped .ensures .way .within, tops-after m, entry m .pre .1 .room),
+        some (c .before .before .before .if4 .left),
+      ),
+      sized (m .step .ensures .1 .0),
+    )
 
 refill-requires : tie.Need-refill-requires Inv-loop μ-loop
-refill-requires c κs = (c .before .before .before .before .before .before .before .before .before .before .before .before .before .before .before .before .before .before .before .before .step .ensures .0 .whole, c .before .joined-at .ensures .0)
+refill-requires c κs = (
+  c .before .before .before .before .before .before .before .before .before .before .before .before .before .before .before .before
+      .before .before .before .before .step .ensures .0 .whole,
+  c .before .joined-at .ensures .0,
+)
 
 loop-less : tie.Need-loop-less Inv-loop μ-loop
-loop-less c = omega (arith, c .before .before .before .before .before .before .before .before .skipped .ensures .way .onward, c .before .before .before .before .before .before .before .before .skipped .ensures .way .within, c .before .before .before .before .before .before .before .before .before .before .before .before .before .before .before .before .before .before .before .before .before .before .before .before .before .before .before .loop-test .taken)
+loop-less c = omega (
+  arith,
+  c .before .before .before .before .before .before .before .before .skipped .ensures .way .onward,
+  c .before .before .before .before .before .before .before .before .skipped .ensures .way .within,
+  c .before .before .before .before .before .before .before .before .before .before .before .before .before .before .before .before .before .before
+      .before .before .before .before .before .before .before .before .before .loop-test .taken,
+)
 
 loop-again : tie.Need-loop-again Inv-loop μ-loop
 loop-again c =
-    let m = c .before .before .before .before .before .before .before .before .before .before .before .before .before .before .before .before .before .before .before .before .before in
+    let m = c .before .before .before .before .before .before .before .before .before .before .before .before .before .before .before .before .before
+    .before .before .before .before in
     record {
       within = c .before .before .before .before .before .before .before .before .skipped .ensures .way .within;
       keeps = c .refill .ensures;
       table = resized (tops-kept (at-loop m)) (m .step .ensures .1 .0);
-      knows = landed _ _ (came m) (came-not m (c .before .before .before .before .before .before .before .before .before .before .if3 .taken)) (λ q e. rw e) (c .before .before .before .before .before .before .before .before .skipped .ensures) (c .before .before .joined-at .ensures .1);
+      knows = landed _ _ (came m) (came-not m (c .before .before .before .before .before .before .before .before .before .before .if3 .taken)) (λ q e. rw e)
+          (c .before .before .before .before .before .before .before .before .skipped .ensures) (c .before .before .joined-at .ensures .1);
     }
 
 agrees-requires : tie.Need-agrees-requires Inv-loop μ-loop
 agrees-requires c κs =
-    let m = c .before .before .before .before .before .before .before .before .before .before .before .before .before .before in
-    ((m .step .ensures .0 .canonical, omega (arith, c .before .before .before .before .before .before .before .before .before .before .before .before .before .before .before .before .before .before .before .before .loop-test .taken, tops-after m, entry m .pre .1 .room)), sized (m .step .ensures .1 .0))
+    let m = c .before .before .before .before .before .before .before .before .before .before .before .before .before .before in (
+      (
+        m .step .ensures .0 .canonical,
+        omega (
+          arith,
+          c .before .before .before .before .before .before .before .before .before .before .before .before
+              .before .before .before .before .before .before .before .before .loop-test .taken,
+          tops-after m,
+          entry m .pre .1 .room,
+        ),
+      ),
+      sized (m .step .ensures .1 .0),
+    )
 
 same-length-7 : tie.Need-same-length-7 Inv-loop μ-loop
 same-length-7 c = tops-after (c .before .before .before .before .before .before .before .before .before .before .before .before .before .before .before .before)
@@ -163,24 +201,35 @@ same-length-8 : tie.Need-same-length-8 Inv-loop μ-loop
 same-length-8 c = lows-after (c .before .before .before .before .before .before .before .before .before .before .before .before .before .before .before .before)
 
 same-length-9 : tie.Need-same-length-9 Inv-loop μ-loop
-same-length-9 c = highs-after (c .before .before .before .before .before .before .before .before .before .before .before .before .before .before .before .before)
+same-length-9 c = highs-after (c .before .before .before .before .before .before .before .before .before .before .before .before .before .before .before
+    .before)
 
 returns-4 : tie.Need-returns-4 Inv-loop μ-loop
 returns-4 c =
     let m = c .before .before .before .before .before .before .before .before .before .before .before .before .before .before .before .before in
-    disagreed _ _ (c .before .agrees .result) (came m) (came-with m (c .before .before .before .before .before .before .before .before .if2 .left) (c .before .before .before .before .before .if3 .left)) (c .before .agrees .ensures) (not-true _ (c .if5 .taken))
+    disagreed _ _ (c .before .agrees .result) (came m) (came-with m (c .before .before .before .before .before .before .before .before .if2 .left)
+    (c .before .before .before .before .before .if3 .left)) (c .before .agrees .ensures) (not-true _ (c .if5 .taken))
 
 loop-less-2 : tie.Need-loop-less-2 Inv-loop μ-loop
-loop-less-2 c = omega (arith, c .before .before .before .before .before .before .before .before .before .before .before .before .before .before .before .before .before .before .before .before .before .before .loop-test .taken)
+loop-less-2 c = omega (
+  arith,
+  c .before .before .before .before .before .before .before .before .before .before .before .before .before .before .before
+      .before .before .before .before .before .before .before .loop-test .taken,
+)
 
 loop-again-2 : tie.Need-loop-again-2 Inv-loop μ-loop
 loop-again-2 c =
     let m = c .before .before .before .before .before .before .before .before .before .before .before .before .before .before .before .before in
     record {
-      within = omega (arith, c .before .before .before .before .before .before .before .before .before .before .before .before .before .before .before .before .before .before .before .before .before .before .loop-test .taken);
+      within = omega (
+        arith,
+        c .before .before .before .before .before .before .before .before .before .before .before .before .before .before .before
+            .before .before .before .before .before .before .before .loop-test .taken,
+      );
       keeps = m .step .ensures .0;
       table = resized (tops-kept (at-loop m)) (m .step .ensures .1 .0);
-      knows = agreed _ _ (c .before .agrees .result) (came m) (came-with m (c .before .before .before .before .before .before .before .before .if2 .left) (c .before .before .before .before .before .if3 .left)) (c .before .agrees .ensures) (not-false _ (c .if5 .left));
+      knows = agreed _ _ (c .before .agrees .result) (came m) (came-with m (c .before .before .before .before .before .before .before .before .if2 .left)
+          (c .before .before .before .before .before .if3 .left)) (c .before .agrees .ensures) (not-false _ (c .if5 .left));
     }
 
 ended-requires : tie.Need-ended-requires Inv-loop μ-loop

@@ -13,7 +13,8 @@ kind-requires : tie.Need-kind-requires
 kind-requires c κs = search needs
 
 returns : tie.Need-returns
-returns c = ap Accepted (c .kind .ensures) ∙ end-one (c .before .before .before .before .args .held) (c .before .lowest .ensures) (c .before .before .if1 .taken)
+returns c = ap Accepted (c .kind .ensures) ∙ end-one (c .before .before .before .before .args .held) (c .before .lowest .ensures)
+    (c .before .before .if1 .taken)
 
 returns-2 : tie.Need-returns-2
 returns-2 c = end-other (c .before .before .args .held) (c .if1 .left)

@@ -30,7 +30,8 @@ popped-requires : tie.Need-popped-requires
 popped-requires c κs = search needs
 
 uncover-requires : tie.Need-uncover-requires
-uncover-requires c κs = keeps-popped (c .before .before .before .before .before .before .before .before .before .pre .0) (omega (arith, c .before .before .before .before .if1 .left)) (c .before .popped .ensures)
+uncover-requires c κs = keeps-popped (c .before .before .before .before .before .before .before .before .before .pre .0)
+    (omega (arith, c .before .before .before .before .if1 .left)) (c .before .popped .ensures)
 
 word-of-requires : tie.Need-word-of-requires
 word-of-requires c κs = search needs
@@ -48,7 +49,9 @@ merge-requires c κs =
       (
         omega (
           arith,
-          leb-true (wordOf (start .args .w)) (start .args .n - start .args .next) (sym (c .before .before .before .before .before .before .before .before .stays .ensures) ∙ not-false _ (c .before .before .before .before .before .before .before .if2 .left)),
+          leb-true (wordOf (start .args .w)) (start .args .n - start .args .next)
+              (sym (c .before .before .before .before .before .before .before .before .stays .ensures)
+              ∙ not-false _ (c .before .before .before .before .before .before .before .if2 .left)),
           c .before .before .before .word-of .ensures,
           start .pre .1 .0 .1,
         ),
@@ -67,12 +70,22 @@ same-length-3 c = search needs
 
 returns-3 : tie.Need-returns-3
 returns-3 c =
-    let start = c .before .before .before .before .before .before .before .before .before .before .before .before .before .before .before .before .before .before .before .before .before .before in (
+    let start = c .before .before .before .before .before .before .before .before .before .before .before .before .before .before .before .before .before
+    .before .before .before .before .before in (
       c .before .before .before .before .before .before .before .before .before .before .before .before .uncover .ensures,
       (
         c .before .before .before .before .before .before .before .merge .ensures .0,
-        λ t. fork-lands _ _ t (start .args .held) (omega (arith, c .before .before .before .before .before .before .before .before .before .before .before .before .before .before .before .before .before .if1 .left)) (c .before .before .before .before .before .before .before .before .before .before .before .before .before .before .popped .ensures) (sym (c .before .before .before .before .before .before .before .before .before .before .before .before .before .before .before .before .stays .ensures) ∙ not-false _ (c .before .before .before .before .before .before .before .before .before .before .before .before .before .before .before .if2 .left)) (c .if3 .taken)
-            (rw (c .before .before .before .before .before .before .before .before .before .before .before .word-of .ensures) at (c .before .before .before .before .before .before .before .merge .ensures .1)),
+        λ t. fork-lands _ _ t (start .args .held) (omega (
+          arith,
+          c .before .before .before .before .before .before .before .before .before .before .before
+              .before .before .before .before .before .before .if1 .left,
+        )) (c .before .before .before .before .before .before .before .before .before .before
+            .before .before .before .before .popped .ensures) (sym (c .before .before .before .before .before .before .before .before .before .before
+            .before .before .before .before .before .before .stays .ensures)
+            ∙ not-false _ (c .before .before .before .before .before .before .before .before .before .before .before .before .before .before .before .if2
+            .left)) (c .if3 .taken)
+            (rw (c .before .before .before .before .before .before .before .before .before .before .before .word-of .ensures) at
+            (c .before .before .before .before .before .before .before .merge .ensures .1)),
       ),
     )
 
@@ -87,11 +100,19 @@ same-length-6 c = search needs
 
 returns-4 : tie.Need-returns-4
 returns-4 c =
-    let start = c .before .before .before .before .before .before .before .before .before .before .before .before .before .before .before .before .before .before .before .before .before .before in (
+    let start = c .before .before .before .before .before .before .before .before .before .before .before .before .before .before .before .before .before
+    .before .before .before .before .before in (
       c .before .before .before .before .before .before .before .before .before .before .before .before .uncover .ensures,
       (
         c .before .before .before .before .before .before .before .merge .ensures .0,
-        λ t. fork-fails _ _ t (start .args .held) (omega (arith, c .before .before .before .before .before .before .before .before .before .before .before .before .before .before .before .before .before .if1 .left)) (c .before .before .before .before .before .before .before .before .before .before .before .before .before .before .popped .ensures) (c .if3 .left) (rw (c .before .before .before .before .before .before .before .before .before .before .before .word-of .ensures) at (c .before .before .before .before .before .before .before .merge .ensures .1)),
+        λ t. fork-fails _ _ t (start .args .held) (omega (
+          arith,
+          c .before .before .before .before .before .before .before .before .before .before .before
+              .before .before .before .before .before .before .if1 .left,
+        )) (c .before .before .before .before .before .before .before .before .before .before
+            .before .before .before .before .popped .ensures) (c .if3 .left)
+            (rw (c .before .before .before .before .before .before .before .before .before .before .before .word-of .ensures) at
+            (c .before .before .before .before .before .before .before .merge .ensures .1)),
       ),
     )
 

@@ -58,7 +58,11 @@ same-length-6 : tie.Need-same-length-6
 same-length-6 c = search needs
 
 returns-2 : tie.Need-returns-2
-returns-2 c = (c .before .before .before .before .before .before .before .before .before .before .pre .1 .1, merge-same (c .before .before .before .before .before .before .before .before .before .before .args .held) (c .before .joined-at .result) (c .same .result) (c .before .joined-at .ensures .1) (c .same .ensures))
+returns-2 c = (
+  c .before .before .before .before .before .before .before .before .before .before .pre .1 .1,
+  merge-same (c .before .before .before .before .before .before .before .before .before .before .args .held) (c .before .joined-at .result)
+      (c .same .result) (c .before .joined-at .ensures .1) (c .same .ensures),
+)
 
 pub merge-spec : {M : Type 1} → statement M
 merge-spec =

@@ -38,7 +38,11 @@ known-requires c κs = search needs
 
 returns-2 : tie.Need-returns-2 Inv-loop μ-loop
 returns-2 c =
-    record { way = c .before .before .before .before .before .before .loop .inv; last = λ e l. sym (stands-at _ _ _ (c .before .before .fetch .ensures) (c .before .known .ensures)) ∙ not-true _ (c .if3 .taken) }
+    record {
+      way = c .before .before .before .before .before .before .loop .inv;
+      last =
+          λ e l. sym (stands-at _ _ _ (c .before .before .fetch .ensures) (c .before .known .ensures)) ∙ not-true _ (c .if3 .taken);
+    }
 
 add-place : tie.Need-add-place Inv-loop μ-loop
 add-place c = omega arith
@@ -48,7 +52,8 @@ loop-less c = omega arith
 
 loop-again : tie.Need-loop-again Inv-loop μ-loop
 loop-again c =
-    skipping-more (c .before .before .before .before .before .before .loop .inv) (omega arith) (c .before .before .before .before .if1 .taken) (sym (stands-at _ _ _ (c .before .before .fetch .ensures) (c .before .known .ensures)) ∙ not-false _ (c .if3 .left))
+    skipping-more (c .before .before .before .before .before .before .loop .inv) (omega arith) (c .before .before .before .before .if1 .taken)
+    (sym (stands-at _ _ _ (c .before .before .fetch .ensures) (c .before .known .ensures)) ∙ not-false _ (c .if3 .left))
 
 returns-3 : tie.Need-returns-3 Inv-loop μ-loop
 returns-3 c = record { way = c .before .before .loop .inv; last = λ e l. absurd (c .if1 .left e) }

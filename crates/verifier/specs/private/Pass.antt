@@ -32,8 +32,10 @@ pub data Steps (i : Instr) (k p : ℕ) (s : Shape) (before : ℕ → State) : St
   stuck : moveOf i s ≡ illTyped → Steps i k p s before rejected before
   strays : wellFormed k i ≡ false → Steps i k p s before rejected before
   goes : {r : Shape} → moveOf i s ≡ next r → Steps i k p s before (holds r) before
-  leaps : {r : Shape} {d : ℕ} {after : ℕ → State} → wellFormed k i ≡ true → moveOf i s ≡ jump d r → Merges r (p + d) before true after → Steps i k p s before unreached after
-  forks : {r : Shape} {d : ℕ} {after : ℕ → State} → wellFormed k i ≡ true → moveOf i s ≡ fork d r → Merges r (p + d) before true after → Steps i k p s before (holds r) after
+  leaps : {r : Shape} {d : ℕ} {after : ℕ → State} → wellFormed k i ≡ true → moveOf i s ≡ jump d r → Merges r (p + d) before true after
+      → Steps i k p s before unreached after
+  forks : {r : Shape} {d : ℕ} {after : ℕ → State} → wellFormed k i ≡ true → moveOf i s ≡ fork d r → Merges r (p + d) before true after
+      → Steps i k p s before (holds r) after
   leap-clash : {r : Shape} {d : ℕ} {after : ℕ → State} → moveOf i s ≡ jump d r → Merges r (p + d) before false after → Steps i k p s before rejected after
   fork-clash : {r : Shape} {d : ℕ} {after : ℕ → State} → moveOf i s ≡ fork d r → Merges r (p + d) before false after → Steps i k p s before rejected after
 

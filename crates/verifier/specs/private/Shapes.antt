@@ -1,5 +1,6 @@
--- How the code has what the definitions speak of: kinds in an array of 128 numbers, 0 for an integer, of which the last two count, beside it all of them as bits, and
--- bits alone for a place that jumps go to. For the contracts of private functions, as Pass is; a reader believes Typing, Accepts, Stack and Safety.
+-- How the code has what the definitions speak of: kinds in an array of 128 numbers, 0 for an integer, of which the last two count, beside it all of them as
+-- bits, and bits alone for a place that jumps go to. For the contracts of private functions, as Pass is; a reader believes Typing, Accepts, Stack and
+-- Safety.
 use mathlib.Core.Path.{_≡_}
 use mathlib.Core.Bool.{Bool, cond}
 use mathlib.Core.List.{List, [], _∷_}

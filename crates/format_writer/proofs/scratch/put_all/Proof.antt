@@ -12,7 +12,8 @@ use Rattle.format_writer.proofs.scratch.put_all.Statement.{statement}
 use Rattle.format_writer.proofs.scratch.put_all.Tie as tie
 
 abbrev Inv-loop : tie.InvT-loop
-Inv-loop out₀ n bytes end₀ k₀ out end k = (k ≤ length bytes) × (length out ≡ length out₀) × Counted end out₀ × ((o : List ℕ) → Holds o out₀ n → Holds (o ++ take k bytes) out end)
+Inv-loop out₀ n bytes end₀ k₀ out end k = (k ≤ length bytes) × (length out ≡ length out₀) × Counted end out₀
+    × ((o : List ℕ) → Holds o out₀ n → Holds (o ++ take k bytes) out end)
 
 abbrev μ-loop : tie.MeasureT-loop
 μ-loop out₀ n bytes end₀ k₀ out end k = length bytes - k
@@ -35,8 +36,12 @@ loop-less c = search needs
 loop-again : tie.Need-loop-again Inv-loop μ-loop
 loop-again c =
     let l = c .before .before .before .before .before .before .loop in
-    let p = c .before .before .put in
-    (omega arith, p .kept .0 ∙ l .inv .1, omega (arith, p .ensures .0, l .inv .1), λ o h. one-more o _ _ (c .before .before .before .before .before .loop-test .taken) (p .ensures .1 _ (l .inv .3 o h)))
+    let p = c .before .before .put in (
+      omega arith,
+      p .kept .0 ∙ l .inv .1,
+      omega (arith, p .ensures .0, l .inv .1),
+      λ o h. one-more o _ _ (c .before .before .before .before .before .loop-test .taken) (p .ensures .1 _ (l .inv .3 o h)),
+    )
 
 same-length : tie.Need-same-length Inv-loop μ-loop
 same-length c = c .before .loop .inv .1

@@ -21,7 +21,8 @@ is-sign-requires : tie.Need-is-sign-requires
 is-sign-requires c κs = search needs
 
 returns-2 : tie.Need-returns-2
-returns-2 c = let s = c .before .before .before .before .before in c .is-sign .ensures ∙ open-signed (s .args .text .now) (s .args .at) (c .before .before .before .byte-at .ensures) (c .before .before .if1 .left) (c .before .byte-at2 .ensures)
+returns-2 c = let s = c .before .before .before .before .before in c .is-sign .ensures
+    ∙ open-signed (s .args .text .now) (s .args .at) (c .before .before .before .byte-at .ensures) (c .before .before .if1 .left) (c .before .byte-at2 .ensures)
 
 pub opens-exponent-spec : {M : Type 1} → statement M
 opens-exponent-spec = tie.close (tie.spec byte-at-requires returns add-byte-at byte-at-requires-2 is-sign-requires returns-2)

@@ -32,8 +32,12 @@ returns-2 c =
 returns-3 : tie.Need-returns-3
 returns-3 c =
     let s = c .before .before .before .before .before .before in
-    let d = c .before .before .digits .ensures .1 .0 in
-    (omega (arith, d .0), d .1, part-some (s .args .text .now) (s .args .at) (d .0) (c .before .before .before .before .byte-at .ensures) (c .before .before .before .if1 .left) (c .if2 .left))
+    let d = c .before .before .digits .ensures .1 .0 in (
+      omega (arith, d .0),
+      d .1,
+      part-some (s .args .text .now) (s .args .at) (d .0) (c .before .before .before .before .byte-at .ensures)
+          (c .before .before .before .if1 .left) (c .if2 .left),
+    )
 
 pub part-end-spec : {M : Type 1} → statement M
 part-end-spec =

@@ -13,7 +13,8 @@ add-run-end : tie.Need-add-run-end
 add-run-end c = search needs
 
 run-end-requires : tie.Need-run-end-requires
-run-end-requires c κs = let s = c .before .before .before in omega (arith, open-inside (s .args .text .now) (s .args .at) (sym (c .before .opens-exponent .ensures) ∙ c .if1 .taken))
+run-end-requires c κs = let s = c .before .before .before in omega
+    (arith, open-inside (s .args .text .now) (s .args .at) (sym (c .before .opens-exponent .ensures) ∙ c .if1 .taken))
 
 returns : tie.Need-returns
 returns c =

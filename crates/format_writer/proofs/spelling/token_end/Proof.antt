@@ -41,7 +41,8 @@ returns-2 c =
     ((λ k. word-ends k d l (n .0)), omega (arith, e, lies h .some), n .1)
 
 symbol-length-requires : tie.Need-symbol-length-requires
-symbol-length-requires c κs = symbol-known (c .before .before .before .before .before .before .pre) (sym (c .before .before .before .is-digit .ensures) ∙ c .before .before .if1 .left) (sym (c .before .is-letter .ensures) ∙ c .if2 .left)
+symbol-length-requires c κs = symbol-known (c .before .before .before .before .before .before .pre)
+    (sym (c .before .before .before .is-digit .ensures) ∙ c .before .before .if1 .left) (sym (c .before .is-letter .ensures) ∙ c .if2 .left)
 
 cast-result : tie.Need-cast-result
 cast-result c = search needs

@@ -20,8 +20,11 @@ same-length c = search needs
 
 returns-2 : tie.Need-returns-2
 returns-2 c =
-    let p = c .before .before .enclose in
-    (p .ensures .0, λ o x b h. held-as (ap (λ (i : Bool). o ++ parenthesized i x) (sym (infix-operand (c .before .before .before .before .if1 .left)))) (p .ensures .1 o x b h))
+    let p = c .before .before .enclose in (
+      p .ensures .0,
+      λ o x b h. held-as (ap (λ (i : Bool). o ++ parenthesized i x) (sym (infix-operand (c .before .before .before .before .if1 .left))))
+          (p .ensures .1 o x b h),
+    )
 
 pub operand-end-spec : {M : Type 1} → statement M
 operand-end-spec = tie.close (tie.spec returns enclose-requires same-length returns-2)

@@ -11,7 +11,8 @@ use Rattle.formatter.proofs.walk.signs.Statement.{statement}
 use Rattle.formatter.proofs.walk.signs.Tie as tie
 
 abbrev Inv-loop : tie.InvT-loop
-Inv-loop text table out₀ at first n end₀ i₀ out end i = (at ≤ i) × (i ≤ first) × (length out ≡ length out₀) × Position text table i × WritesSigns text table at i out₀ out n end
+Inv-loop text table out₀ at first n end₀ i₀ out end i = (at ≤ i) × (i ≤ first) × (length out ≡ length out₀) × Position text table i
+    × WritesSigns text table at i out₀ out n end
 
 abbrev μ-loop : tie.MeasureT-loop
 μ-loop text table out₀ at first n end₀ i₀ out end i = first - i
@@ -25,7 +26,8 @@ word-at-requires c κs = search needs
 token-requires : tie.Need-token-requires Inv-loop μ-loop
 token-requires c κs =
     let l = c .before .before .before .loop in
-    let h = sign-here _ _ (l .i) (l .inv .3) (c .before .before .before .before .before .before .before .pre .1 .each (l .i) (l .inv .0) (c .before .before .loop-test .taken)) in
+    let h = sign-here _ _ (l .i) (l .inv .3) (c .before .before .before .before .before .before .before .pre .1 .each (l .i) (l .inv .0)
+    (c .before .before .loop-test .taken)) in
     (omega (arith, l .inv .4 .counted, l .inv .2), rw (c .word-at .ensures) (h .2 .stands))
 
 add-i : tie.Need-add-i Inv-loop μ-loop
@@ -38,8 +40,14 @@ loop-again : tie.Need-loop-again Inv-loop μ-loop
 loop-again c =
     let l = c .before .before .before .before .before .before .loop in
     let t = c .before .before .token in
-    let h = sign-here _ _ (l .i) (l .inv .3) (c .before .before .before .before .before .before .before .before .before .before .pre .1 .each (l .i) (l .inv .0) (c .before .before .before .before .before .loop-test .taken)) in
-    (omega (arith, l .inv .0), omega arith, t .kept .1 .0 ∙ l .inv .2, h .2 .next, signs-more (l .inv .4) (c .before .before .before .word-at .ensures) (l .inv .2) (t .ensures .0) (t .ensures .1))
+    let h = sign-here _ _ (l .i) (l .inv .3) (c .before .before .before .before .before .before .before .before .before .before .pre .1 .each (l .i)
+    (l .inv .0) (c .before .before .before .before .before .loop-test .taken)) in (
+      omega (arith, l .inv .0),
+      omega arith,
+      t .kept .1 .0 ∙ l .inv .2,
+      h .2 .next,
+      signs-more (l .inv .4) (c .before .before .before .word-at .ensures) (l .inv .2) (t .ensures .0) (t .ensures .1),
+    )
 
 same-length : tie.Need-same-length Inv-loop μ-loop
 same-length c = c .before .loop .inv .2

@@ -34,8 +34,12 @@ same-length c = search needs
 returns : tie.Need-returns
 returns c =
     let s = c .before .before .before .before .before .before .before .before .before .before in
-    let p = c .before .before .put-all in
-    (p .ensures .0, λ o h. held-as (ap (λ (u : List ℕ). o ++ u) (token-bytes (s .args .text .now) _ _ _ (c .before .before .before .before .before .token-end .ensures .0) (c .before .before .before .before .before .before .before .place-of .ensures) (c .before .before .before .before .before .before .operand-of .ensures) (s .pre .1))) (p .ensures .1 o h))
+    let p = c .before .before .put-all in (
+      p .ensures .0,
+      λ o h. held-as (ap (λ (u : List ℕ). o ++ u) (token-bytes (s .args .text .now) _ _ _
+          (c .before .before .before .before .before .token-end .ensures .0) (c .before .before .before .before .before .before .before .place-of .ensures)
+          (c .before .before .before .before .before .before .operand-of .ensures) (s .pre .1))) (p .ensures .1 o h),
+    )
 
 pub token-spec : {M : Type 1} → statement M
 token-spec =

@@ -17,8 +17,13 @@ same-length : tie.Need-same-length
 same-length c = search needs
 
 returns : tie.Need-returns
-returns c =
-    (two (listed (length (c .before .before .before .before .before .before .before .before .args .text .now)) (instructions (c .before .before .before .before .before .before .before .before .args .code .now) (c .before .before .before .before .before .before .before .before .args .n))) (c .before .before .before .before .listing .ensures .0 .0) (c .before .before .before .before .listing .ensures .0 .1) (c .before .low .ensures), c .before .before .before .before .listing .ensures .1)
+returns c = (
+  two (listed (length (c .before .before .before .before .before .before .before .before .args .text .now))
+      (instructions (c .before .before .before .before .before .before .before .before .args .code .now)
+      (c .before .before .before .before .before .before .before .before .args .n))) (c .before .before .before .before .listing .ensures .0 .0)
+      (c .before .before .before .before .listing .ensures .0 .1) (c .before .low .ensures),
+  c .before .before .before .before .listing .ensures .1,
+)
 
 pub formula-listing-spec : {M : Type 1} → statement M
 formula-listing-spec = tie.close (tie.spec listing-requires low-requires same-length returns)

@@ -15,7 +15,8 @@ fill-answers-requires : tie.Need-fill-answers-requires
 fill-answers-requires c κs =
     let entry = c .before .before .before .before .before .before .before .before .before .before .before .before .before .before .before .before .args in
     let found : Buffers = record { memory = entry .memory .now; code = entry .code .now; index = entry .index .now } in
-    ap length (c .before .before .before .before .before .before .before .run-list .ensures .1 .0) ∙ list-theorems (entry .tick) .forty (formulasOf (entry .places .now) (entry .texts .now)) found
+    ap length (c .before .before .before .before .before .before .before .run-list .ensures .1 .0)
+    ∙ list-theorems (entry .tick) .forty (formulasOf (entry .places .now) (entry .texts .now)) found
 
 same-length : tie.Need-same-length
 same-length c = search needs

@@ -20,7 +20,14 @@ same-length-2 : tie.Need-same-length-2
 same-length-2 c = search needs
 
 returns : tie.Need-returns
-returns c = (three (c .before .before .before .before .before .before .salvage .result) (salvage formulaAnswer (length (c .before .before .before .before .before .before .before .before .before .before .before .before .args .kept .now)) (length (c .before .before .before .before .before .before .before .before .before .before .before .before .args .named .now)) (c .before .before .before .before .before .before .before .before .before .before .before .before .args .file .now)) (c .before .before .before .before .before .before .salvage .ensures .0), c .before .before .before .before .before .before .salvage .ensures .1)
+returns c = (
+  three (c .before .before .before .before .before .before .salvage .result)
+      (salvage formulaAnswer (length (c .before .before .before .before .before .before .before .before .before .before .before .before .args .kept .now))
+      (length (c .before .before .before .before .before .before .before .before .before .before .before .before .args .named .now))
+      (c .before .before .before .before .before .before .before .before .before .before .before .before .args .file .now))
+      (c .before .before .before .before .before .before .salvage .ensures .0),
+  c .before .before .before .before .before .before .salvage .ensures .1,
+)
 
 pub formula-salvage-spec : {M : Type 1} → statement M
 formula-salvage-spec =

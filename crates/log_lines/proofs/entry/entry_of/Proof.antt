@@ -11,10 +11,12 @@ until-requires : tie.Need-until-requires
 until-requires c κs = search needs
 
 returns : tie.Need-returns
-returns c = inside-too (c .before .before .before .args .line .now) (no-key (c .before .before .before .args .line .now) (c .before .until .ensures .0) (omega (arith, c .if1 .taken)))
+returns c = inside-too (c .before .before .before .args .line .now)
+    (no-key (c .before .before .before .args .line .now) (c .before .until .ensures .0) (omega (arith, c .if1 .taken)))
 
 slice-aggregate-key : tie.Need-slice-aggregate-key
-slice-aggregate-key c = sym (length-take-le (c .before .before .until .result) (c .before .before .before .before .args .line .now) (c .before .before .until .ensures .1))
+slice-aggregate-key c = sym (length-take-le (c .before .before .until .result) (c .before .before .before .before .args .line .now)
+    (c .before .before .until .ensures .1))
 
 add-from : tie.Need-add-from
 add-from c = search needs
@@ -38,7 +40,17 @@ tick-entry-requires : tie.Need-tick-entry-requires
 tick-entry-requires c κs = search needs
 
 returns-2 : tie.Need-returns-2
-returns-2 c = inside-too (c .before .before .before .before .before .before .before .before .before .args .line .now) (tick-line (c .before .before .before .before .before .before .before .before .before .args .line .now) (c .before .before .before .before .before .before .before .until .ensures .0) (omega (arith, c .before .before .before .before .before .before .before .until .ensures .1, c .before .before .before .before .before .before .if1 .left)) (value-of (c .before .before .before .before .before .before .before .before .before .args .line .now) (c .before .before .before .before .before .before .before .until .result)) (sym (c .before .if2 .taken) ∙ c .before .before .same-bytes .ensures) (c .tick-entry .ensures))
+returns-2 c = inside-too (c .before .before .before .before .before .before .before .before .before .args .line .now)
+    (tick-line (c .before .before .before .before .before .before .before .before .before .args .line .now)
+    (c .before .before .before .before .before .before .before .until .ensures .0)
+    (omega (
+      arith,
+      c .before .before .before .before .before .before .before .until .ensures .1,
+      c .before .before .before .before .before .before .if1 .left,
+    ))
+    (value-of (c .before .before .before .before .before .before .before .before .before .args .line .now)
+    (c .before .before .before .before .before .before .before .until .result)) (sym (c .before .if2 .taken) ∙ c .before .before .same-bytes .ensures)
+    (c .tick-entry .ensures))
 
 slice-aggregate-same-bytes-2 : tie.Need-slice-aggregate-same-bytes-2
 slice-aggregate-same-bytes-2 c = search needs
@@ -50,7 +62,18 @@ run-entry-requires : tie.Need-run-entry-requires
 run-entry-requires c κs = search needs
 
 returns-3 : tie.Need-returns-3
-returns-3 c = inside-too (c .before .before .before .before .before .before .before .before .before .before .before .before .args .line .now) (run-line (c .before .before .before .before .before .before .before .before .before .before .before .before .args .line .now) (c .before .before .before .before .before .before .before .before .before .before .until .ensures .0) (omega (arith, c .before .before .before .before .before .before .before .before .before .before .until .ensures .1, c .before .before .before .before .before .before .before .before .before .if1 .left)) (value-of (c .before .before .before .before .before .before .before .before .before .before .before .before .args .line .now) (c .before .before .before .before .before .before .before .before .before .before .until .result)) (sym (c .before .before .before .before .if2 .left) ∙ c .before .before .before .before .before .same-bytes .ensures) (sym (c .before .if3 .taken) ∙ c .before .before .same-bytes2 .ensures) (c .run-entry .ensures))
+returns-3 c = inside-too (c .before .before .before .before .before .before .before .before .before .before .before .before .args .line .now)
+    (run-line (c .before .before .before .before .before .before .before .before .before .before .before .before .args .line .now)
+    (c .before .before .before .before .before .before .before .before .before .before .until .ensures .0)
+    (omega (
+      arith,
+      c .before .before .before .before .before .before .before .before .before .before .until .ensures .1,
+      c .before .before .before .before .before .before .before .before .before .if1 .left,
+    ))
+    (value-of (c .before .before .before .before .before .before .before .before .before .before .before .before .args .line .now)
+    (c .before .before .before .before .before .before .before .before .before .before .until .result))
+    (sym (c .before .before .before .before .if2 .left) ∙ c .before .before .before .before .before .same-bytes .ensures)
+    (sym (c .before .if3 .taken) ∙ c .before .before .same-bytes2 .ensures) (c .run-entry .ensures))
 
 cell-named-requires : tie.Need-cell-named-requires
 cell-named-requires c κs = search needs
@@ -65,10 +88,36 @@ enum-told : tie.Need-enum-told
 enum-told c = search needs
 
 returns-4 : tie.Need-returns-4
-returns-4 c = inside-too (c .before .before .before .before .before .before .before .before .before .before .before .before .before .before .before .before .args .line .now) (cell-line (c .before .before .before .before .before .before .before .before .before .before .before .before .before .before .before .before .args .line .now) (c .before .before .before .before .before .before .before .before .before .before .before .before .before .before .until .ensures .0) (omega (arith, c .before .before .before .before .before .before .before .before .before .before .before .before .before .before .until .ensures .1, c .before .before .before .before .before .before .before .before .before .before .before .before .before .if1 .left)) (value-of (c .before .before .before .before .before .before .before .before .before .before .before .before .before .before .before .before .args .line .now) (c .before .before .before .before .before .before .before .before .before .before .before .before .before .before .until .result)) (sym (c .before .before .before .before .before .before .before .before .if2 .left) ∙ c .before .before .before .before .before .before .before .before .before .same-bytes .ensures) (sym (c .before .before .before .before .before .if3 .left) ∙ c .before .before .before .before .before .before .same-bytes2 .ensures) (sym (c .before .before .bank .given .1) ∙ c .before .before .before .before .cell-named .ensures) (c .change-entry .ensures))
+returns-4 c = inside-too (c .before .before .before .before .before .before .before .before .before .before .before .before .before .before .before .before
+    .args .line .now) (cell-line (c .before .before .before .before .before .before .before .before .before .before .before .before .before .before .before
+    .before .args .line .now) (c .before .before .before .before .before .before .before .before .before .before .before .before .before .before .until
+    .ensures .0) (omega (
+      arith,
+      c .before .before .before .before .before .before .before .before .before .before .before .before .before .before .until
+          .ensures .1,
+      c .before .before .before .before .before .before .before .before .before .before .before .before .before .if1 .left,
+    ))
+    (value-of (c .before .before .before .before .before .before .before .before .before .before .before .before .before .before .before .before .args .line
+    .now) (c .before .before .before .before .before .before .before .before .before .before .before .before .before .before .until .result))
+    (sym (c .before .before .before .before .before .before .before .before .if2 .left)
+    ∙ c .before .before .before .before .before .before .before .before .before .same-bytes .ensures)
+    (sym (c .before .before .before .before .before .if3 .left) ∙ c .before .before .before .before .before .before .same-bytes2 .ensures)
+    (sym (c .before .before .bank .given .1) ∙ c .before .before .before .before .cell-named .ensures) (c .change-entry .ensures))
 
 returns-5 : tie.Need-returns-5
-returns-5 c = inside-too (c .before .before .before .before .before .before .before .before .before .before .before .before .before .before .args .line .now) (cell-line (c .before .before .before .before .before .before .before .before .before .before .before .before .before .before .args .line .now) (c .before .before .before .before .before .before .before .before .before .before .before .before .until .ensures .0) (omega (arith, c .before .before .before .before .before .before .before .before .before .before .before .before .until .ensures .1, c .before .before .before .before .before .before .before .before .before .before .before .if1 .left)) (value-of (c .before .before .before .before .before .before .before .before .before .before .before .before .before .before .args .line .now) (c .before .before .before .before .before .before .before .before .before .before .before .before .until .result)) (sym (c .before .before .before .before .before .before .if2 .left) ∙ c .before .before .before .before .before .before .before .same-bytes .ensures) (sym (c .before .before .before .if3 .left) ∙ c .before .before .before .before .same-bytes2 .ensures) (sym (c .enum-told .given .1) ∙ c .before .before .cell-named .ensures) refl)
+returns-5 c = inside-too (c .before .before .before .before .before .before .before .before .before .before .before .before .before .before .args .line
+    .now) (cell-line (c .before .before .before .before .before .before .before .before .before .before .before .before .before .before .args .line .now)
+    (c .before .before .before .before .before .before .before .before .before .before .before .before .until .ensures .0)
+    (omega (
+      arith,
+      c .before .before .before .before .before .before .before .before .before .before .before .before .until .ensures .1,
+      c .before .before .before .before .before .before .before .before .before .before .before .if1 .left,
+    ))
+    (value-of (c .before .before .before .before .before .before .before .before .before .before .before .before .before .before .args .line .now)
+    (c .before .before .before .before .before .before .before .before .before .before .before .before .until .result))
+    (sym (c .before .before .before .before .before .before .if2 .left) ∙ c .before .before .before .before .before .before .before .same-bytes .ensures)
+    (sym (c .before .before .before .if3 .left) ∙ c .before .before .before .before .same-bytes2 .ensures)
+    (sym (c .enum-told .given .1) ∙ c .before .before .cell-named .ensures) refl)
 
 pub entry-of-spec : {M : Type 1} → statement M
 entry-of-spec =

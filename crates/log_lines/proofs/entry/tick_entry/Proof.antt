@@ -15,7 +15,8 @@ enum-told : tie.Need-enum-told
 enum-told c = search needs
 
 returns : tie.Need-returns
-returns c = tick-is (c .before .before .before .before .before .args .value .now) (sym (c .before .n .given .1) ∙ c .before .before .before .pattern-of .ensures)
+returns c = tick-is (c .before .before .before .before .before .args .value .now)
+    (sym (c .before .n .given .1) ∙ c .before .before .before .pattern-of .ensures)
 
 returns-2 : tie.Need-returns-2
 returns-2 c = tick-is (c .before .before .before .before .args .value .now) (sym (c .enum-told .given .1) ∙ c .before .before .pattern-of .ensures)

@@ -27,7 +27,13 @@ is-within-requires c κs = search needs
 
 returns : tie.Need-returns
 returns c =
-    c .is-within .ensures ∙ rw (c .before .before .before .bank-elements .ensures, c .before .before .before .before .range-bank .ensures, c .before .before .range-first .ensures, c .before .range-count .ensures, c .before .before .before .before .before .word-of .ensures)
+    c .is-within .ensures ∙ rw (
+      c .before .before .before .bank-elements .ensures,
+      c .before .before .before .before .range-bank .ensures,
+      c .before .before .range-first .ensures,
+      c .before .range-count .ensures,
+      c .before .before .before .before .before .word-of .ensures,
+    )
 
 pub in-bank-spec : {M : Type 1} → statement M
 in-bank-spec =

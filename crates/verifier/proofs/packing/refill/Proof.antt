@@ -18,7 +18,8 @@ element-write-kinds : tie.Need-element-write-kinds
 element-write-kinds c = omega (arith, c .before .before .pre .0, c .before .before .pre .1 .low)
 
 returns-2 : tie.Need-returns-2
-returns-2 c = uncovers-none (refills-one (c .before .before .before .args .kinds .now) (c .before .before .before .args .w) (c .before .before .before .pre .0) (c .before .before .before .pre .1) _ (c .before .lowest .ensures) (omega arith)) (omega arith)
+returns-2 c = uncovers-none (refills-one (c .before .before .before .args .kinds .now) (c .before .before .before .args .w)
+    (c .before .before .before .pre .0) (c .before .before .before .pre .1) _ (c .before .lowest .ensures) (omega arith)) (omega arith)
 
 second-requires : tie.Need-second-requires
 second-requires c κs = search needs
@@ -30,7 +31,9 @@ element-write-kinds-2 : tie.Need-element-write-kinds-2
 element-write-kinds-2 c = omega (arith, c .before .before .before .before .pre .0, c .before .before .before .before .pre .1 .low)
 
 returns-3 : tie.Need-returns-3
-returns-3 c = uncovers (refills-one (c .before .before .before .before .args .kinds .now) (c .before .before .before .before .args .w) (c .before .before .before .before .pre .0) (c .before .before .before .before .pre .1) _ (c .before .before .lowest .ensures) (omega arith)) _ (c .second .ensures) (omega arith)
+returns-3 c = uncovers (refills-one (c .before .before .before .before .args .kinds .now) (c .before .before .before .before .args .w)
+    (c .before .before .before .before .pre .0) (c .before .before .before .before .pre .1) _ (c .before .before .lowest .ensures) (omega arith)) _
+    (c .second .ensures) (omega arith)
 
 pub refill-spec : {M : Type 1} → statement M
 refill-spec =

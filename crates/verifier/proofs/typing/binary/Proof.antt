@@ -33,7 +33,8 @@ replace-requires : tie.Need-replace-requires
 replace-requires c κs = (c .before .uncover .ensures, omega (arith, c .before .before .before .popped .ensures .height))
 
 returns-3 : tie.Need-returns-3
-returns-3 c = taken-two (c .before .before .before .before .before .before .before .before .before .before .pre) (omega arith) (c .before .before .before .before .popped .ensures) (c .before .before .before .before .before .before .binary-kind .ensures) (c .replace .ensures)
+returns-3 c = taken-two (c .before .before .before .before .before .before .before .before .before .before .pre) (omega arith)
+    (c .before .before .before .before .popped .ensures) (c .before .before .before .before .before .before .binary-kind .ensures) (c .replace .ensures)
 
 pub binary-spec : {M : Type 1} → statement M
 binary-spec =
