@@ -1,5 +1,5 @@
 // The page in chromium, from the disk, against the native programs: node viewer/page.test.mjs FOLDER [PICTURES]
-import { execFileSync, spawnSync } from "node:child_process";
+import { spawnSync } from "node:child_process";
 import { existsSync, mkdirSync, readFileSync, writeFileSync } from "node:fs";
 import { pathToFileURL } from "node:url";
 import { open } from "./browser.mjs";
@@ -20,8 +20,8 @@ function same(what, found, expected) {
 
 // ---- the native programs ----
 
-function native(program, input) {
-  const { status, stdout, stderr } = spawnSync("./formula", [program], { input, maxBuffer: 1 << 28 });
+function native(program, input, ...words) {
+  const { status, stdout, stderr } = spawnSync("./formula", [program, ...words], { input, maxBuffer: 1 << 28 });
   if (status !== 0) throw new Error(`${program}: ${stderr}`);
   return { out: stdout, err: stderr.toString("latin1") };
 }
@@ -171,10 +171,9 @@ async function testCard(row, cells, tick) {
     const [code, index] = [await text("card-code"), await text("card-index")];
     same(`listing of card ${number}`, code + (index === "" ? "" : `index=${target[0]}\n${index}`), listed);
   }
-  if (formulas.format) {
-    const saved = new Uint8Array(library.TEXT_BYTES);
-    const { count } = formulas.format(expr, saved);
-    same(`card ${number} with parentheses`, (await text("card-formatted")).endsWith(`: ${Buffer.from(saved.subarray(0, count))}`), true);
+  if (there("format")) {
+    const saved = valuesOf(native("format", input).out.toString("latin1"), "expr=")[0];
+    same(`card ${number} with parentheses`, await text("card-formatted"), `Saved with parentheses: ${saved}`);
   }
   same(`nothing is stored before`, await text("card-stored"), "");
   await browser.run("document.getElementById('store').click()");
@@ -189,9 +188,8 @@ async function testCard(row, cells, tick) {
 async function testLog(name) {
   await give("book", "good");
   await give("log", name);
-  const program = `${scratch}/replay`;
-  if (!existsSync(program)) return console.log("no native replay: the log's rows are not compared");
-  const printed = execFileSync(program, [`${scratch}/good`, `${scratch}/${name}`]).toString("latin1");
+  if (!there("replay")) return;
+  const printed = native("replay", readFileSync(`${scratch}/${name}`), `${scratch}/good`).out.toString("latin1");
   const pieces = printed.split(/^(?=answer=|unknown=)/m).filter((piece) => piece !== "").map((piece) => piece.trim().split("\n").join(" "));
   const bad = pieces.length > 0 && pieces[pieces.length - 1].startsWith("answer=16");
   const shown = (await tableRows("log-rows")).map((row) => row[3]);
@@ -321,7 +319,6 @@ try {
   await testKeys();
   await testContrast();
   await testNarrow();
-  if (!formulas.format) console.log("the module has no format: a card's formatted text is left out");
   if (pictures) await takePictures();
   const said = (await browser.console()).filter(({ level }) => level === "SEVERE");
   same("the console", said.map(({ message }) => message), []);

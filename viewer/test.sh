@@ -12,13 +12,7 @@ have() {
 }
 have node "the tests of the page are" || exit 0
 sh viewer/build.sh "$from"
-if [ -f controller/web/test.mjs ]; then
-    node controller/web/test.mjs "$PWD/$from" crates/vector_cases/stdin crates/vector_cases/stdout
-else
-    echo "controller/ is missing: the gate's vectors are left out"
-fi
+node controller/web/test.mjs "$PWD/$from" crates/vector_cases/stdin crates/vector_cases/stdout
 node viewer/module.test.mjs "$PWD/$from"
 have "chromium chromedriver" "the tests in a browser are" || exit 0
-have cc "the night by the native library is" && [ -f target/staticlib/libformula_c.a ] &&
-    cc -O1 -I include -o target/viewer/replay viewer/replay.c -L target/staticlib -lformula_c -lm
 node viewer/page.test.mjs "$PWD/$from" "${PICTURES:-}"

@@ -256,7 +256,6 @@ function listing(code, count) {
 }
 
 function formatted(expr) {
-  if (!formulas.format) return "";
   const text = new Uint8Array(TEXT_BYTES);
   const { answer, count } = formulas.format(expr, text);
   return answer === 0 ? `Saved with parentheses: ${shown(text.subarray(0, count))}` : `It cannot be saved with parentheses: ${refusal(answer)}`;

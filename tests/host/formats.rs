@@ -1,9 +1,12 @@
-//! Formulas as they are saved: the text is the second implementation's, it compiles to the same code, and saved again it is the same.
+//! Formulas as they are saved: the text is the second implementation's, it is read as the same tree, it compiles to the same code, and saved
+//! again it is the same.
 
 use crate::library::{self, Lent};
 use crate::random::{formulas, texts, Random};
 use crate::reference::format::format;
+use crate::reference::grammar::parse;
 use crate::reference::operations::{Report, CODE_BYTES, TEXT_BYTES};
+use crate::reference::tree::{Span, Tree};
 
 const SENTINEL: u8 = 0xEE;
 
@@ -66,8 +69,30 @@ fn one_text(expr: &[u8], room: usize) -> Result<Report, String> {
     Ok(report)
 }
 
-// The same code, and the same bytes.
+// A tree without its places.
+fn placeless(tree: &Tree) -> String {
+    let span = |s: &Span| format!("{:?} {} {}", s.bank, s.first, s.count);
+    match tree {
+        Tree::Literal(v) => format!("{v:?}"),
+        Tree::Cell(bank, i) => format!("{bank:?} {i}"),
+        Tree::Indexed(bank, t) => format!("{bank:?}[{}]", placeless(t)),
+        Tree::Unary(op, _, t) => format!("{op:?}({})", placeless(t)),
+        Tree::Binary(op, _, t, u) => format!("{op:?}({}, {})", placeless(t), placeless(u)),
+        Tree::Decide(d, t, u) => format!("{d}({}, {})", placeless(t), placeless(u)),
+        Tree::If(c, t, u) => format!("If({}, {}, {})", placeless(c), placeless(t), placeless(u)),
+        Tree::Tick => "Tick".into(),
+        Tree::Since(_, t) => format!("Since({})", placeless(t)),
+        Tree::Total(op, s) => format!("{op:?}({})", span(s)),
+        Tree::Matching(op, test, t, s) => format!("{op:?} {test:?}({}, {})", placeless(t), span(s)),
+    }
+}
+
+// The same tree, the same code, and the same bytes.
 fn again(expr: &[u8], saved: &[u8]) -> Result<(), String> {
+    let trees = [expr, saved].map(|text| parse(text).map(|tree| placeless(&tree)).ok());
+    if trees[0].is_none() || trees[0] != trees[1] {
+        return Err(format!("saved as {} it is another tree", saved.escape_ascii()));
+    }
     let codes = [expr, saved].map(|text| {
         let mut code = Lent::new(&vec![0; CODE_BYTES], 0);
         (library::compile(&Lent::new(text, 0), &mut code), code)

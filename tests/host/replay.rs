@@ -95,7 +95,7 @@ fn words(state: &State, written: usize) -> ReplayState {
 }
 
 fn one_call(random: &mut Random, book: &[u8], log: &[u8], memory: &mut [u8], state: &mut State) -> Result<usize, String> {
-    let room = *random.pick(&[63, 64, 65, 101, 300, 4096]);
+    let room = *random.pick(&[63, 64, 65, 101, 300, 4096, 65536]);
     let (cards, night) = (Lent::new(book, random.below(8)), Lent::new(log, random.below(8)));
     let mut image = Lent::new(&lent(memory), random.below(8));
     let mut out = Lent::new(&vec![SENTINEL; room], random.below(8));

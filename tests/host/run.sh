@@ -20,6 +20,7 @@ rustc --edition 2021 -O -L target/staticlib -o "$out/host" tests/host/main.rs
 "$out/host" replay
 "$out/host" formats
 sh tests/host/windows.sh
+sh tests/host/runs.sh
 
 # $1: the program to write, $2: its file, the rest: what it is linked with
 build_c() {

@@ -93,7 +93,9 @@ fn all_nights() -> Vec<(Vec<u8>, Vec<u8>)> {
         (banks, whole),
     ];
     nights.extend(BAD.map(|line| (dose.clone(), [b"tick=0x00000007\nrun=1\n", line.as_bytes(), b"\nrun=2\n"].concat())));
-    // Every beginning of the end of a log.
-    nights.extend((night.len() - 24..night.len()).map(|end| (dose.clone(), night[..end].to_vec())));
+    // Bad lines first.
+    nights.extend(BAD[..3].iter().map(|line| (dose.clone(), [line.as_bytes(), b"\nrun=1\n"].concat())));
+    // A log cut at every byte.
+    nights.extend((0..night.len()).map(|end| (dose.clone(), night[..end].to_vec())));
     nights
 }
