@@ -136,7 +136,7 @@ fn ends(cards: &[u8], log: &[u8]) {
 fn one_night(cards: &[u8], log: &[u8]) {
     in_calls(cards, log, 4096);
     in_calls(cards, log, 64);
-    in_calls(cards, log, 101);
+    in_calls(cards, log, 65);
     ends(cards, log);
 }
 

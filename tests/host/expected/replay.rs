@@ -6,7 +6,7 @@ use crate::reference::replay::{call, State, LINE_ROOM};
 
 // The tables of crates/replay_cases/src/main.rt.
 const END: u8 = 30;
-const ROOMS: [usize; 3] = [4096, 64, 101];
+const ROOMS: [usize; 3] = [4096, 64, 65];
 const CALLS: usize = 64;
 const SHOWN: usize = 66;
 const FAR: u64 = u64::MAX;
