@@ -32,17 +32,21 @@ export async function open(width, height) {
   const session = `${root}/session/${sessionId}`;
   const find = async (css) => (await ask("POST", `${session}/element`, { using: "css selector", value: css }))[ELEMENT];
   const run = (script, ...args) => ask("POST", `${session}/execute/sync`, { script, args });
+  const tool = (cmd, params = {}) => ask("POST", `${session}/goog/cdp/execute`, { cmd, params });
   return {
     run,
+    tool,
     go: (url) => ask("POST", `${session}/url`, { url }),
     keys: async (css, text) => ask("POST", `${session}/element/${await find(css)}/value`, { text }),
     click: async (css) => ask("POST", `${session}/element/${await find(css)}/click`, {}),
+    // Keys as the keyboard sends them, to what has the focus.
+    async press(...keys) {
+      const actions = keys.flatMap((value) => [{ type: "keyDown", value }, { type: "keyUp", value }]);
+      await ask("POST", `${session}/actions`, { actions: [{ type: "key", id: "keyboard", actions }] });
+    },
     // A window has a least width of its own; a phone has not.
-    size: (w, h) =>
-      ask("POST", `${session}/goog/cdp/execute`, {
-        cmd: "Emulation.setDeviceMetricsOverride",
-        params: { width: w, height: h, deviceScaleFactor: 1, mobile: w < 600 },
-      }),
+    size: (width, height) => tool("Emulation.setDeviceMetricsOverride", { width, height, deviceScaleFactor: 1, mobile: width < 600 }),
+    media: (media) => tool("Emulation.setEmulatedMedia", { media }),
     picture: async () => Buffer.from(await ask("GET", `${session}/screenshot`), "base64"),
     console: () => ask("POST", `${session}/se/log`, { type: "browser" }),
     async until(what, script, ...args) {

@@ -1,10 +1,11 @@
-// The module's words and listings in node, against docs/ANSWERS.md, docs/INSTRUCTIONS.md and what the program `listing` must print:
-// node viewer/module.test.mjs FOLDER
+// The module's words, listings and values in node, against docs/ANSWERS.md, docs/INSTRUCTIONS.md, what the program `listing` must print and what the
+// native library gives: node viewer/module.test.mjs FOLDER
 import { existsSync, readFileSync } from "node:fs";
 import { pathToFileURL } from "node:url";
+import { nativeValues, there, TYPED, VALUES } from "./values.mjs";
 
 const folder = process.argv[2];
-const { load, CODE_BYTES, LISTING_BYTES, WORDS_BYTES } = await import(pathToFileURL(`${folder}/formula.mjs`));
+const { load, CODE_BYTES, LISTING_BYTES, MEMORY_BYTES, WORDS_BYTES } = await import(pathToFileURL(`${folder}/formula.mjs`));
 const formulas = await load(readFileSync(`${folder}/formula.wasm`));
 let failed = 0;
 function same(what, found, expected) {
@@ -88,5 +89,23 @@ if (existsSync("crates/listing_cases/stdout")) {
   same("listing_cases", printed === readFileSync("crates/listing_cases/stdout", "latin1"), true);
   console.log(`${cases.length} listings as the native program prints them`);
 } else console.log("crates/listing_cases is missing: its listings are left out");
+
+// ---- what evaluating gives ----
+
+function evaluated({ expr, cells, tick }) {
+  const memory = new Uint8Array(MEMORY_BYTES), code = new Uint8Array(CODE_BYTES), index = new Uint8Array(CODE_BYTES);
+  for (const [cell, value] of Object.entries(cells)) {
+    const element = Number(cell.slice(1)), tried = memory.slice();
+    if (cell[0] === "X") memory[element >> 3] |= Number(value) << element % 8;
+    else if (formulas.compileAndRun(cell, value, tried, code, index, Number(tick)).answer === 0) memory.set(tried);
+  }
+  const { answer, kind, bits, count } = formulas.evaluate(code, formulas.compile(expr, code).count, memory, Number(tick));
+  return { answer, kind, bits, count };
+}
+if (there()) {
+  const cases = [...VALUES, ...TYPED];
+  nativeValues(cases).forEach(({ answer, kind, bits, count }, i) => same(`value of case ${i}`, evaluated(cases[i]), { answer, kind, bits, count }));
+  console.log(`${cases.length} values as the native library gives them`);
+} else console.log("target/viewer/evaluate is missing: values are not compared with the native library's");
 console.log(failed === 0 ? `${named} names of instructions, words of ${answers.length} answers: good` : `${failed} differ`);
 process.exit(failed === 0 ? 0 : 1);

@@ -1,6 +1,11 @@
-// The page moves bytes into the box's module and out of it, and shows them. It reads no formula: no tokens, no numbers of formulas or cells, no
-// checks, no grammar. A value that is typed goes to the module as a formula. Of numbers it shows an integer, a single (its decimal and its
-// pattern) and a bit, and it splits bytes at byte 10. This script is tested (viewer/test.sh) and not proved; the module is proved.
+// The page moves bytes into the box's module and out of it, and shows them. It reads no formula: no tokens, no numbers of formulas, no checks, no
+// grammar. A value that is typed goes to the module as a formula. What the script does by itself, none of which reads a formula:
+// - splits bytes at byte 10, and finds lines by their keys: `target=` and `expr=` in a part left out, `run=` in a log, `answer=` and `unknown=` in what
+//   replay prints;
+// - parses the decimals of what salvage and replay print: where a part begins, its length and its answer, and the answer of a run;
+// - names a cell from its number (formula_cells), and decides which cells a target may write: its own, or the whole bank where it has an index;
+// - shows an integer, a single (its decimal and its pattern) and a bit, and sets the bit of an input that is ticked.
+// This script is tested (viewer/test.sh) and not proved; the module is proved.
 
 const BOOK_LIMIT = 262144;
 const LOG_LIMIT = 16 * 1024 * 1024;
@@ -18,9 +23,9 @@ const state = { book: null, card: null, memory: new Uint8Array(MEMORY_BYTES), lo
 
 // ---- bytes and elements ----
 
-// Printable ASCII as it is; any other byte by its number, so that what is shown is what stands there.
+// Printable ASCII as it is; any other byte, and the backslash, by its number, so that no two texts are shown alike.
 const shown = (bytes) =>
-  Array.from(bytes, (b) => (b >= 32 && b < 127 ? String.fromCharCode(b) : `\\x${b.toString(16).toUpperCase().padStart(2, "0")}`)).join("");
+  Array.from(bytes, (b) => (b >= 32 && b < 127 && b !== 92 ? String.fromCharCode(b) : `\\x${b.toString(16).toUpperCase().padStart(2, "0")}`)).join("");
 
 function splitLines(bytes) {
   const lines = [];
@@ -39,6 +44,8 @@ function valueOf(lines, key) {
   return line && line.subarray(key.length);
 }
 
+const counted = (number, what) => `${number} ${what}${number === 1 ? "" : "s"}`;
+
 function element(tag, text, classes) {
   const made = document.createElement(tag);
   if (text !== undefined) made.textContent = text;
@@ -49,6 +56,14 @@ function element(tag, text, classes) {
 function tell(id, text, good) {
   byId(id).textContent = text;
   byId(id).className = good === undefined ? "" : good ? "good" : "bad";
+}
+
+// The next rows of a table, and how many of all are shown.
+function showMore(view, all, rowOf) {
+  const body = byId(`${view}-rows`).tBodies[0], from = body.rows.length;
+  body.append(...all.slice(from, from + ROWS).map((each, i) => rowOf(each, from + i)));
+  byId(`${view}-more`).hidden = body.rows.length === all.length;
+  byId(`${view}-more`).textContent = `Show more: ${body.rows.length} of ${all.length} are shown`;
 }
 
 // ---- what the module says ----
@@ -110,17 +125,22 @@ function held(memory, number) {
   return single(view.getUint32(PLACES[bank] + 4 * item, true));
 }
 
-// An expression with a caret under a place, in pieces that fit the window.
-function withCaret(expr, place) {
-  const width = window.innerWidth < 640 ? 30 : 72;
-  const text = shown(expr), at = shown(expr.subarray(0, place)).length;
-  const lines = [];
-  for (let from = 0; from < text.length || from === 0; from += width) {
-    lines.push(text.slice(from, from + width));
-    if (at >= from && at < from + width) lines.push(`${" ".repeat(at - from)}^`);
-  }
-  if (at === text.length && at > 0 && at % width === 0) lines.push("^");
-  return lines.join("\n");
+// A text whose byte at a place is marked, in pieces. The mark is an element around the byte, so that the caret goes where a break of the line takes the
+// byte; behind the last byte it is an empty one.
+function marked(bytes, place) {
+  const mark = element("mark"), caret = element("span", "^", "caret");
+  const spoken = element("span", place < bytes.length ? "refused here: " : "refused here, at the end", "unseen");
+  caret.setAttribute("aria-hidden", "true");
+  mark.append(spoken, caret, element("u", shown(bytes.subarray(place, place + 1))));
+  return [shown(bytes.subarray(0, place)), mark, shown(bytes.subarray(place + 1))];
+}
+
+// A text as it is, and below it why it is refused, with the byte that this is about; the place counts from the end of a key.
+function judged(bytes, { answer, place }, key = 0) {
+  if (answer === 0) return [shown(bytes)];
+  const aboutByte = answer >= BAD_BYTES && answer <= BAD_KIND;
+  const where = !aboutByte ? "" : key + place < bytes.length ? `, at byte ${place}` : `, at its end, byte ${place}`;
+  return [...(aboutByte ? marked(bytes, key + place) : [shown(bytes)]), "\n", element("span", refusal(answer) + where, "bad")];
 }
 
 // ---- the book ----
@@ -144,7 +164,7 @@ function partsOf(bytes, named) {
     const part = bytes.subarray(numbers[i], numbers[i] + numbers[i + 1]);
     const lines = splitLines(part);
     const [target, expr] = [valueOf(lines, "target="), valueOf(lines, "expr=")];
-    const label = lines.length === 0 ? "" : shown(lines[0].subarray(0, 40));
+    const label = shown(lines[0].subarray(0, 40));
     parts.push({ kept: false, label, first: numbers[i], length: numbers[i + 1], answer: numbers[i + 2], lines, target, expr });
   }
   return parts;
@@ -171,80 +191,107 @@ function readBook(bytes) {
 function bookRow(row) {
   const line = element("tr", undefined, row.kept ? "" : "left-out");
   const first = element("td"), open = element("button", row.kept ? row.label : "open");
-  open.addEventListener("click", () => openCard(row));
+  const span = row.kept ? "" : `left out: bytes ${row.first} to ${row.first + row.length - 1}`;
+  open.setAttribute("aria-label", row.kept ? `${row.label}, open the card` : `open what is ${span}`);
+  open.addEventListener("click", () => openCard(row, open));
   if (row.expr && row.target) first.append(open);
-  if (!row.kept) first.append(element("span", `left out: bytes ${row.first} to ${row.first + row.length - 1}`));
-  const result = element("td", row.kept ? "good" : refusal(row.answer), row.kept ? "good" : "bad");
-  line.append(first, cellOf(row.kept ? shown(row.target) : ""), row.kept ? cellOf(shown(row.expr)) : cellOf(leftOutText(row)), result);
+  if (row.kept) line.append(first, cellOf(shown(row.target)), cellOf(shown(row.expr)), element("td", "good", "good"));
+  else {
+    first.append(element("span", span));
+    first.colSpan = 2;
+    line.append(first, cellOf(...leftOutText(row)), element("td", refusal(row.answer), "bad"));
+  }
   return line;
 }
 
-function cellOf(text) {
-  const cell = element("td");
-  cell.append(element("pre", text));
+function cellOf(...pieces) {
+  const cell = element("td"), text = element("pre");
+  text.append(...pieces);
+  cell.append(text);
   return cell;
 }
 
-// The lines of a part as they are; under the expression the place of its own refusal, if it has one.
-function leftOutText(row) {
-  const own = row.expr && formulas.compile(row.expr, new Uint8Array(CODE_BYTES));
-  return row.lines
-    .map((line) => {
-      if (!own || own.answer === 0 || line.byteOffset + 5 !== row.expr.byteOffset) return shown(line);
-      return withCaret(line, 5 + own.place) + `\n${refusal(own.answer)}`;
-    })
-    .join("\n");
+// The lines of a part as they are; below its target and its expression their own refusals. A line is that of a value if both end alike.
+function leftOutText({ lines, target, expr }) {
+  const room = new Uint8Array(CODE_BYTES), values = [];
+  if (target) values.push([target, formulas.compileTarget(target, room)]);
+  if (expr) values.push([expr, formulas.compile(expr, room)]);
+  const endOf = (bytes) => bytes.byteOffset + bytes.length;
+  const pieces = [""]; // texts and elements in turn: a part may have many lines, and a browser is slow where each is a text of its own
+  lines.forEach((line, i) => {
+    const [value, report] = values.find(([each]) => endOf(each) === endOf(line)) ?? [line, { answer: 0 }];
+    for (const piece of [i === 0 ? "" : "\n", ...judged(line, report, line.length - value.length)]) {
+      if (typeof piece === "string") pieces[pieces.length - 1] += piece;
+      else pieces.push(piece, "");
+    }
+  });
+  return pieces;
 }
 
 function showBook(name, bytes) {
-  state.book = readBook(bytes);
+  state.book = { name, ...readBook(bytes) };
   const { answer, place, rows } = state.book;
   const kept = rows.filter((row) => row.kept).length;
-  const bad = rows.find((row) => !row.kept && row.first === place);
-  if (answer === 0) tell("book-result", `${name}: all good, ${rows.length} cards.`, true);
+  const bad = rows.find((row) => !row.kept && row.first <= place && place < row.first + row.length);
+  if (answer === 0) tell("book-result", `${name}: all good, ${counted(rows.length, "card")}.`, true);
   else {
     const where = bad && bad.label.startsWith("card=") ? `${bad.label}, byte ${place}` : `byte ${place}`;
-    const counts = `Kept are ${kept} cards, left out ${rows.length - kept} parts.`;
+    const counts = `Kept: ${counted(kept, "card")}, left out: ${counted(rows.length - kept, "part")}.`;
     tell("book-result", `${name}: refused at ${where}: ${refusal(answer)}. ${counts}`, false);
   }
   byId("book-rows").hidden = rows.length === 0;
   byId("book-tools").hidden = false;
   byId("filter").value = "";
-  tell("filter-result", "");
-  byId("book-rows").tBodies[0].replaceChildren(...rows.map(bookRow));
+  byId("book-rows").tBodies[0].replaceChildren();
+  moreRows();
+  closeCard();
   if (state.log) state.log.stale = true;
 }
 
-// Which formulas touch the cells that are named: the list of the cells that the text reads is the module's.
+// Any bytes may be thousands of parts.
+function moreRows() {
+  showMore("book", state.book.rows, bookRow);
+  filterBook();
+}
+
+// A file that is not read leaves none open: nothing of another one stands below its name.
+function closeBook() {
+  state.book = null;
+  byId("book-rows").hidden = byId("book-tools").hidden = byId("book-more").hidden = true;
+  byId("book-rows").tBodies[0].replaceChildren();
+  closeCard();
+  if (state.log) state.log.stale = true;
+}
+
+// Which formulas touch the cells that are named: the list of the cells that the text reads is the module's. A text that names none hides nothing. What
+// does not compile has no list: it may touch them, and is not hidden.
 function filterBook() {
   const text = byId("filter").value, lines = [...byId("book-rows").tBodies[0].rows];
-  if (text === "" || !state.book) {
-    lines.forEach((line) => (line.hidden = false));
-    return tell("filter-result", "");
-  }
-  const wanted = compiled("D0", text);
-  if (wanted.report.answer !== 0) {
-    lines.forEach((line) => (line.hidden = false));
-    return tell("filter-result", `${text}: ${refusal(wanted.report.answer)}`, false);
-  }
-  const cells = new Set(touched(wanted).reads);
-  let count = 0;
-  state.book.rows.forEach((row, i) => {
-    const made = row.expr && row.target && compiled(row.target, row.expr);
-    const good = made && made.aim.answer === 0 && made.report.answer === 0;
-    const { reads, writes } = good ? touched(made) : { reads: [], writes: [] };
-    lines[i].hidden = ![...reads, ...writes].some((number) => cells.has(number));
-    if (!lines[i].hidden) count++;
-  });
-  tell("filter-result", `${count} of ${lines.length} read or store to ${namesOf([...cells])}.`);
+  const wanted = compiled("D0", text), { answer } = wanted.report;
+  const cells = new Set(answer === 0 ? touched(wanted).reads : []);
+  const found = lines.map((_, i) => (cells.size === 0 ? undefined : touches(state.book.rows[i], cells)));
+  lines.forEach((line, i) => (line.hidden = found[i] === false));
+  const [count, unasked] = [true, undefined].map((wish) => found.filter((each) => each === wish).length);
+  const also = unasked === 0 ? "" : `; ${counted(unasked, "refused part")} could not be asked, shown all the same`;
+  if (text === "") tell("filter-result", "");
+  else if (cells.size === 0) tell("filter-result", `${text}: ${answer === 0 ? "no cell is named" : refusal(answer)}`, false);
+  else tell("filter-result", `${count} of ${lines.length} read or store to ${namesOf([...cells])}${also}.`);
+}
+
+// Undefined where the formula cannot be asked.
+function touches({ target, expr }, cells) {
+  const made = expr && target && compiled(target, expr);
+  if (!made || made.aim.answer !== 0 || made.report.answer !== 0) return undefined;
+  const { reads, writes } = touched(made);
+  return [...reads, ...writes].some((number) => cells.has(number));
 }
 
 function saveKept() {
   const link = element("a");
   link.href = URL.createObjectURL(new Blob([state.book.kept]));
-  link.download = "kept";
+  link.download = `kept-${state.book.name}`;
   link.click();
-  URL.revokeObjectURL(link.href);
+  setTimeout(() => URL.revokeObjectURL(link.href), 60000); // some browsers read it only after the click
 }
 
 // ---- a card ----
@@ -258,29 +305,54 @@ function listing(code, count) {
 function formatted(expr) {
   const text = new Uint8Array(TEXT_BYTES);
   const { answer, count } = formulas.format(expr, text);
-  return answer === 0 ? `Saved with parentheses: ${shown(text.subarray(0, count))}` : `It cannot be saved with parentheses: ${refusal(answer)}`;
+  return answer === 0 ? shown(text.subarray(0, count)) : `not possible: ${refusal(answer)}`;
 }
 
-function openCard(row) {
+function openCard(row, opener) {
   const made = compiled(row.target, row.expr);
   const { aim, report } = made;
   const good = aim.answer === 0 && report.answer === 0;
-  state.card = { ...made, target: row.target, good };
-  tell("card-result", good ? "" : [aim, report].filter(({ answer }) => answer !== 0).map(({ answer }) => refusal(answer)).join("; "), good);
+  state.card = { ...made, target: row.target, good, opener };
+  const reasons = [["Left out", row.kept ? 0 : row.answer], ["Target refused", aim.answer], ["Expression refused", report.answer]];
+  const why = reasons.filter(([, answer]) => answer !== 0).map(([what, answer]) => `${what}: ${refusal(answer)}.`).join(" ");
+  tell("card-result", why, why === "");
   byId("card-parts").hidden = false;
   byId("card-title").textContent = `${row.kept ? `Card ${row.label}` : "A part left out"}, into ${shown(row.target)}`;
-  byId("card-text").textContent = report.answer === 0 ? shown(row.expr) : withCaret(row.expr, report.place);
-  byId("card-formatted").textContent = good ? formatted(row.expr) : "";
-  const reads = good ? touched(made).reads : [];
-  byId("card-reads").textContent = good ? `Reads ${reads.length === 0 ? "no cell" : namesOf([...reads])}.` : "";
-  byId("card-code").textContent = good ? listing(made.code, report.count) : "";
-  byId("card-index-part").hidden = !(good && aim.count > 0);
-  byId("card-index").textContent = good && aim.count > 0 ? listing(made.index, aim.count) : "";
-  byId("card-cells").tBodies[0].replaceChildren(...Array.from(reads, cellLine));
-  byId("store").disabled = !good;
+  byId("card-text").replaceChildren(...judged(row.expr, report));
+  byId("card-good").hidden = !good;
+  if (good) showCode(row, made);
+  chooseTab("card");
+  byId("card-title").focus();
+}
+
+function showCode(row, made) {
+  const { reads } = touched(made);
+  byId("card-formatted").textContent = formatted(row.expr);
+  byId("card-reads").textContent = `Reads ${reads.length === 0 ? "no cell" : namesOf([...reads])}.`;
+  byId("card-code").textContent = listing(made.code, made.report.count);
+  byId("card-index-part").hidden = made.aim.count === 0;
+  byId("card-index").textContent = made.aim.count > 0 ? listing(made.index, made.aim.count) : "";
+  state.card.reads = reads;
+  showCells();
+}
+
+function showCells() {
+  byId("card-cells").tBodies[0].replaceChildren(...Array.from(state.card.reads, cellLine));
   tell("card-stored", "");
   evaluateCard();
-  chooseTab("card");
+}
+
+// The focus goes to the row of the card, or to the tab where the filter hides that.
+function backToBook() {
+  chooseTab("book");
+  byId("tab-book").focus();
+  state.card.opener.focus();
+}
+
+function closeCard() {
+  state.card = null;
+  byId("card-parts").hidden = true;
+  tell("card-result", "No card is open: choose one in the book.");
 }
 
 // A typed value is a formula, worked out and stored into its cell by the module. Inputs (X) are no targets: theirs is a box to tick.
@@ -292,41 +364,45 @@ function cellLine(number) {
     input.checked = held(state.memory, number) === "1";
   } else Object.assign(input, { size: 12, spellcheck: false, autocomplete: "off" });
   input.addEventListener("change", () => {
-    holds.textContent = setCell(number, input) ?? held(state.memory, number);
+    const refused = setCell(number, input);
+    holds.textContent = held(state.memory, number) + (refused === 0 ? "" : `; not taken: ${refusal(refused)}`);
     evaluateCard();
   });
-  line.dataset.cell = number;
   const field = element("td");
   field.append(input);
   line.append(element("td", nameOf(number), "bytes"), field, holds);
   return line;
 }
 
-// Nothing, or why the value is refused.
+// The answer: 0, or why the value is refused.
 function setCell(number, input) {
   const { memory } = state;
   if (input.type === "checkbox") {
     const byte = X + (number >> 3), bit = 1 << number % 8;
     memory[byte] = input.checked ? memory[byte] | bit : memory[byte] & ~bit;
-    return;
+    return 0;
   }
   const tried = memory.slice();
-  const report = formulas.compileAndRun(nameOf(number), input.value, tried, new Uint8Array(CODE_BYTES), new Uint8Array(CODE_BYTES), tickGiven());
-  if (report.answer !== 0) return refusal(report.answer);
-  memory.set(tried);
+  const { answer } = formulas.compileAndRun(nameOf(number), input.value, tried, new Uint8Array(CODE_BYTES), new Uint8Array(CODE_BYTES), tickGiven());
+  if (answer === 0) memory.set(tried);
+  return answer;
 }
 
+// The tick is typed as a formula too, on a memory of zeros, and what was taken is said where it is not the very text. One that is no integer is not taken.
 function tickGiven() {
   const code = new Uint8Array(CODE_BYTES);
-  const { answer, count } = formulas.compile(byId("tick").value, code);
-  const report = answer === 0 ? formulas.evaluate(code, count, new Uint8Array(MEMORY_BYTES)) : { answer };
-  const good = report.answer === 0 && report.kind === INTEGER;
-  byId("tick").setAttribute("aria-invalid", String(!good));
-  return good ? report.bits : 0;
+  const made = formulas.compile(byId("tick").value, code);
+  const report = made.answer === 0 ? formulas.evaluate(code, made.count, new Uint8Array(MEMORY_BYTES)) : made;
+  const answer = report.answer === 0 && report.kind !== INTEGER ? BAD_KIND : report.answer;
+  byId("tick").setAttribute("aria-invalid", String(answer !== 0));
+  const tick = answer === 0 ? report.bits : 0;
+  if (answer !== 0) tell("tick-taken", `not taken, the tick is 0: ${refusal(answer)}`, false);
+  else tell("tick-taken", byId("tick").value === `${tick}` ? "" : `taken as ${tick}`);
+  return tick;
 }
 
 function evaluateCard() {
-  if (!state.card || !state.card.good) return tell("card-value", "");
+  if (!state.card?.good) return;
   const { code, report } = state.card;
   const { answer, kind, bits, count } = formulas.evaluate(code, report.count, state.memory, tickGiven());
   if (answer !== 0) return tell("card-value", `Fault: ${refusal(answer)}; ${count} instructions and cells begun.`, false);
@@ -344,11 +420,7 @@ function storeCard() {
   const number = FIRST_NUMBERS[ran.bank] + ran.element;
   const cell = ran.answer === 0 ? [`${nameOf(number)} holds ${held(state.memory, number)}, before it held ${held(before, number)}`] : [refusal(ran.answer)];
   tell("card-stored", `${[...cell, ...flags].join("; ")}${flags.length === 0 ? "; no flag changed" : ""}.`, ran.answer === 0);
-  refreshCells();
-}
-
-function refreshCells() {
-  for (const line of byId("card-cells").tBodies[0].rows) line.cells[2].textContent = held(state.memory, Number(line.dataset.cell));
+  [...byId("card-cells").tBodies[0].rows].forEach((line, i) => (line.cells[2].textContent = held(state.memory, state.card.reads[i])));
   evaluateCard();
 }
 
@@ -385,18 +457,29 @@ function linesWith(bytes, keys) {
   }
   return starts;
 }
+
+function lineNumber(bytes, at) {
+  let number = 1;
+  for (let end = bytes.indexOf(10); end !== -1 && end < at; end = bytes.indexOf(10, end + 1)) number++;
+  return number;
+}
 const RUN = [...new TextEncoder().encode("run=")];
 const PRINTED = ["answer=", "unknown="].map((key) => [...new TextEncoder().encode(key)]);
 
 // Each `run=` line that was taken printed a piece, which begins with answer= or unknown=. A bad line, or a refused book, printed the last.
 function showLog(name, bytes) {
+  closeLog();
   state.log = { name, bytes, runs: [], pieces: [], printed: new Uint8Array(0) };
-  byId("log-bad").hidden = true;
-  byId("log-rows").tBodies[0].replaceChildren();
   if (!state.book) tell("log-result", `${name}: open a book first.`, false);
   else replayLog();
   byId("log-rows").hidden = state.log.pieces.length === 0;
   moreRuns();
+}
+
+function closeLog() {
+  state.log = null;
+  byId("log-bad").hidden = byId("log-rows").hidden = byId("log-more").hidden = true;
+  byId("log-rows").tBodies[0].replaceChildren();
 }
 
 function replayLog() {
@@ -408,50 +491,45 @@ function replayLog() {
   if (refused || bad) pieces.pop();
   Object.assign(state.log, { runs: linesWith(bytes, [RUN]), pieces, printed });
   if (refused) tell("log-result", `${name}: nothing is replayed, the book is refused: ${refusal(state.book.answer)}.`, false);
-  else if (!bad) tell("log-result", `${name}: ${pieces.length} runs, read to the end.`, true);
+  else if (!bad) tell("log-result", `${name}: ${counted(pieces.length, "run")}, read to the end.`, true);
   else {
     const line = splitLines(bytes.subarray(at, at + 2000))[0];
-    tell("log-result", `${name}: ${pieces.length} runs, then a bad line at byte ${at}: ${refusal(BAD_LINE)}.`, false);
-    byId("log-bad").textContent = `bad line, byte ${at}: ${shown(line)}`;
+    tell("log-result", `${name}: ${counted(pieces.length, "run")}, then a bad line at byte ${at}: ${refusal(BAD_LINE)}.`, false);
+    byId("log-bad").textContent = `bad line, line ${lineNumber(bytes, at)}, byte ${at}: ${shown(line)}`;
     byId("log-bad").hidden = false;
   }
 }
 
-function moreRuns() {
+function runRow([start], i) {
   const { bytes, runs, pieces, printed } = state.log;
-  const body = byId("log-rows").tBodies[0], from = body.rows.length;
-  pieces.slice(from, from + ROWS).forEach(([start], i) => {
-    const [at, next, number] = runs[from + i];
-    const lines = splitLines(printed.subarray(start, pieces[from + i + 1]?.[0] ?? printed.length)).map(shown);
-    const answer = Number(lines[0].replace("answer=", ""));
-    const line = element("tr");
-    line.append(element("td", `${number}`), cellOf(shown(bytes.subarray(at, next - 1))), cellOf(lines.slice(0, 3).join(" ")));
-    line.append(element("td", answer > 0 ? wordsOf(answer) : "", "bad"));
-    body.append(line);
-  });
-  byId("log-more").hidden = body.rows.length === pieces.length;
-  byId("log-more").textContent = `Show more runs: ${body.rows.length} of ${pieces.length} are shown`;
+  const [at, next, number] = runs[i];
+  const lines = splitLines(printed.subarray(start, pieces[i + 1]?.[0] ?? printed.length)).map(shown);
+  const answer = Number(lines[0].replace("answer=", ""));
+  const line = element("tr");
+  line.append(element("td", `${number}`), cellOf(shown(bytes.subarray(at, next - 1))), cellOf(lines.slice(0, 3).join(" ")));
+  line.append(element("td", answer > 0 ? wordsOf(answer) : answer === 0 ? "" : "the book has no such card", "bad"));
+  return line;
 }
+
+const moreRuns = () => showMore("log", state.log.pieces, runRow);
 
 // ---- files, tabs and keys ----
 
-async function openFile(file, limit, id, show) {
+async function openFile(file, { limit, id, show, close }) {
   const start = performance.now();
-  if (file.size > limit) return tell(id, `${file.name} has ${file.size} bytes; at most ${limit} are taken. Nothing was read.`, false);
-  let bytes;
-  try {
-    bytes = new Uint8Array(await file.arrayBuffer());
-  } catch {
-    return tell(id, `${file.name} cannot be read.`, false);
+  const bytes = file.size > limit ? undefined : await file.arrayBuffer().catch(() => undefined);
+  if (bytes) show(file.name, new Uint8Array(bytes));
+  else {
+    close();
+    tell(id, file.size > limit ? `${file.name} has ${file.size} bytes; at most ${limit} are taken. Nothing was read.` : `${file.name} cannot be read.`, false);
   }
-  show(file.name, bytes);
   document.body.getBoundingClientRect();
   document.body.dataset.milliseconds = (performance.now() - start).toFixed(1);
-  byId("time").textContent = `Shown in ${document.body.dataset.milliseconds} ms.`;
+  byId("time").textContent = bytes ? `Shown in ${document.body.dataset.milliseconds} ms.` : "";
 }
 
-const openBook = (file) => openFile(file, BOOK_LIMIT, "book-result", showBook);
-const openLog = (file) => openFile(file, LOG_LIMIT, "log-result", showLog);
+const BOOK = { input: byId("book-file"), limit: BOOK_LIMIT, id: "book-result", show: showBook, close: closeBook };
+const LOG = { input: byId("log-file"), limit: LOG_LIMIT, id: "log-result", show: showLog, close: closeLog };
 const tabs = ["book", "card", "log"];
 
 function chooseTab(name) {
@@ -476,20 +554,20 @@ for (const name of tabs) {
   byId(`tab-${name}`).addEventListener("keydown", turnTab);
 }
 chooseTab("book");
-for (const [id, open] of [["book-file", openBook], ["log-file", openLog]]) {
-  byId(id).addEventListener("change", async (event) => {
-    if (event.target.files[0]) await open(event.target.files[0]);
-    event.target.value = ""; // the same file can be chosen again
-  });
+for (const kind of [BOOK, LOG]) {
+  kind.input.addEventListener("click", () => (kind.input.value = "")); // the same file can be chosen again
+  kind.input.addEventListener("change", () => kind.input.files[0] && openFile(kind.input.files[0], kind));
 }
 byId("filter").addEventListener("input", filterBook);
 byId("save-kept").addEventListener("click", saveKept);
 byId("tick").addEventListener("change", evaluateCard);
 byId("store").addEventListener("click", storeCard);
+byId("back").addEventListener("click", backToBook);
 byId("clear").addEventListener("click", () => {
   state.memory.fill(0);
-  refreshCells();
+  showCells();
 });
+byId("book-more").addEventListener("click", moreRows);
 byId("log-more").addEventListener("click", moreRuns);
 addEventListener("dragover", (event) => {
   event.preventDefault();
@@ -500,6 +578,11 @@ addEventListener("drop", (event) => {
   event.preventDefault();
   document.body.classList.remove("over");
   const file = event.dataTransfer.files[0];
-  if (file) (state.tab === "log" ? openLog : openBook)(file);
+  if (!file) return;
+  if (state.tab === "card") chooseTab("book");
+  const kind = state.tab === "log" ? LOG : BOOK;
+  kind.input.files = event.dataTransfer.files; // its name stands there as if it had been chosen
+  openFile(file, kind);
 });
+tell("book-result", "No book is open.");
 document.body.dataset.ready = "1";
