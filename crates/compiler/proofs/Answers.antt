@@ -7,7 +7,7 @@ use native.Mathlib.Omega.{arith}
 use lib.Dec.{eqb, leb}
 use lib.ListN.{length, take, getD, replicate}
 use lib.Seq.{sets}
-use borrow.Author.Tests.{lt-ltb, le-ltb, le-leb, leb-true, not-true, not-false, ne-eqb}
+use borrow.Author.Tests.{lt-ltb, le-ltb, le-leb, lt-leb, leb-true, ltb-true, ltb-false, not-true, not-false, ne-eqb}
 use Rattle.tokens.proofs.Tests.{both}
 use Rattle.tokens.specs.Scan.{Scan, tokens, wrong, scan}
 use Rattle.token_table.specs.declared.Filled.the-variants.{Good, Wrong}
@@ -27,7 +27,7 @@ use Rattle.draft.proofs.Putting.{words-put}
 use Rattle.compiler.specs.declared.Coded.{Coded}
 use Rattle.compiler.specs.declared.Coded.the-variants.{Done, Refused}
 use Rattle.compiler.specs.Compile.{inRoom, compiling, compilingIn, codedAnswer, codedBytes}
-use Rattle.compiler.specs.private.Reading.{Judged}
+use Rattle.compiler.specs.private.Reading.{Judged, fittedBytes, isLonger}
 use Rattle.compiler.proofs.Bytes.{words-encoded}
 use Rattle.compiler.proofs.Theorems.{compiled}
 
@@ -90,36 +90,83 @@ accepted-full reals d s t q = by (leb 1 (length s) && leb (length s) 1024) q
     by true q = accepted-scan reals d s (scan s) q
     by false q = q
 
--- ---- the copy of the draft: a formula has at most two instructions a byte
-module _ (reals : Bool) (d : ℕ) {s o o′ : List ℕ} (h : Sized s) where
-  module _ {n : ℕ} (x : Judged (judgeIn reals d s) o o′ (Done n)) (room : 2 * length s ≤ length o) where
-    pub held : (n ≤ length o) × (n ≤ 2048)
-    held = go (judgeIn reals d s) refl
-      where
-        go : (j : Judgement) → judgeIn reals d s ≡ j → (n ≤ length o) × (n ≤ 2048)
-        go (accepted t) q = let l : Done n ≡ codedAnswer (accepted t) = x .answer ∙ ap codedAnswer q in let m : n ≡ length (codeOf t) = cc in
-            (omega (arith, compiled d s t (accepted-full reals d s t q) .short), omega (arith, compiled d s t (accepted-full reals d s t q) .short, h .short))
-        go (refused a p) q = let l : Done n ≡ Refused a p = x .answer ∙ ap codedAnswer q in let z : _≡_ {A = ℕ} 0 1 = cc in absurd (omega arith)
+-- ---- the copy of the draft
+-- the same, where code of at most so many instructions is written
+abbrev pub Fitted : ℕ → List ℕ → Judgement → Coded → List ℕ → Type 0
+Fitted most code j a code′ = (a ≡ codedAnswer j) × (code′ ≡ fittedBytes most code j)
 
-    pub copied : (code : List ℕ) {code′ : List ℕ} → code′ ≡ sets code 0 (wordBytes (take n o′)) → Told code (judgeIn reals d s) (Done n) code′
-    copied code {code′} e = (x .answer, go (judgeIn reals d s) refl)
+coded-length : {j : Judgement} {n : ℕ} (t : Tree) → Done n ≡ codedAnswer j → j ≡ accepted t → n ≡ length (codeOf t)
+coded-length t e q = let l : Done _ ≡ codedAnswer (accepted t) = e ∙ ap codedAnswer q in cc
+
+not-refused : {j : Judgement} {n a p : ℕ} {A : Type 0} → Done n ≡ codedAnswer j → j ≡ refused a p → A
+not-refused {n = n} {a = a} {p = p} e q = let l : Done n ≡ Refused a p = e ∙ ap codedAnswer q in let z : _≡_ {A = ℕ} 0 1 = cc in absurd (omega arith)
+
+module _ {j : Judgement} {o o′ : List ℕ} where
+  module _ {n most : ℕ} (x : Judged j o o′ (Done n)) where
+    pub copied : n ≤ most → most ≤ length o → (code : List ℕ) {code′ : List ℕ} → code′ ≡ sets code 0 (wordBytes (take n o′)) → Fitted most code j (Done n) code′
+    copied few room code {code′} e = (x .answer, go j refl)
       where
-        go : (j : Judgement) → judgeIn reals d s ≡ j → code′ ≡ codedBytes code (judgeIn reals d s)
+        go : (i : Judgement) → j ≡ i → code′ ≡ fittedBytes most code j
         go (accepted t) q =
-            let l : Done n ≡ codedAnswer (accepted t) = x .answer ∙ ap codedAnswer q in
-            let m : n ≡ length (codeOf t) = cc in
-            let fits : length (codeOf t) ≤ length o = omega (arith, held .0) in
-            rw q
+            let m : n ≡ length (codeOf t) = coded-length t (x .answer) q in
+            let fits : length (codeOf t) ≤ length o = omega arith in
+            rw (q, le-leb (length (codeOf t)) most (omega arith))
             (e ∙ ap (λ (ws : List ℕ). sets code 0 (wordBytes ws)) (rw (m, x .code t q) (words-put o (codeOf t) fits))
             ∙ ap (sets code 0) (words-encoded (codeOf t)))
-        go (refused a p) q = let l : Done n ≡ Refused a p = x .answer ∙ ap codedAnswer q in let z : _≡_ {A = ℕ} 0 1 = cc in absurd (omega arith)
+        go (refused a p) q = not-refused (x .answer) q
 
-  pub not-written : (code : List ℕ) {a p : ℕ} → Judged (judgeIn reals d s) o o′ (Refused a p) → Told code (judgeIn reals d s) (Refused a p) code
-  not-written code {a} {p} x = (x .answer, go (judgeIn reals d s) refl)
+    pub passed-over : most < n → (code : List ℕ) → Fitted most code j (Done n) code
+    passed-over more code = (x .answer, go j refl)
+      where
+        go : (i : Judgement) → j ≡ i → code ≡ fittedBytes most code j
+        go (accepted t) q = let m : n ≡ length (codeOf t) = coded-length t (x .answer) q in rw (q, lt-leb (length (codeOf t)) most (omega arith)) refl
+        go (refused a p) q = not-refused (x .answer) q
+
+  pub not-written : (most : ℕ) (code : List ℕ) {a p : ℕ} → Judged j o o′ (Refused a p) → Fitted most code j (Refused a p) code
+  not-written most code {a} {p} x = (x .answer, go j refl)
     where
-      go : (j : Judgement) → judgeIn reals d s ≡ j → code ≡ codedBytes code (judgeIn reals d s)
+      go : (i : Judgement) → j ≡ i → code ≡ fittedBytes most code j
       go (accepted t) q = let l : Refused a p ≡ codedAnswer (accepted t) = x .answer ∙ ap codedAnswer q in let z : _≡_ {A = ℕ} 0 1 = cc in absurd (omega arith)
       go (refused b r) q = rw q refl
+
+-- ---- an answer of at most so many instructions has its code in the buffer, any other has changed nothing
+module _ (j : Judgement) (most : ℕ) (code code′ : List ℕ) where
+  pub kept : (a : Coded) → isLonger a most ≡ false → Fitted most code j a code′ → Told code j a code′
+  kept (Done n) few (e, w) = (e, go j refl)
+    where
+      go : (i : Judgement) → j ≡ i → code′ ≡ codedBytes code j
+      go (accepted t) q =
+          let m : n ≡ length (codeOf t) = coded-length t e q in
+          let l : length (codeOf t) ≤ most = omega (arith, ltb-false most n few) in
+          w ∙ rw (q, le-leb (length (codeOf t)) most l) refl
+      go (refused a p) q = not-refused e q
+  kept (Refused a p) few (e, w) = (e, go j refl)
+    where
+      go : (i : Judgement) → j ≡ i → code′ ≡ codedBytes code j
+      go (accepted t) q = let l : Refused a p ≡ codedAnswer (accepted t) = e ∙ ap codedAnswer q in let z : _≡_ {A = ℕ} 0 1 = cc in absurd (omega arith)
+      go (refused b r) q = w ∙ rw q refl
+
+  pub unchanged : (a : Coded) → isLonger a most ≡ true → Fitted most code j a code′ → code′ ≡ code
+  unchanged (Done n) more (e, w) = go j refl
+    where
+      go : (i : Judgement) → j ≡ i → code′ ≡ code
+      go (accepted t) q =
+          let m : n ≡ length (codeOf t) = coded-length t e q in
+          let l : most < length (codeOf t) = omega (arith, ltb-true most n more) in
+          w ∙ rw (q, lt-leb (length (codeOf t)) most l) refl
+      go (refused a p) q = not-refused e q
+  unchanged (Refused a p) more t = let z : _≡_ {A = ℕ} 0 1 = cc in absurd (omega arith)
+
+-- ---- a formula has at most two instructions a byte
+pub all-fits : (reals : Bool) (d : ℕ) (s code code′ : List ℕ) (a : Coded) → Sized s → Fitted 2048 code (judgeIn reals d s) a code′
+    → Told code (judgeIn reals d s) a code′
+all-fits reals d s code code′ a h (e, w) = (e, go (judgeIn reals d s) refl)
+  where
+    go : (i : Judgement) → judgeIn reals d s ≡ i → code′ ≡ codedBytes code (judgeIn reals d s)
+    go (accepted t) q =
+        let l : length (codeOf t) ≤ 2048 = omega (arith, compiled d s t (accepted-full reals d s t q) .short, h .short) in
+        w ∙ rw (q, le-leb (length (codeOf t)) 2048 l) refl
+    go (refused b r) q = w ∙ rw q refl
 
 -- ---- the length
 module _ (s : List ℕ) where

@@ -9,7 +9,7 @@ ghost use Rattle.text.specs.Judge.{judge};
 ghost use Rattle.text.specs.Theorems.{Sized};
 ghost use Rattle.profile_text.specs.Judge.{judgeIn};
 ghost use Rattle.compiler.specs.Compile.{compiling, compilingIn, codedAnswer, codedBytes};
-ghost use Rattle.compiler.specs.private.Reading.{Judged};
+ghost use Rattle.compiler.specs.private.Reading.{Judged, fittedBytes, isLonger};
 use token_table::Filled;
 
 mod copying;
@@ -47,7 +47,7 @@ fn read(text: &[u8], opened: u8, table: &mut [u64], draft: &mut [u64], reals: bo
     requires { ⌜ TokenWords (now table) ⌝ }
     ensures { λ r. ⌜ Judged (judgeIn reals opened (now (text .entry))) (now (draft .entry)) (now (draft .exit)) r ⌝ }
 {
-    match token_table::fill(text, table) {
+    match token_table::fill(&text[..], table) {
         Filled::Good => {
             let w = real_tokens::first_real(table, reals);
             if w != 0 {
@@ -97,7 +97,7 @@ pub fn judge_in(text: &[u8], opened: u8, reals: bool) -> Coded
     judge_long(text, opened, reals)
 }
 
-// The code of a formula, from a draft with room for two instructions a byte.
+// The code of a formula of at most so many instructions; where it has more, nothing is written.
 fn compile_with(
     text: &[u8],
     opened: u8,
@@ -105,15 +105,19 @@ fn compile_with(
     draft: &mut [u64],
     code: &mut [u8],
     reals: bool,
+    most: usize,
 ) -> Coded
     requires { ⌜ Sized (now text) × (length (now text) < length (now table)) × (length (now table) ≤ 1025) ⌝ }
     requires { ⌜ TokenWords (now table) ⌝ }
-    requires { ⌜ (2 * length (now text) ≤ length (now draft)) × (16384 ≤ length (now code)) ⌝ }
+    requires { ⌜ (most ≤ length (now draft)) × (most ≤ 2048) × (16384 ≤ length (now code)) ⌝ }
     ensures { λ r. ⌜ r ≡ codedAnswer (judgeIn reals opened (now (text .entry))) ⌝ }
-    ensures { λ r. ⌜ now (code .exit) ≡ codedBytes (now (code .entry)) (judgeIn reals opened (now (text .entry))) ⌝ }
+    ensures { λ r. ⌜ now (code .exit) ≡ fittedBytes most (now (code .entry)) (judgeIn reals opened (now (text .entry))) ⌝ }
 {
     match read(text, opened, table, draft, reals) {
         Coded::Done(n) => {
+            if most < n {
+                return Coded::Done(n);
+            }
             copying::copy(draft, n, code);
             Coded::Done(n)
         }
@@ -121,27 +125,63 @@ fn compile_with(
     }
 }
 
-// Most formulas are short: small arrays are quicker to clear.
-fn compile_short(text: &[u8], opened: u8, code: &mut [u8], reals: bool) -> Coded
+// For texts below so many bytes: the smaller the arrays, the quicker they are cleared. A formula seldom has more instructions than bytes.
+fn compile_32(text: &[u8], opened: u8, code: &mut [u8], reals: bool) -> Coded
+    requires { ⌜ Sized (now text) × (length (now text) < 32) × (16384 ≤ length (now code)) ⌝ }
+    ensures { λ r. ⌜ r ≡ codedAnswer (judgeIn reals opened (now (text .entry))) ⌝ }
+    ensures { λ r. ⌜ now (code .exit) ≡ fittedBytes (length (now (text .entry))) (now (code .entry)) (judgeIn reals opened (now (text .entry))) ⌝ }
+{
+    let mut table = [0u64; 32];
+    let mut draft = [0u64; 32];
+    let most = text.len();
+    compile_with(text, opened, &mut table, &mut draft, code, reals, most)
+}
+
+fn compile_64(text: &[u8], opened: u8, code: &mut [u8], reals: bool) -> Coded
     requires { ⌜ Sized (now text) × (length (now text) < 64) × (16384 ≤ length (now code)) ⌝ }
     ensures { λ r. ⌜ r ≡ codedAnswer (judgeIn reals opened (now (text .entry))) ⌝ }
-    ensures { λ r. ⌜ now (code .exit) ≡ codedBytes (now (code .entry)) (judgeIn reals opened (now (text .entry))) ⌝ }
+    ensures { λ r. ⌜ now (code .exit) ≡ fittedBytes (length (now (text .entry))) (now (code .entry)) (judgeIn reals opened (now (text .entry))) ⌝ }
 {
     let mut table = [0u64; 64];
-    let mut draft = [0u64; 128];
-    compile_with(text, opened, &mut table, &mut draft, code, reals)
+    let mut draft = [0u64; 64];
+    let most = text.len();
+    compile_with(text, opened, &mut table, &mut draft, code, reals, most)
 }
 
-fn compile_middle(text: &[u8], opened: u8, code: &mut [u8], reals: bool) -> Coded
+fn compile_128(text: &[u8], opened: u8, code: &mut [u8], reals: bool) -> Coded
+    requires { ⌜ Sized (now text) × (length (now text) < 128) × (16384 ≤ length (now code)) ⌝ }
+    ensures { λ r. ⌜ r ≡ codedAnswer (judgeIn reals opened (now (text .entry))) ⌝ }
+    ensures { λ r. ⌜ now (code .exit) ≡ fittedBytes (length (now (text .entry))) (now (code .entry)) (judgeIn reals opened (now (text .entry))) ⌝ }
+{
+    let mut table = [0u64; 128];
+    let mut draft = [0u64; 128];
+    let most = text.len();
+    compile_with(text, opened, &mut table, &mut draft, code, reals, most)
+}
+
+fn compile_256(text: &[u8], opened: u8, code: &mut [u8], reals: bool) -> Coded
     requires { ⌜ Sized (now text) × (length (now text) < 256) × (16384 ≤ length (now code)) ⌝ }
     ensures { λ r. ⌜ r ≡ codedAnswer (judgeIn reals opened (now (text .entry))) ⌝ }
-    ensures { λ r. ⌜ now (code .exit) ≡ codedBytes (now (code .entry)) (judgeIn reals opened (now (text .entry))) ⌝ }
+    ensures { λ r. ⌜ now (code .exit) ≡ fittedBytes (length (now (text .entry))) (now (code .entry)) (judgeIn reals opened (now (text .entry))) ⌝ }
 {
     let mut table = [0u64; 256];
-    let mut draft = [0u64; 512];
-    compile_with(text, opened, &mut table, &mut draft, code, reals)
+    let mut draft = [0u64; 256];
+    let most = text.len();
+    compile_with(text, opened, &mut table, &mut draft, code, reals, most)
 }
 
+fn compile_512(text: &[u8], opened: u8, code: &mut [u8], reals: bool) -> Coded
+    requires { ⌜ Sized (now text) × (length (now text) < 512) × (16384 ≤ length (now code)) ⌝ }
+    ensures { λ r. ⌜ r ≡ codedAnswer (judgeIn reals opened (now (text .entry))) ⌝ }
+    ensures { λ r. ⌜ now (code .exit) ≡ fittedBytes (length (now (text .entry))) (now (code .entry)) (judgeIn reals opened (now (text .entry))) ⌝ }
+{
+    let mut table = [0u64; 512];
+    let mut draft = [0u64; 512];
+    let most = text.len();
+    compile_with(text, opened, &mut table, &mut draft, code, reals, most)
+}
+
+// For every text: a formula has at most two instructions a byte.
 fn compile_long(text: &[u8], opened: u8, code: &mut [u8], reals: bool) -> Coded
     requires { ⌜ Sized (now text) × (16384 ≤ length (now code)) ⌝ }
     ensures { λ r. ⌜ r ≡ codedAnswer (judgeIn reals opened (now (text .entry))) ⌝ }
@@ -149,7 +189,53 @@ fn compile_long(text: &[u8], opened: u8, code: &mut [u8], reals: bool) -> Coded
 {
     let mut table = [0u64; 1025];
     let mut draft = [0u64; 2048];
-    compile_with(text, opened, &mut table, &mut draft, code, reals)
+    compile_with(text, opened, &mut table, &mut draft, code, reals, 2048)
+}
+
+// The code of a formula with at most an instruction a byte, of a text that is not long.
+fn compile_short(text: &[u8], opened: u8, code: &mut [u8], reals: bool) -> Coded
+    requires { ⌜ Sized (now text) × (length (now text) < 512) × (16384 ≤ length (now code)) ⌝ }
+    ensures { λ r. ⌜ r ≡ codedAnswer (judgeIn reals opened (now (text .entry))) ⌝ }
+    ensures { λ r. ⌜ now (code .exit) ≡ fittedBytes (length (now (text .entry))) (now (code .entry)) (judgeIn reals opened (now (text .entry))) ⌝ }
+{
+    if text.len() < 32 {
+        return compile_32(text, opened, code, reals);
+    }
+    if text.len() < 64 {
+        return compile_64(text, opened, code, reals);
+    }
+    if text.len() < 128 {
+        return compile_128(text, opened, code, reals);
+    }
+    if text.len() < 256 {
+        return compile_256(text, opened, code, reals);
+    }
+    compile_512(text, opened, code, reals)
+}
+
+// Whether a text was accepted whose code has more than so many instructions.
+fn is_longer(coded: Coded, most: usize) -> bool
+    ensures { λ r. ⌜ r ≡ isLonger coded most ⌝ }
+{
+    match coded {
+        Coded::Done(n) => most < n,
+        Coded::Refused(_, _) => false,
+    }
+}
+
+// What has more instructions than bytes is compiled a second time.
+fn compile_sized(text: &[u8], opened: u8, code: &mut [u8], reals: bool) -> Coded
+    requires { ⌜ Sized (now text) × (16384 ≤ length (now code)) ⌝ }
+    ensures { λ r. ⌜ r ≡ codedAnswer (judgeIn reals opened (now (text .entry))) ⌝ }
+    ensures { λ r. ⌜ now (code .exit) ≡ codedBytes (now (code .entry)) (judgeIn reals opened (now (text .entry))) ⌝ }
+{
+    if text.len() < 512 {
+        let first = compile_short(text, opened, code, reals);
+        if !is_longer(first, text.len()) {
+            return first;
+        }
+    }
+    compile_long(text, opened, code, reals)
 }
 
 pub fn compile(text: &[u8], code: &mut [u8]) -> Coded
@@ -169,11 +255,5 @@ pub fn compile_in(text: &[u8], opened: u8, code: &mut [u8], reals: bool) -> Code
     if !is_sized(text) {
         return Coded::Refused(3, 0);
     }
-    if text.len() < 64 {
-        return compile_short(text, opened, code, reals);
-    }
-    if text.len() < 256 {
-        return compile_middle(text, opened, code, reals);
-    }
-    compile_long(text, opened, code, reals)
+    compile_sized(text, opened, code, reals)
 }

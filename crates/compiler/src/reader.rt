@@ -71,7 +71,8 @@ fn alone(table: &[u64], draft: &mut [u64], at: usize, pc: usize, g: u8) -> u64
     draft::leaf(draft, token_table::word_at(table, at), at, pc)
 }
 
-// expression: operand { infix expression of a tighter group }. Most right sides are a number or a cell alone: they need no further call.
+// expression: operand { infix expression of a tighter group }. Most right sides are a number or a cell alone: they need no further call. A slice that is
+// passed on as it came is copied in one load of what was stored in two halves, for which a processor waits; `&table[..]` is made of its halves.
 fn expression(table: &[u64], draft: &mut [u64], at: usize, pc: usize, room: u8, level: u8) -> u64
     requires { ⌜ Fits (now table) at pc ⌝ }
     ensures { λ r. ⌜ ReaderAgrees (λ f ts. expression f room level ts) 3 (now (table .entry)) at pc (now (draft .entry)) (now (draft .exit)) (readOf r) ⌝ }
@@ -95,11 +96,13 @@ fn expression(table: &[u64], draft: &mut [u64], at: usize, pc: usize, room: u8, 
             let right = alone(table, draft, j + 1, place, g);
             left = draft::joined(draft, w, left, right);
         } else {
-            let right = expression(table, draft, j + 1, place, room, g - 1);
+            let right = expression(&table[..], draft, j + 1, place, room, g - 1);
             if !results::is_done(right) {
                 return right;
             }
-            left = draft::joined(draft, w, left, right);
+            // read anew, so that it need not be kept on the stack over the call
+            let operator = token_table::word_at(table, j);
+            left = draft::joined(draft, operator, left, right);
         }
     }
 }

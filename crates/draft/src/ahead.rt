@@ -2,11 +2,8 @@
 ghost use mathlib.Core.Path.{_≡_};
 ghost use Prim.Native.Nat.{_≤_, _<_};
 ghost use lib.ListN.{length};
-ghost use Rattle.operators.specs.Kinds.{numberKind};
-ghost use Rattle.token_table.specs.private.Table.{wordClass, wordOperand, wordAt};
-ghost use Rattle.draft.specs.private.Words.{isLeaf, leafKind, leafOpcode, isMark, prefixNumber, groupIn, isAlone, placeAt, Signs};
-use memory::numbers;
-use operators::kinds;
+ghost use Rattle.token_table.specs.private.Table.{wordAt};
+ghost use Rattle.draft.specs.private.Words.{isLeaf, isMark, prefixNumber, groupIn, isAlone, placeAt, Signs};
 use operators::tables;
 use token_table::classes;
 use tokens::symbols;
@@ -24,36 +21,6 @@ pub fn is_leaf(w: u64) -> bool
     } else {
         class < classes::LETTER
     }
-}
-
-// The kind of a number or a cell.
-pub fn leaf_kind(w: u64) -> u8
-    requires { ⌜ wordOperand w < 6 ⌝ }
-    ensures { λ r. ⌜ numberKind r ≡ leafKind w ⌝ }
-    ensures { λ r. ⌜ r < 2 ⌝ }
-{
-    let class = token_table::class_of(w);
-    if class == classes::INTEGER {
-        return kinds::INT;
-    }
-    if class == classes::REAL {
-        return kinds::REAL;
-    }
-    numbers::bank_kind(token_table::operand_of(w) as u32)
-}
-
-// The opcode that pushes a number or loads a cell.
-pub fn leaf_opcode(w: u64) -> u32
-    ensures { λ r. ⌜ r ≡ leafOpcode (wordClass w) (wordOperand w) ⌝ }
-{
-    let class = token_table::class_of(w);
-    if class == classes::INTEGER {
-        return code::PUSH_INT;
-    }
-    if class == classes::REAL {
-        return code::PUSH_REAL;
-    }
-    code::LOAD + (token_table::operand_of(w) as u32)
 }
 
 fn is_symbol(w: u64, n: u8) -> bool

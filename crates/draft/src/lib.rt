@@ -20,8 +20,10 @@ ghost use Rattle.draft.specs.private.Draft.{putInstr, putCode, reserved,
 use code::BINARY;
 use code::JUMP;
 use code::JUMP_IF_FALSE;
+use code::LOAD;
 use code::LOAD_INDEXED;
 use code::PUSH_INT;
+use code::PUSH_REAL;
 use code::SINCE;
 use code::TICK;
 use code::UNARY;
@@ -31,6 +33,7 @@ use memory::numbers;
 use operators::kinds;
 use operators::kinds::NOT_TAKEN;
 use operators::tables;
+use token_table::classes;
 use tokens::symbols::AND;
 
 pub mod ahead;
@@ -58,14 +61,31 @@ fn added(draft: &mut [u64], before: u64, opcode: u32, kind: u8, wrong: u64) -> u
     results::done(results::next_of(before), end + 1, kind, wrong)
 }
 
-// A number or a cell.
+// A number or a cell by its opcode, and its kind.
+fn pushed(draft: &mut [u64], w: u64, at: usize, pc: usize, opcode: u32, kind: u8) -> u64
+    requires { ⌜ (at < 65535) × (pc < 65535) × (kind < 2) ⌝ }
+    ensures { λ r. ⌜ readOf r ≡ Done (at + 1) (pc + 1) (numberKind kind) clear ⌝ }
+    ensures { λ r. ⌜ now (draft .exit) ≡ set (now (draft .entry)) pc (joinWord opcode (wordNumber w)) ⌝ }
+{
+    put(draft, pc, opcode, token_table::number_of(w));
+    results::done(at + 1, pc + 1, kind, CLEAR)
+}
+
+// A number or a cell. Its class is asked for once, for opcode and kind.
 pub fn leaf(draft: &mut [u64], w: u64, at: usize, pc: usize) -> u64
     requires { ⌜ (wordOperand w < 6) × (at < 65535) × (pc < 65535) ⌝ }
     ensures { λ r. ⌜ readOf r ≡ Done (at + 1) (pc + 1) (leafKind w) clear ⌝ }
     ensures { λ r. ⌜ now (draft .exit) ≡ set (now (draft .entry)) pc (joinWord (leafOpcode (wordClass w) (wordOperand w)) (wordNumber w)) ⌝ }
 {
-    put(draft, pc, ahead::leaf_opcode(w), token_table::number_of(w));
-    results::done(at + 1, pc + 1, ahead::leaf_kind(w), CLEAR)
+    let class = token_table::class_of(w);
+    if class == classes::INTEGER {
+        return pushed(draft, w, at, pc, PUSH_INT, kinds::INT);
+    }
+    if class == classes::REAL {
+        return pushed(draft, w, at, pc, PUSH_REAL, kinds::REAL);
+    }
+    let bank = token_table::operand_of(w) as u32;
+    pushed(draft, w, at, pc, LOAD + bank, numbers::bank_kind(bank))
 }
 
 // An element of a bank, behind its index.

@@ -1,5 +1,5 @@
 -- The powers of ten, and a decimal as a mixed number: over two of them, or over 2 ^ 29 twice.
-use mathlib.Core.Path.{_≡_, sym, ap, _∙_}
+use mathlib.Core.Path.{_≡_, sym, ap, subst, _∙_}
 use mathlib.Core.Bool.{false}
 use mathlib.Core.List.{List, [], _∷_}
 use Prim.Native.Nat.{ℕ, zero, suc, _+_, _-_, _*_, _/_, _^_, _≤_, _<_}
@@ -41,6 +41,9 @@ ten-le : (k j : ℕ) → k ≤ j → 10 ^ k ≤ 10 ^ j
 ten-le k j h = pow-le-pow-right {n = 10} (lit≤ tt) h
 
 -- ---- n / 10 ^ d, doubled 31 times
+pub over : {q p n : ℕ} {x : Mixed} → p ≡ q → Represents q 1 n x → Represents p 1 n x
+over {n = n} {x = x} P r = subst (λ (b : ℕ). Represents b 1 n x) (sym P) r
+
 pub short-le : (d : ℕ) {p : ℕ} → p ≡ 10 ^ d → d < 3 → p ≤ 2 ^ 47
 short-le d P D = rw P (le-trans (ten-le d 2 (omega arith)) (lit≤ tt))
 

@@ -148,12 +148,18 @@ fn power(k: u32) -> u64
     TENS[k as usize]
 }
 
-// n over a power of ten, doubled 31 times at once: of most literals that is enough, and takes one division.
-fn doubled(n: u32, power: u64) -> Mixed
-    requires { ⌜ 0 < power ⌝ }
-    ensures { λ r. ⌜ Represents power 1 (n * 2 ^ 31) r ⌝ }
+// n over a power of ten, doubled 31 times at once: of most literals that is enough. Each branch divides by a constant, which takes a
+// multiplication and no division.
+fn doubled(n: u32, d: u32) -> Mixed
+    requires { ⌜ (0 < d) × (d < 3) ⌝ }
+    ensures { λ r. ⌜ Represents (10 ^ d) 1 (n * 2 ^ 31) r ⌝ }
 {
-    split((n as u64) * 2147483648, power, 1)
+    let numerator = (n as u64) * 2147483648;
+    if d == 1 {
+        split(numerator, TENS[1], 1)
+    } else {
+        split(numerator, TENS[2], 1)
+    }
 }
 
 // The power of one digit behind the dot or two, which most literals have: at a literal index the table is not built.
@@ -172,7 +178,7 @@ fn quotient(n: u32, d: u32) -> u32
     if n < SHORT {
         if d < 3 {
             let power = short_power(d);
-            let number = doubled(n, power);
+            let number = doubled(n, d);
             if WIDE <= number.whole {
                 return rounded(Normal { number, shift: 31 }, power, 1, 0);
             }

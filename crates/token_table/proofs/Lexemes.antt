@@ -1,11 +1,12 @@
 -- What begins at a byte that is not blank, by its class; and a run of bytes that is judged as a whole.
-use mathlib.Core.Path.{_≡_, sym, ap, subst, _∙_}
+use mathlib.Core.Path.{_≡_, refl, sym, ap, subst, _∙_}
 use mathlib.Core.Bool.{Bool, true, false}
 use mathlib.Core.List.{List}
 use Prim.Native.Nat.{ℕ, _+_, _-_, _<_}
 use native.Mathlib.Omega.{arith}
 use lib.ListN.{length, getD, take, drop}
 use lib.Seq.{drop-cons}
+use borrow.Author.Tests.{lt-leb}
 use Rattle.memory.specs.Names.{isDigit}
 use Rattle.tokens.specs.declared.Scanned.{Scanned}
 use Rattle.tokens.specs.declared.Scanned.the-variants.{Good, Bad}
@@ -27,6 +28,10 @@ module _ (s : List ℕ) (p : ℕ) (h : p < length s) where
   pub at-other : isDigit (getD s p 0) ≡ false → isLetter (getD s p 0) ≡ false → symbolLexeme p (longest (drop p s)) ≡ lexemeOf (drop p s) p
   unfolding lexemeOf
   at-other d l = rw (drop-cons s p 0 h, d, l)
+
+-- most symbols stand below the digits, and those below the letters
+pub below-digits : (b : ℕ) → b < 48 → (isDigit b ≡ false) × (isLetter b ≡ false)
+below-digits b h = (rw (lt-leb 48 b h) refl, rw (lt-leb 65 b (omega arith), lt-leb 97 b (omega arith)) refl)
 
 -- a word and an end by other names
 pub lexes-as : {l : Lexeme} {w w′ e e′ : ℕ} → w ≡ w′ → e ≡ e′ → Lexes l w′ e′ → Lexes l w e

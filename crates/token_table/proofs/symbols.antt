@@ -1,2 +1,2 @@
 -- What the proofs of the module share.
-mod Cases
+pub mod Cases

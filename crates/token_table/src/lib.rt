@@ -67,22 +67,25 @@ fn refused(answer: u32) -> Lex
     }
 }
 
-// The token at a byte that is not blank.
+// The token at a byte that is not blank. Most symbols stand below the digits: they are told apart from words by one test.
 fn token_at(text: &[u8], at: usize) -> Lex
     requires { ⌜ (at < length (now text)) × (length (now text) ≤ 1024) ⌝ }
     ensures { λ r. ⌜ Lexes (lexemeOf (drop at (now (text .entry))) at) (r .word) (r .end) ⌝ }
 {
     let b = text[at];
-    if memory::names::is_digit(b) {
-        return numerals::numeral_at(text, at);
-    }
-    if bytes::is_letter(b) {
-        return identifiers::word_at(text, at);
+    if b'0' <= b {
+        if memory::names::is_digit(b) {
+            return numerals::numeral_at(text, at);
+        }
+        if bytes::is_letter(b) {
+            return identifiers::word_at(text, at);
+        }
     }
     symbols::symbol_at(text, at)
 }
 
-// Every token of the text and, behind the last, the end; words behind that stay as they were.
+// Every token of the text and, behind the last, the end; words behind that stay as they were. No token begins with a byte up to the space, so one test
+// tells a token from a blank.
 pub fn fill(text: &[u8], table: &mut [u64]) -> Filled
     requires { ⌜ (length (now text) ≤ 1024) × (length (now text) < length (now table)) ⌝ }
     ensures { λ r. ⌜ length (now (table .exit)) ≡ length (now (table .entry)) ⌝ }
@@ -92,7 +95,11 @@ pub fn fill(text: &[u8], table: &mut [u64]) -> Filled
     let mut at: usize = 0;
     let mut n: usize = 0;
     while at < text.len() {
-        if bytes::is_space(text[at]) {
+        let b = text[at];
+        if b <= b' ' {
+            if !bytes::is_space(b) {
+                return Filled::Wrong(4, at);
+            }
             at += 1;
         } else {
             let lex = token_at(text, at);

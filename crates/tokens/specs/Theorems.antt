@@ -45,7 +45,8 @@ pub data Mantissa : List ℕ → Type 0 where
 -- sign comes next, it goes on past the sign.
 pub data NumeralRun : List ℕ → List ℕ → Type 0 where
   plain : {w r : List ℕ} → LongestRun isDigit isRun w r → ((m : List ℕ) → Mantissa m → w ≡ m ++ (byte "E" ∷ []) → Stops isSign r) → NumeralRun w r
-  past-sign : {r : List ℕ} (m : List ℕ) (c : ℕ) (v : List ℕ) → Mantissa m → isSign c ≡ true → all isRun v ≡ true → Stops isRun r → NumeralRun (m ++ (byte "E" ∷ c ∷ v)) r
+  past-sign : {r : List ℕ} (m : List ℕ) (c : ℕ) (v : List ℕ) → Mantissa m → isSign c ≡ true → all isRun v ≡ true → Stops isRun r → NumeralRun
+      (m ++ (byte "E" ∷ c ∷ v)) r
 
 -- the symbol n stands at the front of a text
 abbrev pub Matches : ℕ → List ℕ → Type 0

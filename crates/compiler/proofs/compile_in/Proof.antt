@@ -16,11 +16,10 @@ returns-2 c = let a = c .before .before .before .before .before .args in
     too-long (a .reals) (a .opened) (a .text .now) (a .code .now) (omega arith)
     (not-sized (a .text .now) (c .before .is-sized .ensures) (c .if2 .taken) (a .reals) (a .opened))
 
-compile-short-requires : tie.Need-compile-short-requires
-compile-short-requires c κs = (
-  sized (c .before .before .before .before .before .before .before .args .text .now)
-      (c .before .before .before .is-sized .ensures) (c .before .before .if2 .left),
-  omega arith,
+compile-sized-requires : tie.Need-compile-sized-requires
+compile-sized-requires c κs = (
+  sized (c .before .before .before .before .before .before .args .text .now) (c .before .before .is-sized .ensures)
+      (c .before .if2 .left),
   omega arith,
 )
 
@@ -28,51 +27,8 @@ same-length : tie.Need-same-length
 same-length c = search needs
 
 returns-3 : tie.Need-returns-3
-returns-3 c = let a = c .before .before .before .before .before .before .before .before .before .before .args in
-    enough (a .reals) (a .opened) (a .text .now) (a .code .now) (omega arith) _ _ (c .before .before .compile-short .ensures)
-
-compile-middle-requires : tie.Need-compile-middle-requires
-compile-middle-requires c κs = (
-  sized (c .before .before .before .before .before .before .before .before .args .text .now)
-      (c .before .before .before .before .is-sized .ensures) (c .before .before .before .if2 .left),
-  omega arith,
-  omega arith,
-)
-
-same-length-2 : tie.Need-same-length-2
-same-length-2 c = search needs
-
-returns-4 : tie.Need-returns-4
-returns-4 c = let a = c .before .before .before .before .before .before .before .before .before .before .before .args in
-    enough (a .reals) (a .opened) (a .text .now) (a .code .now) (omega arith) _ _ (c .before .before .compile-middle .ensures)
-
-compile-long-requires : tie.Need-compile-long-requires
-compile-long-requires c κs = (
-  sized (c .before .before .before .before .before .before .before .before .args .text .now)
-      (c .before .before .before .before .is-sized .ensures) (c .before .before .before .if2 .left),
-  omega arith,
-)
-
-same-length-3 : tie.Need-same-length-3
-same-length-3 c = search needs
-
-returns-5 : tie.Need-returns-5
-returns-5 c = let a = c .before .before .before .before .before .before .before .before .before .before .before .args in
-    enough (a .reals) (a .opened) (a .text .now) (a .code .now) (omega arith) _ _ (c .before .before .compile-long .ensures)
+returns-3 c = let a = c .before .before .before .before .before .before .before .before .before .args in
+    enough (a .reals) (a .opened) (a .text .now) (a .code .now) (omega arith) _ _ (c .before .before .compile-sized .ensures)
 
 pub compile-in-spec : {M : Type 1} → statement M
-compile-in-spec =
-    tie.close
-    (tie.spec
-    returns
-    is-sized-requires
-    returns-2
-    compile-short-requires
-    same-length
-    returns-3
-    compile-middle-requires
-    same-length-2
-    returns-4
-    compile-long-requires
-    same-length-3
-    returns-5)
+compile-in-spec = tie.close (tie.spec returns is-sized-requires returns-2 compile-sized-requires same-length returns-3)

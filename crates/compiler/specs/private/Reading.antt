@@ -2,8 +2,10 @@
 -- tokens. A result `Done j e k w` stands for a tree of kind k, with the diagnostic w, whose code ends at e in the draft, and for the tokens from the
 -- position j on.
 use mathlib.Core.Path.{_≡_}
+use mathlib.Core.Bool.{Bool, false, cond}
 use mathlib.Core.List.{List, [], _∷_}
 use Prim.Native.Nat.{ℕ, _+_, _-_, _*_, _≤_, _<_}
+use lib.Dec.{leb, ltb}
 use lib.IntN.{ℤ}
 use lib.ListN.{length}
 use Rattle.values.specs.declared.Kind.{Kind}
@@ -15,13 +17,14 @@ use Rattle.token_table.specs.private.Table.{wordOperand, wordNumber, wordPlace,
 use Rattle.grammar.specs.Tree.{Tree, Diagnostic, treeKind, diagnosticOf, choice, matching}
 use Rattle.grammar.specs.Symbols.{loosest, openParen, formOf, argument}
 use Rattle.grammar.specs.Parse.{Result, ok, bad, deep, andThen, expect, expectRange, enter, callBody, expression, primary, arguments}
-use Rattle.text.specs.Judge.{Judgement, accepted}
+use Rattle.text.specs.Judge.{Judgement, accepted, refused}
 use Rattle.tree_code.specs.Code.{codeOf}
 use Rattle.draft.specs.private.Results.{Read, Done, Bad, Deep, readNext, readEnd, readKind, readWrong}
 use Rattle.draft.specs.private.Draft.{putCode}
 use Rattle.draft.specs.private.Ranges.{functionMatch, cellBank, countOf, CellWord}
 use Rattle.compiler.specs.declared.Coded.{Coded}
-use Rattle.compiler.specs.Compile.{codedAnswer}
+use Rattle.compiler.specs.declared.Coded.the-variants.{Done as Coding, Refused}
+use Rattle.compiler.specs.Compile.{codedAnswer, codedBytes}
 
 -- the tree's kind and diagnostic are these, and its code was put into the draft from pc up to e
 pub record DraftHolds (pc : ℕ) (o o′ : List ℕ) (e : ℕ) (k : Kind) (w : Diagnostic) (t : Tree) : Type 0 where
@@ -105,3 +108,13 @@ pub record Matching (f : ℕ) (s : List ℕ) (v : ℕ) (o o′ : List ℕ) (r : 
 pub record Judged (j : Judgement) (o o′ : List ℕ) (r : Coded) : Type 0 where
   pub answer : r ≡ codedAnswer j
   pub code : (t : Tree) → j ≡ accepted t → o′ ≡ putCode o 0 (codeOf t)
+
+-- the buffer afterwards, where code of at most so many instructions is written
+abbrev pub fittedBytes : ℕ → List ℕ → Judgement → List ℕ
+fittedBytes most code (accepted t) = cond (leb (length (codeOf t)) most) (codedBytes code (accepted t)) code
+fittedBytes most code (refused a p) = code
+
+-- the answer is code of more instructions than that
+abbrev pub isLonger : Coded → ℕ → Bool
+isLonger (Coding n) most = ltb most n
+isLonger (Refused a p) most = false

@@ -5,7 +5,7 @@ use native.Mathlib.Omega.{arith}
 use lib.Dec.{lit<, lit≤}
 use lib.Ieee.{binary32, toBits}
 use borrow.Author.Needs.{needs}
-use Rattle.literals.proofs.Decimals.{ten-pos, short-le, short-fits, short-is, low-pos, high-pos, low-le, high-le, quotient-fits, quotient-is}
+use Rattle.literals.proofs.Decimals.{over, short-le, short-fits, short-is, low-pos, high-pos, low-le, high-le, quotient-fits, quotient-is}
 use Rattle.literals.proofs.quotient.Statement.{statement}
 use Rattle.literals.proofs.quotient.Tie as tie
 
@@ -13,13 +13,13 @@ short-power-requires : tie.Need-short-power-requires
 short-power-requires c κs = search needs
 
 doubled-requires : tie.Need-doubled-requires
-doubled-requires c κs = rw (c .short-power .ensures) (ten-pos _)
+doubled-requires c κs = search needs
 
 rounded-requires : tie.Need-rounded-requires
 rounded-requires c κs =
     let s = c .before .before .before .before .before .before in
     let P = c .before .before .before .short-power .ensures in
-    let r = c .before .before .doubled .ensures in
+    let r = over P (c .before .before .doubled .ensures) in
     let short : s .args .n < 2 ^ 17 = omega (arith, c .before .before .before .before .before .if1 .taken) in
     let few : s .args .d < 3 = omega (arith, c .before .before .before .before .if2 .taken) in
     let wide : 2 ^ 24 ≤ c .before .before .doubled .result .whole = omega (arith, c .if3 .taken) in
@@ -29,7 +29,7 @@ returns : tie.Need-returns
 returns c =
     let s = c .before .before .before .before .before .before .before in
     let P = c .before .before .before .before .short-power .ensures in
-    let r = c .before .before .before .doubled .ensures in
+    let r = over P (c .before .before .before .doubled .ensures) in
     c .rounded .ensures .is (s .args .n) (r .is)
     ∙ ap (toBits binary32) (short-is (s .args .d) (c .before .before .before .before .short-power .result) (s .args .n) P)
 

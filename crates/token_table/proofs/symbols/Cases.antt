@@ -2,19 +2,20 @@
 use mathlib.Core.Path.{_≡_, refl, sym, ap, subst, _∙_}
 use mathlib.Core.Bool.{Bool, true, false, _&&_, _||_, cond}
 use mathlib.Core.List.{List, [], _∷_}
-use Prim.Native.Nat.{ℕ, suc, _+_, _<_}
+use Prim.Native.Nat.{ℕ, suc, _+_, _≤_, _<_}
 use native.Mathlib.Omega.{arith}
-use lib.Dec.{eqb}
+use lib.Dec.{eqb, ltb}
 use lib.ListN.{length, getD, drop}
-use borrow.Author.Tests.{eqb-true, ne-eqb}
+use borrow.Author.Tests.{eqb-true, ltb-true, ne-eqb}
 use Rattle.tokens.specs.declared.Token.the-variants.{Symbol}
+use Rattle.tokens.specs.Bytes.{isSpace}
 use Rattle.tokens.specs.Symbols.{symbols, symbolCount, symbolBytes, findSymbol, longest}
-use Rattle.tokens.specs.Scan.{symbolLexeme}
+use Rattle.tokens.specs.Scan.{symbolLexeme, lexemeOf}
 use Rattle.tokens.proofs.Tests.{by-test, both, no}
 use Rattle.tokens.proofs.symbols.Longest.{three}
 use Rattle.token_table.specs.private.Table.{packFields}
-use Rattle.token_table.specs.private.Lexing.{Lexes, found, SymbolSize}
-use Rattle.token_table.proofs.Lexemes.{lexes-as}
+use Rattle.token_table.specs.private.Lexing.{Lexes, found, wrong, SymbolSize}
+use Rattle.token_table.proofs.Lexemes.{at-other, below-digits, lexes-as}
 
 -- ---- the word of a symbol
 pub a-symbol : (at n m : ℕ) → SymbolSize n m → Lexes (symbolLexeme at n) (packFields 6 n 0 0) (at + m)
@@ -93,3 +94,22 @@ pub nothing : (a b c : ℕ) → Avoids a starts → symbolCount ≡ longest (a �
 nothing a b c v =
     let u : (cs : List ℕ) → findSymbol 0 symbols (a ∷ cs) ≡ symbolCount = λ cs. unfound 0 a cs starts symbols v refl in
     rw (u (b ∷ c ∷ []), u (b ∷ []), u [])
+
+-- ---- no token begins with a byte up to the space
+abbrev above : ℕ → List ℕ → Bool
+above n [] = true
+above n (k ∷ ks) = ltb n k && above n ks
+
+avoids : (n a : ℕ) → a ≤ n → (ks : List ℕ) → above n ks ≡ true → Avoids a ks
+avoids n a h [] t = tt
+avoids n a h (k ∷ ks) t = let g = both (ltb n k) (above n ks) t in (avoids n a h ks (g .1), λ e. omega (arith, ltb-true n k (g .0)))
+
+pub no-token : (s : List ℕ) (at : ℕ) → at < length s → getD s at 0 ≤ 32 → Lexes (lexemeOf (drop at s) at) (packFields 0 0 4 0) 0
+no-token s at h l =
+    let a = getD s at 0 in
+    let low = below-digits a (omega arith) in
+    rw (← at-other s at h (low .0) (low .1))
+    (seen s at h refl refl (nothing a (getD s (at + 1) 0) (getD s (at + 2) 0) (avoids 32 a l starts refl)) (wrong 4 at 0))
+
+pub past-space : (b : ℕ) → 32 < b → isSpace b ≡ false
+past-space b h = rw (ne-eqb b 32 (λ e. omega arith), ne-eqb b 9 (λ e. omega arith)) refl

@@ -1264,26 +1264,32 @@ expression-returns-4 t c =
     (c .before .before .before .before .before .before .before .before .before .before .before .if3 .left) p
     (c .before .before .before .before .expression .ensures) (stopped _ (unmet (c .before .is-done2 .ensures) (c .if5 .taken)))
 
+expression-word-at-requires-2 : (t : ℕ) → expression-lts.Need-word-at-requires-2 (expression-calls t)
+    (expression-at t) expression.Post expression-Inv-loop expression-μ-loop
+expression-word-at-requires-2 t c κs = search needs
+
 expression-joined-requires-2 : (t : ℕ) → expression-lts.Need-joined-requires-2 (expression-calls t)
     (expression-at t) expression.Post expression-Inv-loop expression-μ-loop
 expression-joined-requires-2 t c κs =
     let s = c .before .before .before .before .before .before .before .before .before .before .before .before .before .before .before .before .before
-    .before .before .before .before .before .before .before .before .before in
-    let l = c .before .before .before .before .before .before .before .before .before .before .before .before .before .before .before .before .before .loop in
+    .before .before .before .before .before .before .before .before .before .before in
+    let l = c .before .before .before .before .before .before .before .before .before .before .before .before .before .before .before .before .before .before .loop in
     let h = l .inv .2 _ (c .before .before .before .before .before .before .before .before .before .before .before .before .before .before .before .before
-    .before .before .before .before .before .before .operand .ensures) in
+    .before .before .before .before .before .before .before .operand .ensures) in
     let x = loop-operator (s .args .room) (s .args .level) (l .left) h (s .pre .1 .tokens)
-    (c .before .before .before .before .before .before .before .before .before .before .before .before .before .before .before .before .next-of .ensures
-    .0) (c .before .before .before .before .before .before .before .before .before .before .before .before .before .before .before .word-at .ensures)
-    (c .before .before .before .before .before .before .before .before .before .before .before .before .before .before .group-in .ensures)
-    (c .before .before .before .before .before .before .before .before .before .before .before .before .before .if2 .left) in
-    let n = c .before .before .before .before .before .before .before .before .before .before .before .before .before .before .before .before .next-of
+    (c .before .before .before .before .before .before .before .before .before .before .before .before .before .before .before .before .before .next-of .ensures
+    .0) (c .before .before .before .before .before .before .before .before .before .before .before .before .before .before .before .before .word-at .ensures)
+    (c .before .before .before .before .before .before .before .before .before .before .before .before .before .before .before .group-in .ensures)
+    (c .before .before .before .before .before .before .before .before .before .before .before .before .before .before .if2 .left) in
+    let n = c .before .before .before .before .before .before .before .before .before .before .before .before .before .before .before .before .before .next-of
     .ensures .0 in
-    let p = ap₂ _+_ (c .before .before .before .before .before .before .before .before .before .before .before .end-of .ensures .0)
-    (c .before .before .before .before .before .before .before .before .before .reserve .ensures
-    ∙ ap reserved (c .before .before .before .before .before .before .before .before .before .before .operand-of .ensures)) in
-    let b = reached (c .before .before .before .before .before .expression .result) (met (c .before .before .is-done2 .ensures) (c .before .if5 .left))
-    (c .before .before .before .before .before .expression .ensures .span) in (
+    let p = ap₂ _+_ (c .before .before .before .before .before .before .before .before .before .before .before .before .end-of .ensures .0)
+    (c .before .before .before .before .before .before .before .before .before .before .reserve .ensures
+    ∙ ap reserved (c .before .before .before .before .before .before .before .before .before .before .before .operand-of .ensures)) in
+    let b = reached (c .before .before .before .before .before .before .expression .result) (met (c .before .before .before .is-done2 .ensures) (c .before .before .if5 .left))
+    (c .before .before .before .before .before .before .expression .ensures .span) in
+    let e = c .before .word-at2 .ensures ∙ sym (c .before .before .before .before .before .before .before .before .before .before .before .before .before .before .before .before .word-at .ensures) in
+    rw e (
       x .few,
       omega (arith, b .rises),
       omega (
@@ -1292,31 +1298,31 @@ expression-joined-requires-2 t c κs =
         b .within,
         h .span .slack,
         s .pre .1 .room,
-        reserved-few (c .before .before .before .before .before .before .before .before .before .before .operand-of .result),
-        c .before .before .before .before .before .before .before .before .before .before .before .end-of .ensures .0,
-        c .before .before .before .before .before .before .before .before .before .reserve .ensures,
+        reserved-few (c .before .before .before .before .before .before .before .before .before .before .before .operand-of .result),
+        c .before .before .before .before .before .before .before .before .before .before .before .before .end-of .ensures .0,
+        c .before .before .before .before .before .before .before .before .before .before .reserve .ensures,
       ),
     )
 
 expression-loop-less-2 : (t : ℕ) → expression-lts.Need-loop-less-2 (expression-calls t) (expression-at t) expression.Post expression-Inv-loop expression-μ-loop
 expression-loop-less-2 t c =
     let s = c .before .before .before .before .before .before .before .before .before .before .before .before .before .before .before .before .before
-    .before .before .before .before .before .before .before .before .before .before .before .before in
+    .before .before .before .before .before .before .before .before .before .before .before .before .before in
     let l = c .before .before .before .before .before .before .before .before .before .before .before .before .before .before .before .before .before
-    .before .before .before .loop in
+    .before .before .before .before .loop in
     let h = l .inv .2 _ (c .before .before .before .before .before .before .before .before .before .before .before .before .before .before .before .before
-    .before .before .before .before .before .before .before .before .before .operand .ensures) in
+    .before .before .before .before .before .before .before .before .before .before .operand .ensures) in
     let x = loop-operator (s .args .room) (s .args .level) (l .left) h (s .pre .1 .tokens)
     (c .before .before .before .before .before .before .before .before .before .before .before .before .before .before .before .before .before .before
-    .before .next-of .ensures .0) (c .before .before .before .before .before .before .before .before .before .before .before .before .before .before
-    .before .before .before .before .word-at .ensures) (c .before .before .before .before .before .before .before .before .before .before .before
-    .before .before .before .before .before .before .group-in .ensures)
-    (c .before .before .before .before .before .before .before .before .before .before .before .before .before .before .before .before .if2 .left) in
+    .before .before .next-of .ensures .0) (c .before .before .before .before .before .before .before .before .before .before .before .before .before .before
+    .before .before .before .before .before .word-at .ensures) (c .before .before .before .before .before .before .before .before .before .before .before
+    .before .before .before .before .before .before .before .group-in .ensures)
+    (c .before .before .before .before .before .before .before .before .before .before .before .before .before .before .before .before .before .if2 .left) in
     let n = c .before .before .before .before .before .before .before .before .before .before .before .before .before .before .before .before .before
-    .before .before .next-of .ensures .0 in
-    let b = reached (c .before .before .before .before .before .before .before .before .expression .result)
-    (met (c .before .before .before .before .before .is-done2 .ensures) (c .before .before .before .before .if5 .left))
-    (c .before .before .before .before .before .before .before .before .expression .ensures .span) in
+    .before .before .before .next-of .ensures .0 in
+    let b = reached (c .before .before .before .before .before .before .before .before .before .expression .result)
+    (met (c .before .before .before .before .before .before .is-done2 .ensures) (c .before .before .before .before .before .if5 .left))
+    (c .before .before .before .before .before .before .before .before .before .expression .ensures .span) in
     let e = done-next (c .before .before .joined2 .result) (c .before .before .joined2 .ensures .0) .0 in
     omega (arith, b .ahead, b .within, x .splits .within)
 
@@ -1324,25 +1330,26 @@ expression-loop-again-2 : (t : ℕ) → expression-lts.Need-loop-again-2 (expres
     (expression-at t) expression.Post expression-Inv-loop expression-μ-loop
 expression-loop-again-2 t c =
     let s = c .before .before .before .before .before .before .before .before .before .before .before .before .before .before .before .before .before
-    .before .before .before .before .before .before .before .before .before .before .before .before in
+    .before .before .before .before .before .before .before .before .before .before .before .before .before in
     let l = c .before .before .before .before .before .before .before .before .before .before .before .before .before .before .before .before .before
-    .before .before .before .loop in
-    let p = ap₂ _+_ (c .before .before .before .before .before .before .before .before .before .before .before .before .before .before .end-of .ensures .0)
-    (c .before .before .before .before .before .before .before .before .before .before .before .before .reserve .ensures
-    ∙ ap reserved (c .before .before .before .before .before .before .before .before .before .before .before .before .before .operand-of .ensures)) in
-    let d = met (c .before .before .before .before .before .is-done2 .ensures) (c .before .before .before .before .if5 .left) in (
-      c .before .before .joined2 .kept .0 ∙ c .before .before .before .before .before .before .before .before .expression .kept .1 .0 ∙ l .inv .0,
+    .before .before .before .before .loop in
+    let p = ap₂ _+_ (c .before .before .before .before .before .before .before .before .before .before .before .before .before .before .before .end-of .ensures .0)
+    (c .before .before .before .before .before .before .before .before .before .before .before .before .before .reserve .ensures
+    ∙ ap reserved (c .before .before .before .before .before .before .before .before .before .before .before .before .before .before .operand-of .ensures)) in
+    let d = met (c .before .before .before .before .before .before .is-done2 .ensures) (c .before .before .before .before .before .if5 .left) in
+    let e = c .before .before .before .before .word-at2 .ensures ∙ sym (c .before .before .before .before .before .before .before .before .before .before .before .before .before .before .before .before .before .before .before .word-at .ensures) in (
+      c .before .before .joined2 .kept .0 ∙ c .before .before .before .before .before .before .before .before .before .expression .kept .1 .0 ∙ l .inv .0,
       ap isDone (c .before .before .joined2 .ensures .0),
       λ o y. loop-joined (s .args .room) (s .args .level) (l .left) (l .inv .2 o y) (s .pre .1 .tokens)
           (c .before .before .before .before .before .before .before .before .before .before .before .before .before .before .before .before .before .before
-          .before .next-of .ensures .0) (c .before .before .before .before .before .before .before .before .before .before .before .before .before .before
-          .before .before .before .before .word-at .ensures) (c .before .before .before .before .before .before .before .before .before .before .before
-          .before .before .before .before .before .before .group-in .ensures)
-          (c .before .before .before .before .before .before .before .before .before .before .before .before .before .before .before .before .if2 .left)
-          (c .before .before .before .before .before .before .before .before .before .before .before .before .before .before .before .if3 .left) p
-          (c .before .before .before .before .before .before .before .before .expression .result) (c .before .before .joined2 .result)
-          (c .before .before .before .before .before .before .before .before .expression .ensures) d (c .before .before .joined2 .ensures .0)
-          (c .before .before .joined2 .ensures .1),
+          .before .before .next-of .ensures .0) (c .before .before .before .before .before .before .before .before .before .before .before .before .before .before
+          .before .before .before .before .before .word-at .ensures) (c .before .before .before .before .before .before .before .before .before .before .before
+          .before .before .before .before .before .before .before .group-in .ensures)
+          (c .before .before .before .before .before .before .before .before .before .before .before .before .before .before .before .before .before .if2 .left)
+          (c .before .before .before .before .before .before .before .before .before .before .before .before .before .before .before .before .if3 .left) p
+          (c .before .before .before .before .before .before .before .before .before .expression .result) (c .before .before .joined2 .result)
+          (c .before .before .before .before .before .before .before .before .before .expression .ensures) d (rw e at (c .before .before .joined2 .ensures .0))
+          (rw e at (c .before .before .joined2 .ensures .1)),
     )
 
 operand-word-at-requires : (t : ℕ) → operand-lts.Need-word-at-requires (operand-calls t) (operand-at t) operand.Post
@@ -1818,6 +1825,7 @@ pub +arguments+bracket+branches+call+enclosed+expression+operand+pair+primary-sp
     (expression-is-done-requires-2 t)
     (expression-same-length-4 t)
     (expression-returns-4 t)
+    (expression-word-at-requires-2 t)
     (expression-joined-requires-2 t)
     (expression-loop-less-2 t)
     (expression-loop-again-2 t))

@@ -1,9 +1,9 @@
--- `compiler::compile_middle` meets its contract: the table has a word for each byte and one more, the draft two.
+-- `compiler::compile_256` meets its contract: the table has a word for each byte and one more, the draft one.
 use native.Mathlib.Omega.{arith}
 use borrow.Author.Needs.{needs}
 use Rattle.compiler.proofs.Answers.{no-tokens}
-use Rattle.compiler.proofs.compile_middle.Statement.{statement}
-use Rattle.compiler.proofs.compile_middle.Tie as tie
+use Rattle.compiler.proofs.compile_256.Statement.{statement}
+use Rattle.compiler.proofs.compile_256.Tie as tie
 
 slice-aggregate-compile-with : tie.Need-slice-aggregate-compile-with
 slice-aggregate-compile-with c = search needs
@@ -12,14 +12,11 @@ slice-aggregate-compile-with-2 : tie.Need-slice-aggregate-compile-with-2
 slice-aggregate-compile-with-2 c = search needs
 
 compile-with-requires : tie.Need-compile-with-requires
-compile-with-requires c κs = (
-  (
-    c .before .before .before .before .before .pre .0,
-    omega (arith, c .before .before .before .before .before .pre .1),
-    omega arith,
-  ),
-  (no-tokens 256, (omega (arith, c .before .before .before .before .before .pre .1), c .before .before .before .before .before .pre .2)),
-)
+compile-with-requires c κs =
+    let s = c .before .before .before .before .before in (
+      (s .pre .0, omega (arith, s .pre .1), omega arith),
+      (no-tokens 256, (omega (arith, s .pre .1), omega (arith, s .pre .0 .short), s .pre .2)),
+    )
 
 same-length : tie.Need-same-length
 same-length c = search needs
@@ -27,8 +24,8 @@ same-length c = search needs
 returns : tie.Need-returns
 returns c = c .before .before .before .before .compile-with .ensures
 
-pub compile-middle-spec : {M : Type 1} → statement M
-compile-middle-spec =
+pub compile-256-spec : {M : Type 1} → statement M
+compile-256-spec =
     tie.close
     (tie.spec
     slice-aggregate-compile-with
