@@ -52,7 +52,8 @@ found : {x y : BankOf} {k n : ℕ} → k ≡ n → x ≡ bankNumbered k → x �
 found a b e = sym (ap bankNumbered a) ∙ (sym b ∙ e)
 
 module _ (w : ℕ) {x : BankOf} {k : ℕ} (a : k ≡ numberOf w) (q : x ≡ bankNumbered k) where
-  pub cell-known : {b : Bank} → x ≡ Is b → {v : ℕ} → v ≡ wordOf w → ascii "LOAD " ++ cellName b v ≡ ascii "LOAD " ++ cellOf (bankNumbered (numberOf w)) (wordOf w)
+  pub cell-known : {b : Bank} → x ≡ Is b → {v : ℕ} → v ≡ wordOf w → ascii "LOAD " ++ cellName b v ≡ ascii "LOAD " ++ cellOf (bankNumbered (numberOf w))
+      (wordOf w)
   cell-known {b} e r =
       ap (λ (v : ℕ). ascii "LOAD " ++ cellName b v) r ∙ sym (ap (λ (y : BankOf). ascii "LOAD " ++ cellOf y (wordOf w)) (found a q e))
 

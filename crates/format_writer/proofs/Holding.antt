@@ -45,7 +45,8 @@ one-more o {buf} {n} bytes k l h =
 abbrev pub Carries : List ℕ → ℕ → ℕ → ℕ → List ℕ → Type 0
 Carries m c i n y = take i m ++ (c ∷ take (n - i) (drop i m)) ≡ y
 
-pub carries-first : (m : List ℕ) (n a : ℕ) (o x : List ℕ) → n < length m → take n m ≡ o ++ x → a ≡ length o → (a ≤ n) × Carries m (byte "(") a n (o ++ (byte "(" ∷ x))
+pub carries-first : (m : List ℕ) (n a : ℕ) (o x : List ℕ) → n < length m → take n m ≡ o ++ x → a ≡ length o → (a ≤ n) × Carries m
+    (byte "(") a n (o ++ (byte "(" ∷ x))
 carries-first m n a o x h e q =
     let l : n ≡ length o + length x = sym (length-take-le n m (omega arith)) ∙ ap length e ∙ length-append o x in
     let le : a ≤ n = omega arith in

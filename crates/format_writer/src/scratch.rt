@@ -54,7 +54,8 @@ fn shift(out: &mut [u8], start: usize, n: usize)
 pub fn enclose(out: &mut [u8], start: usize, n: usize) -> usize
     requires { ⌜ Counted n (now out) ⌝ }
     ensures { λ r. ⌜ Counted r (now (out .entry)) ⌝ }
-    ensures { λ r. ⌜ ((o x : List ℕ) → StartsBehind o (now (out .entry)) start → Holds (o ++ x) (now (out .entry)) n → Holds (o ++ (ascii "(" ++ (x ++ ascii ")"))) (now (out .exit)) r) ⌝ }
+    ensures { λ r. ⌜ ((o x : List ℕ) → StartsBehind o (now (out .entry)) start → Holds (o ++ x) (now (out .entry)) n → Holds
+        (o ++ (ascii "(" ++ (x ++ ascii ")"))) (now (out .exit)) r) ⌝ }
 {
     if out.len() < n + 2 {
         return out.len() + 1;

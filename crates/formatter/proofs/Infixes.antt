@@ -198,10 +198,13 @@ module _ {l : ℕ} {s table : List ℕ} {at : ℕ} {buf out : List ℕ} {n j e h
           let same : (o : List ℕ) → o ++ q ++ op ++ parenthesized (isInfix h₃) u ≡ o
           ++ formatted s (infixTree (found .number) (found .place) (v .tree) (m .right)) =
           λ o. append-assoc (o ++ q) op (parenthesized (isInfix h₃) u) ∙ append-assoc o q (op ++ parenthesized (isInfix h₃) u)
-          ∙ ap (λ (z : List ℕ). o ++ (q ++ z)) (ap (λ (z : List ℕ). ascii " " ++ (z ++ ascii " ") ++ parenthesized (isInfix h₃) u) spelt ∙ ap (λ (z : List ℕ). ascii " " ++ z) (append-assoc (symbolBytes (found .number)) (ascii " ") (parenthesized (isInfix h₃) u)))
+          ∙ ap (λ (z : List ℕ). o ++ (q ++ z)) (ap (λ (z : List ℕ). ascii " " ++ (z ++ ascii " ") ++ parenthesized (isInfix h₃) u) spelt ∙ ap
+          (λ (z : List ℕ). ascii " " ++ z) (append-assoc (symbolBytes (found .number)) (ascii " ") (parenthesized (isInfix h₃) u)))
           ∙ ap (λ (z : List ℕ). o ++ z) (
-          ap (λ (i : ℕ). parenthesized (isOtherInfix i h) t ++ (ascii " " ++ (symbolBytes (found .number) ++ (ascii " " ++ parenthesized (isInfix h₃) u)))) (sym (found .tier))
-          ∙ ap (λ (i : ℕ). parenthesized (isOtherInfix (groupNumber (found .number)) i) t ++ (ascii " " ++ (symbolBytes (found .number) ++ (ascii " " ++ parenthesized (isInfix h₃) u)))) (v .top)
+          ap (λ (i : ℕ). parenthesized (isOtherInfix i h) t ++ (ascii " " ++ (symbolBytes (found .number) ++ (ascii " " ++ parenthesized (isInfix h₃) u))))
+          (sym (found .tier))
+          ∙ ap (λ (i : ℕ). parenthesized (isOtherInfix (groupNumber (found .number)) i) t ++
+          (ascii " " ++ (symbolBytes (found .number) ++ (ascii " " ++ parenthesized (isInfix h₃) u)))) (v .top)
           ∙ ap (λ (i : ℕ). infixText (found .number) (top (v .tree)) t i u) (y .top)
           ∙ sym (i .text)) in
           record {

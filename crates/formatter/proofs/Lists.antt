@@ -167,7 +167,8 @@ module _ {s table : List ℕ} {at : ℕ} {buf out : List ℕ} {n j e : ℕ} (l :
     pub next-some : Some (SaysList s (tokensFrom table at)) → Some (SaysExpression loosest s (tokensFrom table (j + 1)))
     next-some k = items-expression (further (l .lists (k .text) (k .group) (k .left) (k .is)) .says)
 
-    pub list-goes-on : {out₁ out₂ : List ℕ} {e₁ j₂ e₂ h : ℕ} → length out₁ ≡ length buf → Appends out e out₁ e₁ (ascii ", ") → Formats (SaysExpression loosest s (tokensFrom table (j + 1))) s table (j + 1) out₁ out₂ e₁ j₂ e₂ h
+    pub list-goes-on : {out₁ out₂ : List ℕ} {e₁ j₂ e₂ h : ℕ} → length out₁ ≡ length buf → Appends out e out₁ e₁ (ascii ", ") → Formats
+        (SaysExpression loosest s (tokensFrom table (j + 1))) s table (j + 1) out₁ out₂ e₁ j₂ e₂ h
         → Listing s table at buf out₂ n j₂ e₂
     list-goes-on {out₂ = out₂} {j₂ = j₂} {e₂ = e₂} ln a f =
         record {
@@ -189,7 +190,8 @@ module _ {s table : List ℕ} {at : ℕ} {buf out : List ℕ} {n j e : ℕ} (l :
               behind = ends-with m q z (v .next);
               whole = k .whole ∙ ap (λ (u : List ℕ). b ++ (ascii ", " ++ u)) w ∙ sym (append-assoc b (ascii ", " ++ formatted s t) (symbolBytes m));
               bare = k .bare;
-              text = λ o i. held-as (append-assoc (o ++ b) (ascii ", ") (formatted s t) ∙ append-assoc o b (ascii ", " ++ formatted s t)) (v .text _ (a _ (k .text o i)));
+              text = λ o i. held-as (append-assoc (o ++ b) (ascii ", ") (formatted s t) ∙ append-assoc o b (ascii ", " ++ formatted s t))
+                  (v .text _ (a _ (k .text o i)));
             }
         go k (more {x = later} f′ d {t} q y m) w =
             let v = f .writes (formatted s t) (top t) _ (says f′ d y) in
@@ -200,7 +202,8 @@ module _ {s table : List ℕ} {at : ℕ} {buf out : List ℕ} {n j e : ℕ} (l :
               behind = goes-on q (v .next) m;
               whole = k .whole ∙ ap (λ (u : List ℕ). b ++ (ascii ", " ++ u)) w ∙ sym (append-assoc b (ascii ", " ++ formatted s t) (ascii ", " ++ later));
               bare = k .bare;
-              text = λ o i. held-as (append-assoc (o ++ b) (ascii ", ") (formatted s t) ∙ append-assoc o b (ascii ", " ++ formatted s t)) (v .text _ (a _ (k .text o i)));
+              text = λ o i. held-as (append-assoc (o ++ b) (ascii ", ") (formatted s t) ∙ append-assoc o b (ascii ", " ++ formatted s t))
+                  (v .text _ (a _ (k .text o i)));
             }
 
   -- the closing bracket

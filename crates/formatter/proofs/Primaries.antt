@@ -62,7 +62,8 @@ record Listed (s : List ℕ) (m : ℕ) (us : Arguments) (ts r : List Tok) : Type
   says : SaysItems s ts (separated (texts s us) ++ ascii ")") r
 
 -- the text of one more argument before others
-join : (s : List ℕ) (t : Tree) (us : Arguments) → formatted s t ++ (ascii ", " ++ (separated (texts s us) ++ ascii ")")) ≡ separated (texts s (more t us)) ++ ascii ")"
+join : (s : List ℕ) (t : Tree) (us : Arguments) → formatted s t ++ (ascii ", " ++ (separated (texts s us) ++ ascii ")")) ≡ separated
+    (texts s (more t us)) ++ ascii ")"
 join s t (one u) = sym (append-assoc (formatted s t) (ascii ", " ++ separated (texts s (one u))) (ascii ")"))
 join s t (more u us) = sym (append-assoc (formatted s t) (ascii ", " ++ separated (texts s (more u us))) (ascii ")"))
 
@@ -102,7 +103,8 @@ unfolding expression groupNumber
 count-says s n p c zs = refl
 
 range-says : (s : List ℕ) (b : Bank) (i : ℕ) (n : ℤ) (o q p c : ℕ) (r : List Tok)
-    → SaysItems s (tok (Cell b i) o ∷ tok (Symbol comma) q ∷ tok (Number (Int n)) p ∷ tok (Symbol closeParen) c ∷ r) (cellName b i ++ (ascii ", " ++ (lexeme s p ++ ascii ")"))) r
+    → SaysItems s (tok (Cell b i) o ∷ tok (Symbol comma) q ∷ tok (Number (Int n)) p ∷ tok (Symbol closeParen) c ∷ r)
+    (cellName b i ++ (ascii ", " ++ (lexeme s p ++ ascii ")"))) r
 unfolding formatted
 range-says s b i n o q p c r = more-of 4 0 q (cell-says s b i o q _) (last 4 0 closeParen c (λ z. omega arith) (count-says s n p c r))
 
@@ -142,7 +144,13 @@ module _ (s : List ℕ) (g : Function) (p e : ℕ) (h : Stands s (Name g) p e) (
       let o = ok-tree (a .then) in
       let l = listed s f d (moreArguments c) ts (a .is ∙ ap (ok (a .first)) (o .1)) in
       let k = called s p w refl (l .many) in
-      record { bytes = separated (texts s (a .first)) ++ ascii ")"; says = items (l .says); text = ap (formatted s) (sym (o .0)) ∙ k .0; group = ap top (sym (o .0)) ∙ k .1 }
+      record {
+        bytes = separated (texts s (a .first)) ++ ascii ")";
+        says = items (l .says);
+        text = ap (formatted s) (sym (o .0)) ∙ k .0;
+        group = ap top
+            (sym (o .0)) ∙ k .1;
+      }
 
   clock-call : nameOf g ≡ nameOf TickMs → expect closeParen ts (λ z. ok tick z) ≡ ok t r → CallOf s p ts t r
   unfolding formatted
@@ -166,7 +174,8 @@ module _ (s : List ℕ) (g : Function) (p e : ℕ) (h : Stands s (Name g) p e) (
       let i = x .element in
       record {
         bytes = cellName b i ++ (ascii ", " ++ (lexeme s (x .p) ++ ascii ")"));
-        says = items (subst (λ (z : List Tok). SaysItems s z (cellName b i ++ (ascii ", " ++ (lexeme s (x .p) ++ ascii ")"))) r) (sym (x .is)) (range-says s b i (x .count) (x .o) (x .q) (x .p) (x .c) r));
+        says = items (subst (λ (z : List Tok). SaysItems s z (cellName b i ++ (ascii ", " ++ (lexeme s (x .p) ++ ascii ")"))) r) (sym (x .is))
+            (range-says s b i (x .count) (x .o) (x .q) (x .p) (x .c) r));
         text = ap (formatted s) (x .tree) ∙ ap (λ (z : List ℕ). z ++ (ascii "(" ++ (separated (cellName b i ∷ lexeme s (x .p) ∷ []) ++ ascii ")"))) name
             ∙ ap (λ (z : List ℕ). lexeme s p ++ (ascii "(" ++ z)) (append-assoc (cellName b i) (ascii ", " ++ lexeme s (x .p)) (ascii ")"));
         group = ap top (x .tree);
@@ -184,7 +193,8 @@ module _ (s : List ℕ) (g : Function) (p e : ℕ) (h : Stands s (Name g) p e) (
       let i = x .element in
       let v = formatted s (a .first) in
       let range = cellName b i ++ (ascii ", " ++ (lexeme s (x .p) ++ ascii ")")) in
-      let tail : (cellName b i ++ (ascii ", " ++ lexeme s (x .p))) ++ ascii ")" ≡ range = append-assoc (cellName b i) (ascii ", " ++ lexeme s (x .p)) (ascii ")") in
+      let tail : (cellName b i ++ (ascii ", " ++ lexeme s (x .p))) ++ ascii ")" ≡ range = append-assoc (cellName b i) (ascii ", " ++ lexeme s (x .p))
+      (ascii ")") in
       let q : expression f d loosest ts ≡ ok (a .first) (tok (Symbol comma) (c .place) ∷ c .left) = a .is ∙ ap (ok (a .first)) (c .is) in
       let w : SaysItems s (c .left) range r = subst (λ (z : List Tok). SaysItems s z range r) (sym (x .is))
       (range-says s b i (x .count) (x .o) (x .q) (x .p) (x .c) r) in
@@ -192,7 +202,8 @@ module _ (s : List ℕ) (g : Function) (p e : ℕ) (h : Stands s (Name g) p e) (
         bytes = v ++ (ascii ", " ++ range);
         says = items (more-of f d (c .place) q w);
         text = ap (formatted s) (x .tree) ∙ ap (λ (z : List ℕ). z ++ (ascii "(" ++ (separated (v ∷ cellName b i ∷ lexeme s (x .p) ∷ []) ++ ascii ")"))) name
-            ∙ ap (λ (z : List ℕ). lexeme s p ++ (ascii "(" ++ z)) (append-assoc v (ascii ", " ++ (cellName b i ++ (ascii ", " ++ lexeme s (x .p)))) (ascii ")") ∙ ap (λ (z : List ℕ). v ++ (ascii ", " ++ z)) tail);
+            ∙ ap (λ (z : List ℕ). lexeme s p ++ (ascii "(" ++ z)) (append-assoc v (ascii ", " ++ (cellName b i ++ (ascii ", " ++ lexeme s (x .p))))
+            (ascii ")") ∙ ap (λ (z : List ℕ). v ++ (ascii ", " ++ z)) tail);
         group = ap top (x .tree);
       }
 

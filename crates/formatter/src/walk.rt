@@ -81,7 +81,8 @@ fn left_end(out: &mut [u8], start: usize, end: usize, top: u8, g: u8) -> usize
 fn operator(text: &[u8], out: &mut [u8], n: usize, w: u64) -> usize
     requires { ⌜ Counted n (now out) × StandsAt (now text) (wordPlace w) (wordOperand w) ⌝ }
     ensures { λ r. ⌜ Counted r (now (out .entry)) ⌝ }
-    ensures { λ r. ⌜ ((o : List ℕ) → Holds o (now (out .entry)) n → Holds (o ++ (ascii " " ++ (lexeme (now (text .entry)) (wordPlace w) ++ ascii " "))) (now (out .exit)) r) ⌝ }
+    ensures { λ r. ⌜ ((o : List ℕ) → Holds o (now (out .entry)) n → Holds (o ++ (ascii " " ++ (lexeme (now (text .entry)) (wordPlace w) ++ ascii " ")))
+        (now (out .exit)) r) ⌝ }
 {
     let before = scratch::put(out, n, b' ');
     let end = token(text, out, before, w);

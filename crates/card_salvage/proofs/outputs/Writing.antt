@@ -79,7 +79,8 @@ module _ {f old old′ now now′ : List ℕ} {kept-at named-at at last : ℕ} (
 
 -- ---- the three lines of a name
 pub lines-of : (first size a : ℕ)
-    → (((((ascii "first=" ++ decimalText first) ++ (10 ∷ ascii "length=")) ++ decimalText size) ++ (10 ∷ ascii "answer=")) ++ decimalText a) ++ (10 ∷ []) ≡ nameLines first size a
+    → (((((ascii "first=" ++ decimalText first) ++ (10 ∷ ascii "length=")) ++ decimalText size) ++ (10 ∷ ascii "answer=")) ++ decimalText a) ++
+    (10 ∷ []) ≡ nameLines first size a
 unfolding nameLines
 lines-of first size a =
     let x : List ℕ = ascii "first=" ++ decimalText first in

@@ -96,13 +96,11 @@ add-t29 : tie.Need-add-t29
 add-t29 c = search needs
 
 returns : tie.Need-returns
-returns c = given (c .before .before .before .before .before .before .before .before .before .before .before .args .texts .now)
-    (c .before .before .before .before .before .before .before .before .before .before .before .args .cards .now)
-    (c .before .before .before .before .before .before .before .before .before .before .before .args .k) _ _ _ _
-    (clip (c .before .before .before .before .before .before .before .before .before .before .before .args .texts .now) _ _ _ _
-    (c .before .before .before .before .before .before .before .least .ensures) (c .before .before .least3 .ensures))
-    (clip (c .before .before .before .before .before .before .before .before .before .before .before .args .texts .now) _ _ _ _
-    (c .before .before .before .before .before .least2 .ensures) (c .least4 .ensures))
+returns c =
+    let at-args = c .before .before .before .before .before .before .before .before .before .before .before in
+    given (at-args .args .texts .now) (at-args .args .cards .now) (at-args .args .k) _ _ _ _ (clip (at-args .args .texts .now) _ _ _ _
+    (c .before .before .before .before .before .before .before .least .ensures) (c .before .before .least3 .ensures)) (clip
+    (at-args .args .texts .now) _ _ _ _ (c .before .before .before .before .before .least2 .ensures) (c .least4 .ensures))
 
 pub card-at-spec : {M : Type 1} → statement M
 card-at-spec =

@@ -29,13 +29,13 @@ part-card-verdict-end : tie.Need-part-card-verdict-end Inv-loop μ-loop
 part-card-verdict-end c = omega (arith, c .card-at .ensures .target-order, c .card-at .ensures .target-inside)
 
 sub-card-verdict-2 : tie.Need-sub-card-verdict-2 Inv-loop μ-loop
-sub-card-verdict-2 c = omega (arith, c .before .card-at .ensures .expr-order, c .before .card-at .ensures .expr-inside)
+sub-card-verdict-2 c = omega (arith, c .before .card-at .ensures)
 
 part-card-verdict-start-2 : tie.Need-part-card-verdict-start-2 Inv-loop μ-loop
-part-card-verdict-start-2 c = omega (arith, c .before .card-at .ensures .expr-order, c .before .card-at .ensures .expr-inside)
+part-card-verdict-start-2 c = omega (arith, c .before .card-at .ensures)
 
 part-card-verdict-end-2 : tie.Need-part-card-verdict-end-2 Inv-loop μ-loop
-part-card-verdict-end-2 c = omega (arith, c .before .card-at .ensures .expr-order, c .before .card-at .ensures .expr-inside)
+part-card-verdict-end-2 c = omega (arith, c .before .card-at .ensures)
 
 card-verdict-requires : tie.Need-card-verdict-requires Inv-loop μ-loop
 card-verdict-requires c κs = search needs
@@ -89,11 +89,7 @@ add-at-2 c = omega (
 )
 
 sub-at : tie.Need-sub-at Inv-loop μ-loop
-sub-at c = omega (
-  arith,
-  c .before .before .before .before .before .before .before .card-at .ensures .target-order,
-  c .before .before .before .before .before .before .before .card-at .ensures .target-inside,
-)
+sub-at c = omega (arith, c .before .before .before .before .before .before .before .card-at .ensures)
 
 add-at-3 : tie.Need-add-at-3 Inv-loop μ-loop
 add-at-3 c = omega (
@@ -110,11 +106,7 @@ add-at-3 c = omega (
 )
 
 sub-at-2 : tie.Need-sub-at-2 Inv-loop μ-loop
-sub-at-2 c = omega (
-  arith,
-  c .before .before .before .before .before .before .before .card-at .ensures .expr-order,
-  c .before .before .before .before .before .before .before .card-at .ensures .expr-inside,
-)
+sub-at-2 c = omega (arith, c .before .before .before .before .before .before .before .card-at .ensures)
 
 add-at-4 : tie.Need-add-at-4 Inv-loop μ-loop
 add-at-4 c = omega (

@@ -174,15 +174,13 @@ put-all-requires-5 c κs = omega (
 )
 
 same-length : tie.Need-same-length
-same-length c = put-length (then (then (then (then (then (then (c .before .before .before .before .before .before .before .before .before .before .before
-    .before .before .before .before .before .before .before .before .before .before .before .before .before .before .before .before .before .before .before
-    .before .before .before .before .put-all .ensures) (c .before .before .before .before .before .before .before .before .before .before .before .before
-    .before .before .before .before .before .before .before .before .before .before .before .before .before .before .before .before .before .before
-    .put-decimal .ensures .0)) (c .before .before .before .before .before .before .before .before .before .before .before .before .before .before .before
-    .before .before .before .before .before .before .before .before .before .before .put-all2 .ensures))
-    (c .before .before .before .before .before .before .before .before .before .before .before .before .before .before .before .before .before .before
-    .before .before .before .put-lines .ensures)) (c .before .before .before .before .before .before .before .before .before .before .before .before
-    .put-all3 .ensures)) (c .before .before .before .before .before .before .before .put-all4 .ensures)) (c .before .before .put-all5 .ensures))
+same-length c =
+    let at-put-all4 = c .before .before .before .before .before .before .before in
+    let at-put-lines = at-put-all4 .before .before .before .before .before .before .before .before .before .before .before .before .before .before in
+    let at-put-decimal = at-put-lines .before .before .before .before .before .before .before .before .before in
+    put-length (then (then (then (then (then (then (at-put-decimal .before .before .before .before .put-all .ensures) (at-put-decimal .put-decimal
+    .ensures .0)) (at-put-lines .before .before .before .before .put-all2 .ensures)) (at-put-lines .put-lines .ensures)) (at-put-all4 .before .before
+    .before .before .before .put-all3 .ensures)) (at-put-all4 .put-all4 .ensures)) (c .before .before .put-all5 .ensures))
 
 returns : tie.Need-returns
 returns c = as-text (card-of (c .before .before .before .before .before .before .before .before .before .before .before .before .before .before .before

@@ -20,22 +20,22 @@ card-at-requires : tie.Need-card-at-requires Inv-loop μ-loop
 card-at-requires c κs = omega (arith, c .loop-test .taken)
 
 sub-put-card : tie.Need-sub-put-card Inv-loop μ-loop
-sub-put-card c = omega (arith, c .before .card-at .ensures .target-order, c .before .card-at .ensures .target-inside)
+sub-put-card c = omega (arith, c .before .card-at .ensures)
 
 part-put-card-start : tie.Need-part-put-card-start Inv-loop μ-loop
-part-put-card-start c = omega (arith, c .before .card-at .ensures .target-order, c .before .card-at .ensures .target-inside)
+part-put-card-start c = omega (arith, c .before .card-at .ensures)
 
 part-put-card-end : tie.Need-part-put-card-end Inv-loop μ-loop
-part-put-card-end c = omega (arith, c .before .card-at .ensures .target-order, c .before .card-at .ensures .target-inside)
+part-put-card-end c = omega (arith, c .before .card-at .ensures)
 
 sub-put-card-2 : tie.Need-sub-put-card-2 Inv-loop μ-loop
-sub-put-card-2 c = omega (arith, c .before .before .card-at .ensures .expr-order, c .before .before .card-at .ensures .expr-inside)
+sub-put-card-2 c = omega (arith, c .before .before .card-at .ensures)
 
 part-put-card-start-2 : tie.Need-part-put-card-start-2 Inv-loop μ-loop
-part-put-card-start-2 c = omega (arith, c .before .before .card-at .ensures .expr-order, c .before .before .card-at .ensures .expr-inside)
+part-put-card-start-2 c = omega (arith, c .before .before .card-at .ensures)
 
 part-put-card-end-2 : tie.Need-part-put-card-end-2 Inv-loop μ-loop
-part-put-card-end-2 c = omega (arith, c .before .before .card-at .ensures .expr-order, c .before .before .card-at .ensures .expr-inside)
+part-put-card-end-2 c = omega (arith, c .before .before .card-at .ensures)
 
 put-card-requires : tie.Need-put-card-requires Inv-loop μ-loop
 put-card-requires c κs = omega (
@@ -55,12 +55,11 @@ loop-less : tie.Need-loop-less Inv-loop μ-loop
 loop-less c = search needs
 
 loop-again : tie.Need-loop-again Inv-loop μ-loop
-loop-again c = next (c .before .before .before .before .before .before .before .before .loop .inv)
-    (left (c .before .before .before .before .before .before .before .before .before .before .before .before .args .texts .now)
-    (c .before .before .before .before .before .before .before .before .before .before .before .before .args .cards .now) _
-    (c .before .before .before .before .before .before .before .before .loop .k) (c .before .before .before .before .before .before .card-at .result)
-    (c .before .before .before .before .before .before .before .loop-test .taken) (c .before .before .before .before .before .before .card-at .ensures))
-    (c .before .before .put-card .ensures)
+loop-again c =
+    let at-card-at = c .before .before .before .before .before .before in
+    let at-args = at-card-at .before .before .before .before .before .before in
+    next (at-card-at .before .before .loop .inv) (left (at-args .args .texts .now) (at-args .args .cards .now) _ (at-card-at .before .before .loop .k)
+    (at-card-at .card-at .result) (at-card-at .before .loop-test .taken) (at-card-at .card-at .ensures)) (c .before .before .put-card .ensures)
 
 same-length : tie.Need-same-length Inv-loop μ-loop
 same-length c = long (c .before .loop .inv)

@@ -33,14 +33,13 @@ same-length : tie.Need-same-length
 same-length c = search needs
 
 returns : tie.Need-returns
-returns c = as-text (lines-of (c .before .before .before .before .before .before .before .before .before .before .before .before .before .before .before
-    .before .before .before .before .before .before .before .before .before .before .before .args .target .now)
-    (c .before .before .before .before .before .before .before .before .before .before .before .before .before .before .before .before .before .before
-    .before .before .before .before .before .before .before .before .args .expr .now))
-    (then (then (then (then (c .before .before .before .before .before .before .before .before .before .before .before .before .before .before .before
-    .before .before .before .before .before .put-all .ensures) (c .before .before .before .before .before .before .before .before .before .before .before
-    .before .before .before .before .before .put-all2 .ensures)) (c .before .before .before .before .before .before .before .before .before .before .before
-    .put-all3 .ensures)) (c .before .before .before .before .before .before .before .put-all4 .ensures)) (c .before .before .put-all5 .ensures))
+returns c =
+    let at-put-all4 = c .before .before .before .before .before .before .before in
+    let at-put-all2 = at-put-all4 .before .before .before .before .before .before .before .before .before in
+    let at-args = at-put-all2 .before .before .before .before .before .before .before .before .before .before in
+    as-text (lines-of (at-args .args .target .now) (at-args .args .expr .now)) (then (then (then (then
+    (at-put-all2 .before .before .before .before .put-all .ensures) (at-put-all2 .put-all2 .ensures))
+    (at-put-all4 .before .before .before .before .put-all3 .ensures)) (at-put-all4 .put-all4 .ensures)) (c .before .before .put-all5 .ensures))
 
 pub put-lines-spec : {M : Type 1} → statement M
 put-lines-spec =

@@ -17,26 +17,23 @@ judge-cards-requires : tie.Need-judge-cards-requires
 judge-cards-requires c κs = search needs
 
 put-cards-requires : tie.Need-put-cards-requires
-put-cards-requires c κs = (
-  few (c .before .before .before .before .before .before .before .args .out .now)
-      (c .before .before .before .before .before .before .before .args .texts .now)
-      (c .before .before .before .before .before .before .before .args .cards .now)
-      (sym (not-false _ (c .before .before .if1 .left)) ∙ c .before .before .before .fits2 .ensures) (c .before .judge-cards .ensures),
-  small (c .before .before .before .before .before .before .before .args .out .now)
-      (c .before .before .before .before .before .before .before .args .texts .now)
-      (c .before .before .before .before .before .before .before .args .cards .now)
-      (sym (not-false _ (c .before .before .if1 .left)) ∙ c .before .before .before .fits2 .ensures) (c .before .judge-cards .ensures),
-)
+put-cards-requires c κs =
+    let at-if1 = c .before .before in
+    let at-args = at-if1 .before .before .before .before .before in (
+      few (at-args .args .out .now) (at-args .args .texts .now) (at-args .args .cards .now) (sym (not-false _ (at-if1 .if1 .left))
+          ∙ at-if1 .before .fits2 .ensures) (c .before .judge-cards .ensures),
+      small (at-args .args .out .now) (at-args .args .texts .now)
+          (at-args .args .cards .now) (sym (not-false _ (at-if1 .if1 .left)) ∙ at-if1 .before .fits2 .ensures) (c .before .judge-cards .ensures),
+    )
 
 same-length : tie.Need-same-length
 same-length c = search needs
 
 returns-2 : tie.Need-returns-2
-returns-2 c = judged-so (c .before .before .before .before .before .before .before .before .before .before .args .out .now)
-    (c .before .before .before .before .before .before .before .before .before .before .args .texts .now)
-    (c .before .before .before .before .before .before .before .before .before .before .args .cards .now)
-    (sym (not-false _ (c .before .before .before .before .before .if1 .left)) ∙ c .before .before .before .before .before .before .fits2 .ensures)
-    (c .before .before .before .before .judge-cards .ensures) (c .before .before .put-cards .ensures)
+returns-2 c = judged-so (c .before .before .before .before .before .before .before .before .before .before .args .out .now) (c .before .before .before
+    .before .before .before .before .before .before .before .args .texts .now) (c .before .before .before .before .before .before .before .before
+    .before .before .args .cards .now) (sym (not-false _ (c .before .before .before .before .before .if1 .left)) ∙ c .before .before .before .before
+    .before .before .fits2 .ensures) (c .before .before .before .before .judge-cards .ensures) (c .before .before .put-cards .ensures)
 
 pub write-spec : {M : Type 1} → statement M
 write-spec =

@@ -42,8 +42,22 @@ same-length : tie.Need-same-length
 same-length c = search needs
 
 returns : tie.Need-returns
-returns c =
-    (as-text (letter-known (c .before .before .before .before .before .before .before .before .before .before .before .before .before .before .before .before .before .args .w) (c .before .before .before .before .before .before .before .before .before .before .number-of .ensures) (c .before .before .before .before .before .before .before .before .before .bank-numbered .ensures) (c .before .before .before .before .before .before .before .bank .given .1) (c .before .before .before .bank-number .ensures)) (then (c .before .before .before .before .before .before .before .before .before .before .before .before .before .put-all .ensures) (c .before .before .put-row .ensures)), omega (arith, c .before .before .put-row .ensures .end, c .before .before .before .before .before .before .before .before .before .before .before .before .before .put-all .ensures .end, row-length 1 (c .before .before .before .bank-number .result) (ascii "X\nC\nV\nN\nD\nR") tt))
+returns c = (
+  as-text (letter-known (c .before .before .before .before .before .before .before .before .before .before .before .before .before .before .before
+      .before .before .args .w) (c .before .before .before .before .before .before .before .before .before .before .number-of .ensures)
+      (c .before .before .before .before .before .before .before .before .before .bank-numbered .ensures)
+      (c .before .before .before .before .before .before .before .bank .given .1) (c .before .before .before .bank-number .ensures))
+      (then (c .before .before .before .before .before .before .before .before .before .before .before .before .before .put-all .ensures)
+      (c .before .before .put-row .ensures)),
+  omega (
+    arith,
+    c .before .before .put-row .ensures .end,
+    c .before .before .before .before .before .before
+        .before .before .before .before .before .before .before .put-all .ensures .end,
+    row-length 1 (c .before .before .before .bank-number .result)
+        (ascii "X\nC\nV\nN\nD\nR") tt,
+  ),
+)
 
 same-length-2 : tie.Need-same-length-2
 same-length-2 c = search needs

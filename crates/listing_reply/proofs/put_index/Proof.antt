@@ -30,23 +30,62 @@ cast-put-row : tie.Need-cast-put-row
 cast-put-row c = search needs
 
 put-row-requires : tie.Need-put-row-requires
-put-row-requires c κs = omega (arith, c .before .before .before .before .before .put-all .ensures .end, row-length 1 (c .bank-number .result) (ascii "X\nC\nV\nN\nD\nR") tt)
+put-row-requires c κs = omega (
+  arith,
+  c .before .before .before .before .before .put-all .ensures .end,
+  row-length 1 (c .bank-number .result)
+      (ascii "X\nC\nV\nN\nD\nR") tt,
+)
 
 slice-aggregate-put-all-2 : tie.Need-slice-aggregate-put-all-2
 slice-aggregate-put-all-2 c = search needs
 
 put-all-requires-2 : tie.Need-put-all-requires-2
-put-all-requires-2 c κs = omega (arith, c .before .before .before .before .before .before .before .before .before .before .put-all .ensures .end, c .before .before .before .before .put-row .ensures .end, row-length 1 (c .before .before .before .before .before .bank-number .result) (ascii "X\nC\nV\nN\nD\nR") tt)
+put-all-requires-2 c κs = omega (
+  arith,
+  c .before .before .before .before .before .before .before .before .before .before .put-all .ensures .end,
+  c .before
+      .before .before .before .put-row .ensures .end,
+  row-length 1 (c .before .before .before .before .before .bank-number .result) (ascii "X\nC\nV\nN\nD\nR") tt,
+)
 
 put-code-requires : tie.Need-put-code-requires
-put-code-requires c κs = omega (arith, c .before .before .before .put-all2 .ensures .end, c .before .before .before .before .before .before .before .before .before .before .before .before .before .before .put-all .ensures .end, c .before .before .before .before .before .before .before .before .put-row .ensures .end, row-length 1 (c .before .before .before .before .before .before .before .before .before .bank-number .result) (ascii "X\nC\nV\nN\nD\nR") tt)
+put-code-requires c κs = omega (
+  arith,
+  c .before .before .before .put-all2 .ensures .end,
+  c .before .before .before .before .before .before .before .before
+      .before .before .before .before .before .before .put-all .ensures .end,
+  c .before .before .before .before .before .before .before .before .put-row
+      .ensures .end,
+  row-length 1 (c .before .before .before .before .before .before .before .before .before .bank-number .result) (ascii "X\nC\nV\nN\nD\nR") tt,
+)
 
 same-length : tie.Need-same-length
 same-length c = search needs
 
 returns-2 : tie.Need-returns-2
-returns-2 c =
-    (as-text (with-index (c .before .before .before .before .before .before .before .before .before .before .before .before .before .before .before .before .before .before .before .before .before .before .before .args .index .now) (c .before .before .before .before .before .before .before .before .before .before .before .before .before .before .before .before .before .before .before .before .before .before .before .args .bank) (c .before .before .before .before .before .before .before .before .before .before .before .before .before .before .before .before .before .before .before .before .if1 .left) (c .before .before .before .before .before .before .before .before .before .before .before .before .bank-number .ensures)) (then (then (then (c .before .before .before .before .before .before .before .before .before .before .before .before .before .before .before .before .before .put-all .ensures) (c .before .before .before .before .before .before .before .before .before .before .before .put-row .ensures)) (c .before .before .before .before .before .before .put-all2 .ensures)) (c .before .before .put-code .ensures .0)), omega (arith, c .before .before .put-code .ensures .1, c .before .before .before .before .before .before .put-all2 .ensures .end, c .before .before .before .before .before .before .before .before .before .before .before .before .before .before .before .before .before .put-all .ensures .end, c .before .before .before .before .before .before .before .before .before .before .before .put-row .ensures .end, row-length 1 (c .before .before .before .before .before .before .before .before .before .before .before .before .bank-number .result) (ascii "X\nC\nV\nN\nD\nR") tt))
+returns-2 c = (
+  as-text (with-index (c .before .before .before .before .before .before .before .before .before .before .before .before .before .before .before .before
+      .before .before .before .before .before .before .before .args .index .now)
+      (c .before .before .before .before .before .before .before .before .before .before .before .before .before .before .before .before .before .before
+      .before .before .before .before .before .args .bank) (c .before .before .before .before .before .before .before .before .before .before .before
+      .before .before .before .before .before .before .before .before .before .if1 .left)
+      (c .before .before .before .before .before .before .before .before .before .before .before .before .bank-number .ensures))
+      (then (then (then (c .before .before .before .before .before .before .before .before .before .before .before .before .before .before .before
+      .before .before .put-all .ensures) (c .before .before .before .before .before .before .before .before .before .before .before .put-row .ensures))
+      (c .before .before .before .before .before .before .put-all2 .ensures)) (c .before .before .put-code .ensures .0)),
+  omega (
+    arith,
+    c .before .before .put-code .ensures .1,
+    c .before .before .before .before .before .before .put-all2 .ensures .end,
+    c .before .before
+        .before .before .before .before .before .before .before .before .before .before .before .before .before .before .before .put-all .ensures .end,
+    c
+        .before .before .before .before .before .before .before .before .before .before .before .put-row .ensures .end,
+    row-length 1
+        (c .before .before .before .before .before .before .before .before .before .before .before .before .bank-number .result) (ascii "X\nC\nV\nN\nD\nR") tt,
+  ),
+)
 
 pub put-index-spec : {M : Type 1} → statement M
 put-index-spec =

@@ -15,11 +15,10 @@ same-length : tie.Need-same-length
 same-length c = search needs
 
 returns : tie.Need-returns
-returns c = unknown (c .before .before .before .before .before .before .before .before .before .args .k)
-    (c .before .before .before .before .before .before .before .before .before .args .memory .now)
-    (c .before .before .before .before .before .before .before .before .before .args .tick)
-    (lacking (c .before .before .before .before .before .find-card .ensures) (c .before .before .before .before .if1 .taken))
-    (c .before .before .put-unknown .ensures .0) (c .before .before .put-unknown .ensures .1)
+returns c = unknown (c .before .before .before .before .before .before .before .before .before .args .k) (c .before .before .before .before .before
+    .before .before .before .before .args .memory .now) (c .before .before .before .before .before .before .before .before .before .args .tick)
+    (lacking (c .before .before .before .before .before .find-card .ensures) (c .before .before .before .before .if1 .taken)) (c .before .before
+    .put-unknown .ensures .0) (c .before .before .put-unknown .ensures .1)
 
 add-target : tie.Need-add-target
 add-target c = omega (arith, (located (c .before .find-card .ensures) (c .if1 .left)) .high)
@@ -125,24 +124,18 @@ compile-and-run-requires : tie.Need-compile-and-run-requires
 compile-and-run-requires c κs = search needs
 
 put-reply-requires : tie.Need-put-reply-requires
-put-reply-requires c κs = (
-  search needs,
-  (
-    cell-inside (c .before .before .before .before .before .before .before .before .before .before .before .before
-        .before .before .before .before .before .before .before .before .before .before .before .args .tick)
-        (c .before .before .before .before .before .before .before .before .before .before .before .before .before .before .before .before .before .before
-        .before .before .before .before .before .args .memory .now) (part-cut
-        ((located (c .before .before .before .before .before .before .before .before .before .before .before .before .before .before .before .before .before
-        .before .before .find-card .ensures) (c .before .before .before .before .before .before .before .before .before .before .before .before .before .before
-        .before .before .before .before .if1 .left)) .target-part)) (part-cut
-        ((located (c .before .before .before .before .before .before .before .before .before .before .before .before .before .before .before .before .before
-        .before .before .find-card .ensures) (c .before .before .before .before .before .before .before .before .before .before .before .before .before .before
-        .before .before .before .before .if1 .left)) .expr-part)) (c .before .before .before .before .before .before .before .before .before .before .before
-        .before .before .blank-code .ensures .1) (c .before .before .before .before .before .before .before .before .before .before .before .before .blank-code2
-        .ensures .1) (c .before .before .before .before .before .before .compile-and-run .ensures .0),
-    search needs,
-  ),
-)
+put-reply-requires c κs =
+    let at-blank-code2 = c .before .before .before .before .before .before .before .before .before .before .before .before in
+    let at-if1 = at-blank-code2 .before .before .before .before .before .before in
+    let its-located = located (at-if1 .before .find-card .ensures) (at-if1 .if1 .left) in (
+      search needs,
+      (
+        cell-inside (at-if1 .before .before .before .before .before .args .tick) (at-if1 .before .before .before .before .before .args
+            .memory .now) (part-cut (its-located .target-part)) (part-cut (its-located .expr-part)) (at-blank-code2 .before .blank-code .ensures .1)
+            (at-blank-code2 .blank-code2 .ensures .1) (c .before .before .before .before .before .before .compile-and-run .ensures .0),
+        search needs,
+      ),
+    )
 
 same-length-2 : tie.Need-same-length-2
 same-length-2 c = search needs
@@ -151,27 +144,15 @@ same-length-3 : tie.Need-same-length-3
 same-length-3 c = search needs
 
 returns-2 : tie.Need-returns-2
-returns-2 c = ran (c .before .before .before .before .before .before .before .before .before .before .before .before .before .before .before .before .before
-    .before .before .before .before .before .before .before .before .before .args .k)
-    (c .before .before .before .before .before .before .before .before .before .before .before .before .before .before .before .before .before .before
-    .before .before .before .before .before .before .before .before .args .memory .now)
-    (c .before .before .before .before .before .before .before .before .before .before .before .before .before .before .before .before .before .before
-    .before .before .before .before .before .before .before .before .args .tick)
-    ((located (c .before .before .before .before .before .before .before .before .before .before .before .before .before .before .before .before .before
-    .before .before .before .before .before .find-card .ensures) (c .before .before .before .before .before .before .before .before .before .before .before
-    .before .before .before .before .before .before .before .before .before .before .if1 .left)) .is)
-    (part-cut ((located (c .before .before .before .before .before .before .before .before .before .before .before .before .before .before .before .before
-    .before .before .before .before .before .before .find-card .ensures)
-    (c .before .before .before .before .before .before .before .before .before .before .before .before .before .before .before .before .before .before
-    .before .before .before .if1 .left)) .target-part)) (part-cut
-    ((located (c .before .before .before .before .before .before .before .before .before .before .before .before .before .before .before .before .before
-    .before .before .before .before .before .find-card .ensures) (c .before .before .before .before .before .before .before .before .before .before .before
-    .before .before .before .before .before .before .before .before .before .before .if1 .left)) .expr-part))
-    (c .before .before .before .before .before .before .before .before .before .before .before .before .before .before .before .before .blank-code .ensures
-    .1) (c .before .before .before .before .before .before .before .before .before .before .before .before .before .before .before .blank-code2 .ensures .1)
-    (c .before .before .before .before .before .before .before .before .before .compile-and-run .ensures .0)
-    (c .before .before .before .before .before .before .before .before .before .compile-and-run .ensures .1 .0) (c .before .before .put-reply .ensures .0)
-    (c .before .before .put-reply .ensures .1)
+returns-2 c =
+    let at-compile-and-run = c .before .before .before .before .before .before .before .before .before in
+    let at-blank-code2 = at-compile-and-run .before .before .before .before .before .before in
+    let at-if1 = at-blank-code2 .before .before .before .before .before .before in
+    let its-located = located (at-if1 .before .find-card .ensures) (at-if1 .if1 .left) in
+    ran (at-if1 .before .before .before .before .before .args .k) (at-if1 .before .before .before .before .before .args .memory .now) (at-if1 .before
+    .before .before .before .before .args .tick) (its-located .is) (part-cut (its-located .target-part)) (part-cut (its-located .expr-part))
+    (at-blank-code2 .before .blank-code .ensures .1) (at-blank-code2 .blank-code2 .ensures .1) (at-compile-and-run .compile-and-run .ensures .0)
+    (at-compile-and-run .compile-and-run .ensures .1 .0) (c .before .before .put-reply .ensures .0) (c .before .before .put-reply .ensures .1)
 
 pub run-card-spec : {M : Type 1} → statement M
 run-card-spec =

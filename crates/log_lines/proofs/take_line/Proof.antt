@@ -13,12 +13,12 @@ enum-known-entry : tie.Need-enum-known-entry
 enum-known-entry c = search needs
 
 put-requires : tie.Need-put-requires
-put-requires c κs = (
-  has-cell (c .before .before .before .before .before .before .before .args .memory .now) (c .before .before .entry .given .0 .0)
-      (c .before .before .entry .given .0 .1 .0) (c .before .before .before .before .before .before .before .pre .1 .0)
-      (c .before .before .before .before .before .before .before .pre .1 .2 .inside (c .before .before .entry .given .1)),
-  c .before .before .before .before .before .before .before .pre .1 .2 .holds (c .before .before .entry .given .1),
-)
+put-requires c κs =
+    let at-args = c .before .before .before .before .before .before .before in (
+      has-cell (at-args .args .memory .now) (c .before .before .entry .given .0 .0) (c .before .before .entry .given .0 .1 .0) (at-args .pre .1 .0)
+          (at-args .pre .1 .2 .inside (c .before .before .entry .given .1)),
+      at-args .pre .1 .2 .holds (c .before .before .entry .given .1),
+    )
 
 enum-known-entry-2 : tie.Need-enum-known-entry-2
 enum-known-entry-2 c = search needs
@@ -56,18 +56,15 @@ same-length : tie.Need-same-length
 same-length c = search needs
 
 returns : tie.Need-returns
-returns c = λ e q. changed (cardsIn (c .before .before .before .before .before .before .before .before .before .before .args .cards .now))
-    (c .before .before .before .before .before .before .before .before .before .before .args .memory .now)
-    (c .before .before .before .before .before .before .before .before .before .before .args .tick)
-    (c .before .before .before .before .before .before .before .before .before .before .args .out .now)
-    (c .before .before .before .before .before .before .before .before .before .before .args .at)
-    (c .before .before .put .ensures) e (sym (c .before .before .before .before .before .entry .given .1) ∙ q)
+returns c =
+    let at-args = c .before .before .before .before .before .before .before .before .before .before in
+    λ e q. changed (cardsIn (at-args .args .cards .now)) (at-args .args .memory .now) (at-args .args .tick) (at-args .args .out .now)
+    (at-args .args .at) (c .before .before .put .ensures) e (sym (c .before .before .before .before .before .entry .given .1) ∙ q)
 
 returns-2 : tie.Need-returns-2
-returns-2 c = λ e q. ticked (cardsIn (c .before .before .before .before .before .before .args .cards .now))
-    (c .before .before .before .before .before .before .args .memory .now) (c .before .before .before .before .before .before .args .tick)
-    (c .before .before .before .before .before .before .args .out .now)
-    (c .before .before .before .before .before .before .args .at) e (sym (c .before .entry2 .given .1) ∙ q)
+returns-2 c = λ e q. ticked (cardsIn (c .before .before .before .before .before .before .args .cards .now)) (c .before .before .before .before .before
+    .before .args .memory .now) (c .before .before .before .before .before .before .args .tick) (c .before .before .before .before .before .before
+    .args .out .now) (c .before .before .before .before .before .before .args .at) e (sym (c .before .entry2 .given .1) ∙ q)
 
 same-length-2 : tie.Need-same-length-2
 same-length-2 c = search needs

@@ -17,11 +17,10 @@ same-length : tie.Need-same-length
 same-length c = search needs
 
 returns : tie.Need-returns
-returns c = afresh (c .before .before .before .before .before .before .before .before .args .memory .now)
-    (c .before .before .before .before .before .before .before .before .args .at)
-    (c .before .before .before .before .before .before .before .before .args .tick) (c .before .before .before .before .before .before .before .before .pre)
-    (c .before .before .before .before .before .before .if1 .taken) (c .before .before .before .before .before .blank-image .ensures .1)
-    (c .before .before .before .before .before .blank-image .ensures .0) (c .before .before .put-all .ensures)
+returns c = afresh (c .before .before .before .before .before .before .before .before .args .memory .now) (c .before .before .before .before .before
+    .before .before .before .args .at) (c .before .before .before .before .before .before .before .before .args .tick) (c .before .before .before
+    .before .before .before .before .before .pre) (c .before .before .before .before .before .before .if1 .taken) (c .before .before .before .before
+    .before .blank-image .ensures .1) (c .before .before .before .before .before .blank-image .ensures .0) (c .before .before .put-all .ensures)
 
 cast-result : tie.Need-cast-result
 cast-result c = search needs

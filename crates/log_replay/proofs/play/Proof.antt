@@ -39,18 +39,13 @@ same-length-2 : tie.Need-same-length-2
 same-length-2 c = search needs
 
 returns : tie.Need-returns
-returns c = lines-give (cardsIn (c .before .before .before .before .before .before .before .before .before .before .before .before .before .before .before
-    .before .before .before .before .args .cards .now)) (length (c .before .before .before .before .before .before .before .before .before .before .before
-    .before .before .before .before .before .before .before .before .args .out .now))
-    (c .before .before .before .before .before .before .before .before .before .before .before .before .before .before .before .before .before .before
-    .before .args .words .at) (c .before .before .before .before .before .before .before .before .before .before .before .before .before .begin .ensures)
-    (ap (λ (n : ℕ). take (length (c .before .before .before .before .before .before .before .before .before .before .before .before .before .before .before
-    .before .before .before .before .args .log .now) - n) (drop n
-    (c .before .before .before .before .before .before .before .before .before .before .before .before .before .before .before .before .before .before
-    .before .args .log .now))) (c .before .before .before .before .before .before .before .before .before .before .clip .ensures)
-    ∙ clipped (c .before .before .before .before .before .before .before .before .before .before .before .before .before .before .before .before .before
-    .before .before .args .words .at) (c .before .before .before .before .before .before .before .before .before .before .before .before .before .before
-    .before .before .before .before .before .args .log .now)) (c .before .before .before .before .before .before .replay-lines .ensures) (c .over .ensures)
+returns c =
+    let at-clip = c .before .before .before .before .before .before .before .before .before .before in
+    let at-args = at-clip .before .before .before .before .before .before .before .before .before in
+    lines-give (cardsIn (at-args .args .cards .now)) (length (at-args .args .out .now)) (at-args .args .words .at)
+    (at-clip .before .before .before .begin .ensures) (ap (λ (n : ℕ). take (length (at-args .args .log .now) - n) (drop n (at-args .args .log .now)))
+    (at-clip .clip .ensures) ∙ clipped (at-args .args .words .at) (at-args .args .log .now))
+    (c .before .before .before .before .before .before .replay-lines .ensures) (c .over .ensures)
 
 pub play-spec : {M : Type 1} → statement M
 play-spec =

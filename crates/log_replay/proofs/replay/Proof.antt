@@ -10,18 +10,16 @@ done-with-requires : tie.Need-done-with-requires
 done-with-requires c κs = search needs
 
 returns : tie.Need-returns
-returns c = over-already (c .before .before .before .before .before .before .before .args .cards .now)
-    (c .before .before .before .before .before .before .before .args .log .now)
-    (c .before .before .before .before .before .before .before .args .memory .now)
-    (length (c .before .before .before .before .before .before .before .args .out .now))
-    (c .before .before .before .before .before .before .before .args .words) (c .before .if1 .taken) (c .done-with .ensures)
+returns c =
+    let at-args = c .before .before .before .before .before .before .before in
+    over-already (at-args .args .cards .now) (at-args .args .log .now) (at-args .args .memory .now) (length (at-args .args .out .now))
+    (at-args .args .words) (c .before .if1 .taken) (c .done-with .ensures)
 
 returns-2 : tie.Need-returns-2
-returns-2 c = no-room (c .before .before .before .before .before .before .before .args .cards .now)
-    (c .before .before .before .before .before .before .before .args .log .now)
-    (c .before .before .before .before .before .before .before .args .memory .now)
-    (length (c .before .before .before .before .before .before .before .args .out .now))
-    (c .before .before .before .before .before .before .before .args .words) (c .before .if1 .left) (c .if2 .taken)
+returns-2 c =
+    let at-args = c .before .before .before .before .before .before .before in
+    no-room (at-args .args .cards .now) (at-args .args .log .now) (at-args .args .memory .now) (length (at-args .args .out .now))
+    (at-args .args .words) (c .before .if1 .left) (c .if2 .taken)
 
 put-refused-requires : tie.Need-put-refused-requires
 put-refused-requires c κs = search needs
@@ -33,13 +31,11 @@ same-length : tie.Need-same-length
 same-length c = search needs
 
 returns-3 : tie.Need-returns-3
-returns-3 c = other-size (c .before .before .before .before .before .before .before .before .before .before .before .before .before .args .cards .now)
-    (c .before .before .before .before .before .before .before .before .before .before .before .before .before .args .log .now)
-    (c .before .before .before .before .before .before .before .before .before .before .before .before .before .args .memory .now)
-    (length (c .before .before .before .before .before .before .before .before .before .before .before .before .before .args .out .now))
-    (c .before .before .before .before .before .before .before .before .before .before .before .before .before .args .words)
-    (c .before .before .before .before .before .before .before .if1 .left) (c .before .before .before .before .before .before .if2 .left)
-    (c .before .before .before .before .before .if3 .taken) (c .before .before .before .put-refused .ensures) (c .done-with2 .ensures)
+returns-3 c =
+    let at-args = c .before .before .before .before .before .before .before .before .before .before .before .before .before in
+    other-size (at-args .args .cards .now) (at-args .args .log .now) (at-args .args .memory .now) (length (at-args .args .out .now)) (at-args .args
+    .words) (c .before .before .before .before .before .before .before .if1 .left) (c .before .before .before .before .before .before .if2 .left) (c
+    .before .before .before .before .before .if3 .taken) (c .before .before .before .put-refused .ensures) (c .done-with2 .ensures)
 
 no-words-requires : tie.Need-no-words-requires
 no-words-requires c κs = search needs
@@ -66,24 +62,19 @@ same-length-2 : tie.Need-same-length-2
 same-length-2 c = search needs
 
 returns-4 : tie.Need-returns-4
-returns-4 c = refused-file (c .before .before .before .before .before .before .before .before .before .before .before .before .before .before .before
-    .before .before .args .cards .now) (c .before .before .before .before .before .before .before .before .before .before .before .before .before .before
-    .before .before .before .args .log .now) (c .before .before .before .before .before .before .before .before .before .before .before .before .before
-    .before .before .before .before .args .memory .now) (length (c .before .before .before .before .before .before .before .before .before .before .before
-    .before .before .before .before .before .before .args .out .now))
-    (c .before .before .before .before .before .before .before .before .before .before .before .before .before .before .before .before .before .args .words)
-    (c .before .before .before .before .before .before .before .before .before .before .before .if1 .left)
-    (c .before .before .before .before .before .before .before .before .before .before .if2 .left)
-    (c .before .before .before .before .before .before .before .before .before .if3 .left)
-    (poor-is (read-as (formula-card-theorems .answers) (c .before .before .before .before .before .before .before .before .before .before .before .before
-    .before .before .before .before .before .args .cards .now) _ (c .before .before .before .before .before .before .read2 .ensures))
+returns-4 c =
+    let at-if3 = c .before .before .before .before .before .before .before .before .before in
+    let at-args = at-if3 .before .before .before .before .before .before .before .before in
+    refused-file (at-args .args .cards .now) (at-args .args .log .now) (at-args .args .memory .now) (length (at-args .args .out .now))
+    (at-args .args .words) (at-if3 .before .before .if1 .left) (at-if3 .before .if2 .left) (at-if3 .if3 .left) (poor-is (read-as
+    (formula-card-theorems .answers) (at-args .args .cards .now) _ (c .before .before .before .before .before .before .read2 .ensures))
     (c .before .before .before .before .before .if4 .taken)) (c .before .before .before .put-refused2 .ensures) (c .done-with3 .ensures)
 
 play-requires : tie.Need-play-requires
 play-requires c κs = (
-  fine-is (read-as (formula-card-theorems .answers)
-      (c .before .before .before .before .before .before .before .before .before .before .before .before .before .before .before .args .cards .now) _
-      (c .before .before .before .before .read2 .ensures)) (c .before .before .before .if4 .left),
+  fine-is (read-as (formula-card-theorems .answers) (c .before .before .before .before .before .before .before .before .before
+      .before .before .before .before .before .before .args .cards .now) _ (c .before .before .before .before .read2 .ensures))
+      (c .before .before .before .if4 .left),
   c .before .before .before .before .before .before .before .if3 .left,
 )
 
@@ -94,20 +85,13 @@ same-length-4 : tie.Need-same-length-4
 same-length-4 c = search needs
 
 returns-5 : tie.Need-returns-5
-returns-5 c = lines-of-call (c .before .before .before .before .before .before .before .before .before .before .before .before .before .before .before
-    .before .before .before .before .before .args .cards .now) (c .before .before .before .before .before .before .before .before .before .before .before
-    .before .before .before .before .before .before .before .before .before .args .log .now)
-    (c .before .before .before .before .before .before .before .before .before .before .before .before .before .before .before .before .before .before
-    .before .before .args .memory .now) (length (c .before .before .before .before .before .before .before .before .before .before .before .before .before
-    .before .before .before .before .before .before .before .args .out .now))
-    (c .before .before .before .before .before .before .before .before .before .before .before .before .before .before .before .before .before .before
-    .before .before .args .words) (c .before .before .before .before .before .before .before .before .before .before .before .before .before .before .if1
-    .left) (c .before .before .before .before .before .before .before .before .before .before .before .before .before .if2 .left)
-    (c .before .before .before .before .before .before .before .before .before .before .before .before .if3 .left)
-    (fine-is (read-as (formula-card-theorems .answers) (c .before .before .before .before .before .before .before .before .before .before .before .before
-    .before .before .before .before .before .before .before .before .args .cards .now) _
-    (c .before .before .before .before .before .before .before .before .before .read2 .ensures))
-    (c .before .before .before .before .before .before .before .before .if4 .left) .reads) (c .before .before .before .before .play .ensures)
+returns-5 c =
+    let at-if4 = c .before .before .before .before .before .before .before .before in
+    let at-if3 = at-if4 .before .before .before .before in
+    let at-args = at-if3 .before .before .before .before .before .before .before .before in
+    lines-of-call (at-args .args .cards .now) (at-args .args .log .now) (at-args .args .memory .now) (length (at-args .args .out .now)) (at-args .args
+    .words) (at-if3 .before .before .if1 .left) (at-if3 .before .if2 .left) (at-if3 .if3 .left) (fine-is (read-as (formula-card-theorems .answers)
+    (at-args .args .cards .now) _ (at-if4 .before .read2 .ensures)) (at-if4 .if4 .left) .reads) (c .before .before .before .before .play .ensures)
 
 pub replay-spec : {M : Type 1} → statement M
 replay-spec =

@@ -20,16 +20,16 @@ loop-holds : tie.Need-loop-holds Inv-loop μ-loop
 loop-holds c = (omega arith, begin _ _ _ (c .pre .0) (c .pre .1))
 
 add-window : tie.Need-add-window Inv-loop μ-loop
-add-window c = omega (arith, c .before .before .pre .0, c .before .before .pre .1)
+add-window c = omega (arith, c .before .before .pre)
 
 slice-read-window : tie.Need-slice-read-window Inv-loop μ-loop
-slice-read-window c = omega (arith, size _ _ _ (c .before .before .loop .inv .1), c .before .before .before .pre .0, c .before .before .before .pre .1)
+slice-read-window c = omega (arith, size _ _ _ (c .before .before .loop .inv .1), c .before .before .before .pre)
 
 slice-write-window : tie.Need-slice-write-window Inv-loop μ-loop
-slice-write-window c = omega (arith, size _ _ _ (c .before .before .loop .inv .1), c .before .before .before .pre .0, c .before .before .before .pre .1)
+slice-write-window c = omega (arith, size _ _ _ (c .before .before .loop .inv .1), c .before .before .before .pre)
 
 add-i : tie.Need-add-i Inv-loop μ-loop
-add-i c = omega (arith, c .before .before .before .pre .0, c .before .before .before .pre .1)
+add-i c = omega (arith, c .before .before .before .pre)
 
 loop-less : tie.Need-loop-less Inv-loop μ-loop
 loop-less c = omega (arith, c .before .before .loop .inv .0)

@@ -82,22 +82,14 @@ sub-taken c = omega (
 )
 
 keep-requires : tie.Need-keep-requires
-keep-requires c κs = (
-  to (cardsIn (c .before .before .before .before .before .before .before .before .before .before .before .before .before .before .before
-      .before .before .args .cards .now)) (length (c .before .before .before .before .before .before .before .before .before .before .before .before .before
-      .before .before .before .before .args .window .now)) (length (c .before .before .before .before .before .before .before .before .before .before .before
-      .before .before .before .before .before .before .args .out .now))
-      (c .before .before .before .before .before .before .before .before .before .before .before .before .before .before .before .before .before .args .last)
-      (stateIn (c .before .before .before .before .before .before .before .before .before .before .before .before .before .before .before .before .before
-      .args .memory .now) (c .before .before .before .before .before .before .before .before .before .before .before .before .before .before .before .before
-      .before .args .cursor .tick)) (c .before .before .before .before .before .before .before .before .before .before .before .before .before .before .before
-      .before .before .args .cursor) (c .before .before .before .before .before .before .before .before .before .before .before .before .before .before
-      .before .before .before .args .window .now) (c .before .before .before .before .before .before .before .before .before .before .before .before .before
-      .before .before .before .before .args .held) (c .before .before .before .before .before .before .before .before .before .before .before .before .before
-      .before .before .before .before .pre .1 .2) (c .before .before .before .before .before .before .before .before .before .before .before .playable-bytes
-      .ensures) (c .before .before .before .before .before .before .before .replay-lines .ensures),
-  c .before .before .before .before .before .before .before .before .before .before .before .before .before .before .before .before .before .pre .1 .2,
-)
+keep-requires c κs =
+    let at-replay-lines = c .before .before .before .before .before .before .before in
+    let at-args = at-replay-lines .before .before .before .before .before .before .before .before .before .before in (
+      to (cardsIn (at-args .args .cards .now)) (length (at-args .args .window .now)) (length (at-args .args .out .now)) (at-args .args .last) (stateIn
+          (at-args .args .memory .now) (at-args .args .cursor .tick)) (at-args .args .cursor) (at-args .args .window .now) (at-args .args .held)
+          (at-args .pre .1 .2) (at-replay-lines .before .before .before .before .playable-bytes .ensures) (at-replay-lines .replay-lines .ensures),
+      at-args .pre .1 .2,
+    )
 
 same-length : tie.Need-same-length
 same-length c = search needs
@@ -109,46 +101,19 @@ same-length-3 : tie.Need-same-length-3
 same-length-3 c = search needs
 
 returns : tie.Need-returns
-returns c = (
-  gives (cardsIn (c .before .before .before .before .before .before .before .before .before .before .before .before .before .before .before .before .before
-      .before .before .before .args .cards .now)) (length (c .before .before .before .before .before .before .before .before .before .before .before .before
-      .before .before .before .before .before .before .before .before .args .window .now))
-      (length (c .before .before .before .before .before .before .before .before .before .before .before .before .before .before .before .before .before
-      .before .before .before .args .out .now)) (c .before .before .before .before .before .before .before .before .before .before .before .before .before
-      .before .before .before .before .before .before .before .args .last)
-      (stateIn (c .before .before .before .before .before .before .before .before .before .before .before .before .before .before .before .before .before
-      .before .before .before .args .memory .now) (c .before .before .before .before .before .before .before .before .before .before .before .before .before
-      .before .before .before .before .before .before .before .args .cursor .tick))
-      (c .before .before .before .before .before .before .before .before .before .before .before .before .before .before .before .before .before .before
-      .before .before .args .cursor) (c .before .before .before .before .before .before .before .before .before .before .before .before .before .before
-      .before .before .before .before .before .before .args .window .now)
-      (c .before .before .before .before .before .before .before .before .before .before .before .before .before .before .before .before .before .before
-      .before .before .args .held) (c .before .before .before .before .before .before .before .before .before .before .before .before .before .before
-      .before .before .before .before .before .before .pre .1 .2) (c .before .before .before .before .before .before .before .before .before .before .before
-      .before .before .before .playable-bytes .ensures) (c .before .before .before .before .before .before .before .before .before .before .replay-lines
-      .ensures) (c .before .before .keep .ensures),
-  stays (cardsIn (c .before .before .before .before .before .before .before .before .before .before .before .before .before .before .before .before .before
-      .before .before .before .args .cards .now)) (length (c .before .before .before .before .before .before .before .before .before .before .before .before
-      .before .before .before .before .before .before .before .before .args .window .now))
-      (length (c .before .before .before .before .before .before .before .before .before .before .before .before .before .before .before .before .before
-      .before .before .before .args .out .now)) (c .before .before .before .before .before .before .before .before .before .before .before .before .before
-      .before .before .before .before .before .before .before .args .last)
-      (stateIn (c .before .before .before .before .before .before .before .before .before .before .before .before .before .before .before .before .before
-      .before .before .before .args .memory .now) (c .before .before .before .before .before .before .before .before .before .before .before .before .before
-      .before .before .before .before .before .before .before .args .cursor .tick))
-      (c .before .before .before .before .before .before .before .before .before .before .before .before .before .before .before .before .before .before
-      .before .before .args .cursor) (c .before .before .before .before .before .before .before .before .before .before .before .before .before .before
-      .before .before .before .before .before .before .args .window .now)
-      (c .before .before .before .before .before .before .before .before .before .before .before .before .before .before .before .before .before .before
-      .before .before .args .held) (c .before .before .before .before .before .before .before .before .before .before .before .before .before .before
-      .before .before .before .before .before .before .pre .1 .2) (c .before .before .before .before .before .before .before .before .before .before .before
-      .before .before .before .playable-bytes .ensures) (c .before .before .before .before .before .before .before .before .before .before .replay-lines
-      .ensures) (c .before .before .keep .ensures) (c .before .before .before .before .before .before .before .before .before .before .before .before
-      .before .before .before .before .before .before .before .before .pre .1 .0)
-      (c .before .before .before .before .before .before .before .before .before .before .before .before .before .before .before .before .before .before
-      .before .before .pre .1 .1) (c .before .before .before .before .before .before .before .before .before .before .before .before .before .before .before
-      .before .before .before .before .before .pre .1 .3),
-)
+returns c =
+    let at-replay-lines = c .before .before .before .before .before .before .before .before .before .before in
+    let at-playable-bytes = at-replay-lines .before .before .before .before in
+    let at-args = at-playable-bytes .before .before .before .before .before .before in
+    let its-stateIn = stateIn (at-args .args .memory .now) (at-args .args .cursor .tick) in (
+      gives (cardsIn (at-args .args .cards .now)) (length (at-args .args .window .now)) (length (at-args .args .out .now))
+          (at-args .args .last) its-stateIn (at-args .args .cursor) (at-args .args .window .now) (at-args .args .held) (at-args .pre .1 .2)
+          (at-playable-bytes .playable-bytes .ensures) (at-replay-lines .replay-lines .ensures) (c .before .before .keep .ensures),
+      stays (cardsIn
+          (at-args .args .cards .now)) (length (at-args .args .window .now)) (length (at-args .args .out .now)) (at-args .args .last) its-stateIn
+          (at-args .args .cursor) (at-args .args .window .now) (at-args .args .held) (at-args .pre .1 .2) (at-playable-bytes .playable-bytes .ensures)
+          (at-replay-lines .replay-lines .ensures) (c .before .before .keep .ensures) (at-args .pre .1 .0) (at-args .pre .1 .1) (at-args .pre .1 .3),
+    )
 
 pub turn-spec : {M : Type 1} → statement M
 turn-spec =

@@ -32,7 +32,7 @@ turn-requires c κs = (
       c .before .before .before .before .before .loop .inv .2,
       c .before .before .before .before .before .before .before .before .before .before .pre .1 .2,
     ),
-    omega (arith, c .before .before .before .before .before .loop .inv .0, c .before .before .before .before .before .loop .inv .3),
+    omega (arith, c .before .before .before .before .before .loop .inv),
     omega (arith, c .before .before .before .before .before .loop .inv .4),
   ),
 )
@@ -46,13 +46,10 @@ enum-told c = search needs
 loop-less : tie.Need-loop-less Inv-loop μ-loop
 loop-less c = omega (
   arith,
-  c .before .before .before .before .before .before .before .before .before .before .before .before .turn .ensures .1 .total,
-  c .before .before .before .before .before .before .before .before .before .before .before .before .turn .ensures .1 .window,
+  c .before .before .before .before .before .before .before .before .before .before .before .before .turn .ensures .1,
   c .before .before .before .before .before .before .before .before .before .before .before .before .turn .ensures .1 .ahead (c .enum-told .given .1),
-  c .before .before .before .before .before .before .before .before .before .before .before .before .before .before .before .before .before .before .loop
-      .inv .3,
-  c .before .before .before .before .before .before .before .before .before .before .before .before .before .before .before .before .before
-      .before .loop .inv .4,
+  c .before .before .before .before .before .before .before .before .before .before .before .before .before .before .before .before .before .before
+      .loop .inv,
 )
 
 loop-again : tie.Need-loop-again Inv-loop μ-loop
@@ -94,46 +91,28 @@ enum-told-2 c = search needs
 same-length : tie.Need-same-length Inv-loop μ-loop
 same-length c = omega (
   arith,
-  c .before .before .before .before .before .before .before .before .before .before .before .before .before .before .before
-      .before .before .before .loop .inv .0,
-  c .before .before .before .before .before .before .before .before .before .before .before .before .before .before
-      .before .before .before .before .loop .inv .1,
-  c .before .before .before .before .before .before .before .before .before .before .before .before .before
-      .before .before .before .before .before .loop .inv .2,
-  c .before .before .before .before .before .before .before .before .before .before .before .before
-      .before .before .before .before .before .before .before .before .before .before .before .pre .1 .0,
   c .before .before .before .before .before .before .before .before .before .before .before .before .before .before .before .before .before .before
-      .before .before .before .before .before .pre .1 .1,
+      .loop .inv,
+  c .before .before .before .before .before .before .before .before .before .before .before .before .before .before .before .before .before .before
+      .before .before .before .before .before .pre .1,
 )
 
 same-length-2 : tie.Need-same-length-2 Inv-loop μ-loop
 same-length-2 c = omega (
   arith,
-  c .before .before .before .before .before .before .before .before .before .before .before .before .before .before .before
-      .before .before .before .loop .inv .0,
-  c .before .before .before .before .before .before .before .before .before .before .before .before .before .before
-      .before .before .before .before .loop .inv .1,
-  c .before .before .before .before .before .before .before .before .before .before .before .before .before
-      .before .before .before .before .before .loop .inv .2,
-  c .before .before .before .before .before .before .before .before .before .before .before .before
-      .before .before .before .before .before .before .before .before .before .before .before .pre .1 .0,
   c .before .before .before .before .before .before .before .before .before .before .before .before .before .before .before .before .before .before
-      .before .before .before .before .before .pre .1 .1,
+      .loop .inv,
+  c .before .before .before .before .before .before .before .before .before .before .before .before .before .before .before .before .before .before
+      .before .before .before .before .before .pre .1,
 )
 
 same-length-3 : tie.Need-same-length-3 Inv-loop μ-loop
 same-length-3 c = omega (
   arith,
-  c .before .before .before .before .before .before .before .before .before .before .before .before .before .before .before
-      .before .before .before .loop .inv .0,
-  c .before .before .before .before .before .before .before .before .before .before .before .before .before .before
-      .before .before .before .before .loop .inv .1,
-  c .before .before .before .before .before .before .before .before .before .before .before .before .before
-      .before .before .before .before .before .loop .inv .2,
-  c .before .before .before .before .before .before .before .before .before .before .before .before
-      .before .before .before .before .before .before .before .before .before .before .before .pre .1 .0,
   c .before .before .before .before .before .before .before .before .before .before .before .before .before .before .before .before .before .before
-      .before .before .before .before .before .pre .1 .1,
+      .loop .inv,
+  c .before .before .before .before .before .before .before .before .before .before .before .before .before .before .before .before .before .before
+      .before .before .before .before .before .pre .1,
 )
 
 returns : tie.Need-returns Inv-loop μ-loop
@@ -145,46 +124,28 @@ enum-told-3 c = search needs
 same-length-4 : tie.Need-same-length-4 Inv-loop μ-loop
 same-length-4 c = omega (
   arith,
-  c .before .before .before .before .before .before .before .before .before .before .before .before .before .before .before
-      .before .before .before .before .loop .inv .0,
-  c .before .before .before .before .before .before .before .before .before .before .before .before .before
-      .before .before .before .before .before .before .loop .inv .1,
   c .before .before .before .before .before .before .before .before .before .before .before .before .before .before .before .before .before .before
-      .before .loop .inv .2,
-  c .before .before .before .before .before .before .before .before .before .before .before .before .before .before .before .before
-      .before .before .before .before .before .before .before .before .pre .1 .0,
+      .before .loop .inv,
   c .before .before .before .before .before .before .before .before .before .before .before .before .before .before .before .before .before .before
-      .before .before .before .before .before .before .pre .1 .1,
+      .before .before .before .before .before .before .pre .1,
 )
 
 same-length-5 : tie.Need-same-length-5 Inv-loop μ-loop
 same-length-5 c = omega (
   arith,
-  c .before .before .before .before .before .before .before .before .before .before .before .before .before .before .before
-      .before .before .before .before .loop .inv .0,
-  c .before .before .before .before .before .before .before .before .before .before .before .before .before
-      .before .before .before .before .before .before .loop .inv .1,
   c .before .before .before .before .before .before .before .before .before .before .before .before .before .before .before .before .before .before
-      .before .loop .inv .2,
-  c .before .before .before .before .before .before .before .before .before .before .before .before .before .before .before .before
-      .before .before .before .before .before .before .before .before .pre .1 .0,
+      .before .loop .inv,
   c .before .before .before .before .before .before .before .before .before .before .before .before .before .before .before .before .before .before
-      .before .before .before .before .before .before .pre .1 .1,
+      .before .before .before .before .before .before .pre .1,
 )
 
 same-length-6 : tie.Need-same-length-6 Inv-loop μ-loop
 same-length-6 c = omega (
   arith,
-  c .before .before .before .before .before .before .before .before .before .before .before .before .before .before .before
-      .before .before .before .before .loop .inv .0,
-  c .before .before .before .before .before .before .before .before .before .before .before .before .before
-      .before .before .before .before .before .before .loop .inv .1,
   c .before .before .before .before .before .before .before .before .before .before .before .before .before .before .before .before .before .before
-      .before .loop .inv .2,
-  c .before .before .before .before .before .before .before .before .before .before .before .before .before .before .before .before
-      .before .before .before .before .before .before .before .before .pre .1 .0,
+      .before .loop .inv,
   c .before .before .before .before .before .before .before .before .before .before .before .before .before .before .before .before .before .before
-      .before .before .before .before .before .before .pre .1 .1,
+      .before .before .before .before .before .before .pre .1,
 )
 
 returns-2 : tie.Need-returns-2 Inv-loop μ-loop
@@ -193,12 +154,9 @@ returns-2 c = search needs
 read-more-requires : tie.Need-read-more-requires Inv-loop μ-loop
 read-more-requires c κs = omega (
   arith,
-  c .before .before .before .before .before .before .before .before .before .before .before .before .before .before
-      .turn .ensures .1 .window,
-  c .before .before .before .before .before .before .before .before .before .before .before .before .before .before .before
-      .before .before .before .before .before .loop .inv .3,
-  c .before .before .before .before .before .before .before .before .before .before .before .before
-      .before .before .before .before .before .before .before .before .loop .inv .0,
+  c .before .before .before .before .before .before .before .before .before .before .before .before .before .before .turn .ensures .1 .window,
+  c .before .before .before .before .before .before .before .before .before .before .before .before .before .before .before .before .before .before
+      .before .before .loop .inv,
 )
 
 enum-known-n : tie.Need-enum-known-n Inv-loop μ-loop
@@ -215,16 +173,11 @@ add-held c = omega (
 loop-less-2 : tie.Need-loop-less-2 Inv-loop μ-loop
 loop-less-2 c = omega (
   arith,
-  c .before .before .before .before .before .before .before .before .before .before .before .before .before .before .before
-      .before .before .before .before .before .turn .ensures .1 .total,
   c .before .before .before .before .before .before .before .before .before .before .before .before .before .before .before .before .before .before
-      .before .before .turn .ensures .1 .window,
-  (read-some (c .before .before .before .before .before .read-more .ensures) (c .before .n .given .1)) .0,
-  (read-some (c .before .before .before .before .before .read-more .ensures) (c .before .n .given .1)) .1,
+      .before .before .turn .ensures .1,
+  read-some (c .before .before .before .before .before .read-more .ensures) (c .before .n .given .1),
   c .before .before .before .before .before .before .before .before .before .before .before .before .before .before .before .before .before .before
-      .before .before .before .before .before .before .before .before .loop .inv .0,
-  c .before .before .before .before .before .before .before .before .before .before .before .before .before .before .before .before .before .before
-      .before .before .before .before .before .before .before .before .loop .inv .3,
+      .before .before .before .before .before .before .before .before .loop .inv,
   c .before .before .before .before .before .before .before .before .before .before .before .before .before .before .before .before .before .before
       .before .before .before .before .before .before .if1 .taken,
 )
@@ -254,14 +207,11 @@ loop-again-2 c = (
   ),
   omega (
     arith,
-    c .before .before .before .before .before .before .before .before .before .before .before .before .before .before .before .before .before
-        .before .before .before .turn .ensures .1 .total,
-    (read-some (c .before .before .before .before .before .read-more .ensures)
-        (c .before .n .given .1)) .1,
-    c .before .before .before .before .before .before .before .before .before .before .before .before .before .before .before
-        .before .before .before .before .before .before .before .before .before .before .before .loop .inv .0,
     c .before .before .before .before .before .before .before .before .before .before .before .before .before .before .before .before .before .before
-        .before .before .before .before .before .before .before .before .loop .inv .3,
+        .before .before .turn .ensures .1 .total,
+    (read-some (c .before .before .before .before .before .read-more .ensures) (c .before .n .given .1)) .1,
+    c .before .before .before .before .before .before .before .before .before .before .before .before .before .before .before .before .before .before
+        .before .before .before .before .before .before .before .before .loop .inv,
     c .before .before .before .before .before .before .before .before .before .before .before .before .before .before .before .before .before .before
         .before .before .before .before .before .before .if1 .taken,
   ),
@@ -273,15 +223,11 @@ enum-told-4 c = search needs
 loop-less-3 : tie.Need-loop-less-3 Inv-loop μ-loop
 loop-less-3 c = omega (
   arith,
-  c .before .before .before .before .before .before .before .before .before .before .before .before .before .before .before
-      .before .before .before .before .turn .ensures .1 .total,
-  c .before .before .before .before .before .before .before .before .before .before .before
-      .before .before .before .before .before .before .before .before .turn .ensures .1 .window,
+  c .before .before .before .before .before .before .before .before .before .before .before .before .before .before .before .before .before .before
+      .before .turn .ensures .1,
   not-yet (c .before .before .before .before .before .before .if2 .left),
   c .before .before .before .before .before .before .before .before .before .before .before .before .before .before .before .before .before .before
-      .before .before .before .before .before .before .before .loop .inv .3,
-  c .before .before .before .before .before .before .before .before .before .before .before .before .before .before .before .before .before .before
-      .before .before .before .before .before .before .before .loop .inv .4,
+      .before .before .before .before .before .before .before .loop .inv,
 )
 
 loop-again-3 : tie.Need-loop-again-3 Inv-loop μ-loop
@@ -335,46 +281,28 @@ tell-unread-requires c κs = search needs
 same-length-7 : tie.Need-same-length-7 Inv-loop μ-loop
 same-length-7 c = omega (
   arith,
-  c .before .before .before .before .before .before .before .before .before .before .before .before .before .before .before
-      .before .before .before .before .before .before .before .before .before .before .before .before .loop .inv .0,
   c .before .before .before .before .before .before .before .before .before .before .before .before .before .before .before .before .before .before
-      .before .before .before .before .before .before .before .before .before .loop .inv .1,
+      .before .before .before .before .before .before .before .before .before .loop .inv,
   c .before .before .before .before .before .before .before .before .before .before .before .before .before .before .before .before .before .before
-      .before .before .before .before .before .before .before .before .before .loop .inv .2,
-  c .before .before .before .before .before .before .before .before .before .before .before .before .before .before .before .before .before .before
-      .before .before .before .before .before .before .before .before .before .before .before .before .before .before .pre .1 .0,
-  c .before .before .before .before .before .before .before .before .before .before .before .before .before .before .before .before .before .before
-      .before .before .before .before .before .before .before .before .before .before .before .before .before .before .pre .1 .1,
+      .before .before .before .before .before .before .before .before .before .before .before .before .before .before .pre .1,
 )
 
 same-length-8 : tie.Need-same-length-8 Inv-loop μ-loop
 same-length-8 c = omega (
   arith,
-  c .before .before .before .before .before .before .before .before .before .before .before .before .before .before .before
-      .before .before .before .before .before .before .before .before .before .before .before .before .loop .inv .0,
   c .before .before .before .before .before .before .before .before .before .before .before .before .before .before .before .before .before .before
-      .before .before .before .before .before .before .before .before .before .loop .inv .1,
+      .before .before .before .before .before .before .before .before .before .loop .inv,
   c .before .before .before .before .before .before .before .before .before .before .before .before .before .before .before .before .before .before
-      .before .before .before .before .before .before .before .before .before .loop .inv .2,
-  c .before .before .before .before .before .before .before .before .before .before .before .before .before .before .before .before .before .before
-      .before .before .before .before .before .before .before .before .before .before .before .before .before .before .pre .1 .0,
-  c .before .before .before .before .before .before .before .before .before .before .before .before .before .before .before .before .before .before
-      .before .before .before .before .before .before .before .before .before .before .before .before .before .before .pre .1 .1,
+      .before .before .before .before .before .before .before .before .before .before .before .before .before .before .pre .1,
 )
 
 same-length-9 : tie.Need-same-length-9 Inv-loop μ-loop
 same-length-9 c = omega (
   arith,
-  c .before .before .before .before .before .before .before .before .before .before .before .before .before .before .before
-      .before .before .before .before .before .before .before .before .before .before .before .before .loop .inv .0,
   c .before .before .before .before .before .before .before .before .before .before .before .before .before .before .before .before .before .before
-      .before .before .before .before .before .before .before .before .before .loop .inv .1,
+      .before .before .before .before .before .before .before .before .before .loop .inv,
   c .before .before .before .before .before .before .before .before .before .before .before .before .before .before .before .before .before .before
-      .before .before .before .before .before .before .before .before .before .loop .inv .2,
-  c .before .before .before .before .before .before .before .before .before .before .before .before .before .before .before .before .before .before
-      .before .before .before .before .before .before .before .before .before .before .before .before .before .before .pre .1 .0,
-  c .before .before .before .before .before .before .before .before .before .before .before .before .before .before .before .before .before .before
-      .before .before .before .before .before .before .before .before .before .before .before .before .before .before .pre .1 .1,
+      .before .before .before .before .before .before .before .before .before .before .before .before .before .before .pre .1,
 )
 
 returns-3 : tie.Need-returns-3 Inv-loop μ-loop
@@ -389,31 +317,22 @@ tell-unread-requires-2 c κs = search needs
 same-length-10 : tie.Need-same-length-10 Inv-loop μ-loop
 same-length-10 c = omega (
   arith,
-  c .before .before .before .before .loop .inv .0,
-  c .before .before .before .before .loop .inv .1,
-  c .before .before .before .before .loop .inv .2,
-  c .before .before .before .before .before .before .before .before .before .pre .1 .0,
-  c .before .before .before .before .before .before .before .before .before .pre .1 .1,
+  c .before .before .before .before .loop .inv,
+  c .before .before .before .before .before .before .before .before .before .pre .1,
 )
 
 same-length-11 : tie.Need-same-length-11 Inv-loop μ-loop
 same-length-11 c = omega (
   arith,
-  c .before .before .before .before .loop .inv .0,
-  c .before .before .before .before .loop .inv .1,
-  c .before .before .before .before .loop .inv .2,
-  c .before .before .before .before .before .before .before .before .before .pre .1 .0,
-  c .before .before .before .before .before .before .before .before .before .pre .1 .1,
+  c .before .before .before .before .loop .inv,
+  c .before .before .before .before .before .before .before .before .before .pre .1,
 )
 
 same-length-12 : tie.Need-same-length-12 Inv-loop μ-loop
 same-length-12 c = omega (
   arith,
-  c .before .before .before .before .loop .inv .0,
-  c .before .before .before .before .loop .inv .1,
-  c .before .before .before .before .loop .inv .2,
-  c .before .before .before .before .before .before .before .before .before .pre .1 .0,
-  c .before .before .before .before .before .before .before .before .before .pre .1 .1,
+  c .before .before .before .before .loop .inv,
+  c .before .before .before .before .before .before .before .before .before .pre .1,
 )
 
 returns-4 : tie.Need-returns-4 Inv-loop μ-loop

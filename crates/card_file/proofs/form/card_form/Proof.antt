@@ -85,31 +85,19 @@ returns-2 c = c .no-form2 .ensures ∙ none-2 (c .before .before .before .before
 add-target : tie.Need-add-target
 add-target c = omega (
   arith,
-  (two (c .before .before .before .before .before .before .before .before .before .before .before .before .before .args .s .now)
-      _ _ (one (c .before .before .before .before .before .before .before .before .before .before .before .before .before .args .s .now) _
-      (sym (c .before .before .before .before .before .before .before .before .digits .given .1)
-      ∙ c .before .before .before .before .before .before .before .before .before .before .field-at .ensures))
-      (sym (c .before .target-size .given .1) ∙ c .before .before .before .field-at2 .ensures)) .inside,
-  (two (c .before .before .before .before .before .before .before .before .before .before .before .before .before .args .s .now) _ _
-      (one (c .before .before .before .before .before .before .before .before .before .before .before .before .before .args .s .now) _
-      (sym (c .before .before .before .before .before .before .before .before .digits .given .1)
-      ∙ c .before .before .before .before .before .before .before .before .before .before .field-at .ensures))
-      (sym (c .before .target-size .given .1) ∙ c .before .before .before .field-at2 .ensures)) .end,
+  two (c .before .before .before .before .before .before .before .before .before .before .before .before .before .args .s .now) _ _ (one (c .before
+      .before .before .before .before .before .before .before .before .before .before .before .before .args .s .now) _ (sym (c .before .before .before
+      .before .before .before .before .before .digits .given .1) ∙ c .before .before .before .before .before .before .before .before .before .before
+      .field-at .ensures)) (sym (c .before .target-size .given .1) ∙ c .before .before .before .field-at2 .ensures),
 )
 
 add-target-end : tie.Need-add-target-end
 add-target-end c = omega (
   arith,
-  (two (c .before .before .before .before .before .before .before .before .before .before .before .before .before .args .s
-      .now) _ _ (one (c .before .before .before .before .before .before .before .before .before .before .before .before .before .args .s .now) _
-      (sym (c .before .before .before .before .before .before .before .before .digits .given .1)
-      ∙ c .before .before .before .before .before .before .before .before .before .before .field-at .ensures))
-      (sym (c .before .target-size .given .1) ∙ c .before .before .before .field-at2 .ensures)) .inside,
-  (two (c .before .before .before .before .before .before .before .before .before .before .before .before .before .args .s .now) _ _
-      (one (c .before .before .before .before .before .before .before .before .before .before .before .before .before .args .s .now) _
-      (sym (c .before .before .before .before .before .before .before .before .digits .given .1)
-      ∙ c .before .before .before .before .before .before .before .before .before .before .field-at .ensures))
-      (sym (c .before .target-size .given .1) ∙ c .before .before .before .field-at2 .ensures)) .end,
+  two (c .before .before .before .before .before .before .before .before .before .before .before .before .before .args .s .now) _ _ (one (c .before
+      .before .before .before .before .before .before .before .before .before .before .before .before .args .s .now) _ (sym (c .before .before .before
+      .before .before .before .before .before .digits .given .1) ∙ c .before .before .before .before .before .before .before .before .before .before
+      .field-at .ensures)) (sym (c .before .target-size .given .1) ∙ c .before .before .before .field-at2 .ensures),
 )
 
 add-field-at-2 : tie.Need-add-field-at-2
@@ -145,60 +133,37 @@ no-form-requires-3 : tie.Need-no-form-requires-3
 no-form-requires-3 c κs = search needs
 
 returns-3 : tie.Need-returns-3
-returns-3 c = c .no-form3 .ensures ∙ none-3 (c .before .before .before .before .before .before .before .before .before .before .before .before .before
-    .before .before .before .before .before .args .s .now) _ _ (two
-    (c .before .before .before .before .before .before .before .before .before .before .before .before .before .before .before .before .before .before .args
-    .s .now) _ _ (one (c .before .before .before .before .before .before .before .before .before .before .before .before .before .before .before .before
-    .before .before .args .s .now) _ (sym (c .before .before .before .before .before .before .before .before .before .before .before .before .before .digits
-    .given .1) ∙ c .before .before .before .before .before .before .before .before .before .before .before .before .before .before .before .field-at
-    .ensures)) (sym (c .before .before .before .before .before .before .target-size .given .1)
-    ∙ c .before .before .before .before .before .before .before .before .field-at2 .ensures))
-    (sym (c .before .enum-told3 .given .1) ∙ c .before .before .before .field-at3 .ensures)
+returns-3 c =
+    let at-digits = c .before .before .before .before .before .before .before .before .before .before .before .before .before in
+    let s = at-digits .before .before .before .before .before .args .s .now in
+    c .no-form3 .ensures ∙ none-3 s _ _ (two s _ _ (one s _ (sym (at-digits .digits .given .1) ∙ at-digits .before
+    .before .field-at .ensures)) (sym (c .before .before .before .before .before .before .target-size .given .1) ∙ c .before .before .before .before
+    .before .before .before .before .field-at2 .ensures)) (sym (c .before .enum-told3 .given .1) ∙ c .before .before .before .field-at3 .ensures)
 
 add-expr : tie.Need-add-expr
 add-expr c = omega (
   arith,
-  (three (c .before .before .before .before .before .before .before .before .before .before .before .before .before .before .before
-      .before .before .before .args .s .now) _ _ _ (two (c .before .before .before .before .before .before .before .before .before .before .before .before
-      .before .before .before .before .before .before .args .s .now) _ _
-      (one (c .before .before .before .before .before .before .before .before .before .before .before .before .before .before .before .before .before .before
-      .args .s .now) _ (sym (c .before .before .before .before .before .before .before .before .before .before .before .before .before .digits .given .1)
-      ∙ c .before .before .before .before .before .before .before .before .before .before .before .before .before .before .before .field-at .ensures))
-      (sym (c .before .before .before .before .before .before .target-size .given .1)
-      ∙ c .before .before .before .before .before .before .before .before .field-at2 .ensures))
-      (sym (c .before .expr-size .given .1) ∙ c .before .before .before .field-at3 .ensures)) .inside,
-  (three (c .before .before .before .before .before .before .before .before .before .before .before .before .before .before .before .before .before
-      .before .args .s .now) _ _ _ (two (c .before .before .before .before .before .before .before .before .before .before .before .before .before .before
-      .before .before .before .before .args .s .now) _ _ (one (c .before .before .before .before .before .before .before .before .before .before .before
-      .before .before .before .before .before .before .before .args .s .now) _
-      (sym (c .before .before .before .before .before .before .before .before .before .before .before .before .before .digits .given .1)
-      ∙ c .before .before .before .before .before .before .before .before .before .before .before .before .before .before .before .field-at .ensures))
-      (sym (c .before .before .before .before .before .before .target-size .given .1)
-      ∙ c .before .before .before .before .before .before .before .before .field-at2 .ensures))
-      (sym (c .before .expr-size .given .1) ∙ c .before .before .before .field-at3 .ensures)) .end,
+  three (c .before .before .before .before .before .before .before .before .before .before .before .before .before .before .before .before .before
+      .before .args .s .now) _ _ _ (two (c .before .before .before .before .before .before .before .before .before .before .before .before .before
+      .before .before .before .before .before .args .s .now) _ _ (one (c .before .before .before .before .before .before .before .before .before
+      .before .before .before .before .before .before .before .before .before .args .s .now) _ (sym (c .before .before .before .before .before .before
+      .before .before .before .before .before .before .before .digits .given .1) ∙ c .before .before .before .before .before .before .before .before
+      .before .before .before .before .before .before .before .field-at .ensures)) (sym (c .before .before .before .before .before .before
+      .target-size .given .1) ∙ c .before .before .before .before .before .before .before .before .field-at2 .ensures)) (sym (c .before .expr-size
+      .given .1) ∙ c .before .before .before .field-at3 .ensures),
 )
 
 add-expr-end : tie.Need-add-expr-end
 add-expr-end c = omega (
   arith,
-  (three (c .before .before .before .before .before .before .before .before .before .before .before .before .before .before
-      .before .before .before .before .args .s .now) _ _ _ (two (c .before .before .before .before .before .before .before .before .before .before .before
-      .before .before .before .before .before .before .before .args .s .now) _ _
-      (one (c .before .before .before .before .before .before .before .before .before .before .before .before .before .before .before .before .before .before
-      .args .s .now) _ (sym (c .before .before .before .before .before .before .before .before .before .before .before .before .before .digits .given .1)
-      ∙ c .before .before .before .before .before .before .before .before .before .before .before .before .before .before .before .field-at .ensures))
-      (sym (c .before .before .before .before .before .before .target-size .given .1)
-      ∙ c .before .before .before .before .before .before .before .before .field-at2 .ensures))
-      (sym (c .before .expr-size .given .1) ∙ c .before .before .before .field-at3 .ensures)) .inside,
-  (three (c .before .before .before .before .before .before .before .before .before .before .before .before .before .before .before .before .before
-      .before .args .s .now) _ _ _ (two (c .before .before .before .before .before .before .before .before .before .before .before .before .before .before
-      .before .before .before .before .args .s .now) _ _ (one (c .before .before .before .before .before .before .before .before .before .before .before
-      .before .before .before .before .before .before .before .args .s .now) _
-      (sym (c .before .before .before .before .before .before .before .before .before .before .before .before .before .digits .given .1)
-      ∙ c .before .before .before .before .before .before .before .before .before .before .before .before .before .before .before .field-at .ensures))
-      (sym (c .before .before .before .before .before .before .target-size .given .1)
-      ∙ c .before .before .before .before .before .before .before .before .field-at2 .ensures))
-      (sym (c .before .expr-size .given .1) ∙ c .before .before .before .field-at3 .ensures)) .end,
+  three (c .before .before .before .before .before .before .before .before .before .before .before .before .before .before .before .before .before
+      .before .args .s .now) _ _ _ (two (c .before .before .before .before .before .before .before .before .before .before .before .before .before
+      .before .before .before .before .before .args .s .now) _ _ (one (c .before .before .before .before .before .before .before .before .before
+      .before .before .before .before .before .before .before .before .before .args .s .now) _ (sym (c .before .before .before .before .before .before
+      .before .before .before .before .before .before .before .digits .given .1) ∙ c .before .before .before .before .before .before .before .before
+      .before .before .before .before .before .before .before .field-at .ensures)) (sym (c .before .before .before .before .before .before
+      .target-size .given .1) ∙ c .before .before .before .before .before .before .before .before .field-at2 .ensures)) (sym (c .before .expr-size
+      .given .1) ∙ c .before .before .before .field-at3 .ensures),
 )
 
 add-field-at-3 : tie.Need-add-field-at-3
@@ -243,116 +208,63 @@ no-form-requires-4 : tie.Need-no-form-requires-4
 no-form-requires-4 c κs = search needs
 
 returns-4 : tie.Need-returns-4
-returns-4 c = c .no-form4 .ensures ∙ none-4 (c .before .before .before .before .before .before .before .before .before .before .before .before .before
-    .before .before .before .before .before .before .before .before .before .before .args .s .now) _ _ _
-    (three (c .before .before .before .before .before .before .before .before .before .before .before .before .before .before .before .before .before
-    .before .before .before .before .before .before .args .s .now) _ _ _
-    (two (c .before .before .before .before .before .before .before .before .before .before .before .before .before .before .before .before .before .before
-    .before .before .before .before .before .args .s .now) _ _ (one
-    (c .before .before .before .before .before .before .before .before .before .before .before .before .before .before .before .before .before .before
-    .before .before .before .before .before .args .s .now) _ (sym
-    (c .before .before .before .before .before .before .before .before .before .before .before .before .before .before .before .before .before .before
-    .digits .given .1) ∙ c .before .before .before .before .before .before .before .before .before .before .before .before .before .before .before .before
-    .before .before .before .before .field-at .ensures)) (sym (c .before .before .before .before .before .before .before .before .before .before .before
-    .target-size .given .1) ∙ c .before .before .before .before .before .before .before .before .before .before .before .before .before .field-at2
-    .ensures)) (sym (c .before .before .before .before .before .before .expr-size .given .1)
-    ∙ c .before .before .before .before .before .before .before .before .field-at3 .ensures))
-    (sym (c .before .enum-told4 .given .1) ∙ c .before .before .before .field-at4 .ensures)
+returns-4 c =
+    let at-field-at3 = c .before .before .before .before .before .before .before .before in
+    let at-digits = at-field-at3 .before .before .before .before .before .before .before .before .before .before in
+    let s = at-digits .before .before .before .before .before .args .s .now in
+    c .no-form4 .ensures ∙ none-4 s _ _ _ (three s _ _ _ (two s _ _ (one s _ (sym (at-digits .digits
+    .given .1) ∙ at-digits .before .before .field-at .ensures)) (sym (at-field-at3 .before .before .before .target-size .given .1) ∙ at-field-at3
+    .before .before .before .before .before .field-at2 .ensures)) (sym (c .before .before .before .before .before .before .expr-size .given .1) ∙
+    at-field-at3 .field-at3 .ensures)) (sym (c .before .enum-told4 .given .1) ∙ c .before .before .before .field-at4 .ensures)
 
 add-check : tie.Need-add-check
 add-check c = omega (
   arith,
-  (four (c .before .before .before .before .before .before .before .before .before .before .before .before .before .before .before
-      .before .before .before .before .before .before .before .before .args .s .now) _ _ _ _
-      (three (c .before .before .before .before .before .before .before .before .before .before .before .before .before .before .before .before .before
-      .before .before .before .before .before .before .args .s .now) _ _ _
-      (two (c .before .before .before .before .before .before .before .before .before .before .before .before .before .before .before .before .before .before
-      .before .before .before .before .before .args .s .now) _ _ (one
-      (c .before .before .before .before .before .before .before .before .before .before .before .before .before .before .before .before .before .before
-      .before .before .before .before .before .args .s .now) _ (sym
-      (c .before .before .before .before .before .before .before .before .before .before .before .before .before .before .before .before .before .before
-      .digits .given .1) ∙ c .before .before .before .before .before .before .before .before .before .before .before .before .before .before .before .before
-      .before .before .before .before .field-at .ensures)) (sym (c .before .before .before .before .before .before .before .before .before .before .before
-      .target-size .given .1) ∙ c .before .before .before .before .before .before .before .before .before .before .before .before .before .field-at2
-      .ensures)) (sym (c .before .before .before .before .before .before .expr-size .given .1)
-      ∙ c .before .before .before .before .before .before .before .before .field-at3 .ensures))
-      (sym (c .before .check-size .given .1) ∙ c .before .before .before .field-at4 .ensures)) .inside,
-  (four (c .before .before .before .before .before .before .before .before .before .before .before .before .before .before .before .before .before .before
-      .before .before .before .before .before .args .s .now) _ _ _ _
-      (three (c .before .before .before .before .before .before .before .before .before .before .before .before .before .before .before .before .before
-      .before .before .before .before .before .before .args .s .now) _ _ _
-      (two (c .before .before .before .before .before .before .before .before .before .before .before .before .before .before .before .before .before .before
-      .before .before .before .before .before .args .s .now) _ _ (one
-      (c .before .before .before .before .before .before .before .before .before .before .before .before .before .before .before .before .before .before
-      .before .before .before .before .before .args .s .now) _ (sym
-      (c .before .before .before .before .before .before .before .before .before .before .before .before .before .before .before .before .before .before
-      .digits .given .1) ∙ c .before .before .before .before .before .before .before .before .before .before .before .before .before .before .before .before
-      .before .before .before .before .field-at .ensures)) (sym (c .before .before .before .before .before .before .before .before .before .before .before
-      .target-size .given .1) ∙ c .before .before .before .before .before .before .before .before .before .before .before .before .before .field-at2
-      .ensures)) (sym (c .before .before .before .before .before .before .expr-size .given .1)
-      ∙ c .before .before .before .before .before .before .before .before .field-at3 .ensures))
-      (sym (c .before .check-size .given .1) ∙ c .before .before .before .field-at4 .ensures)) .end,
+  four (c .before .before .before .before .before .before .before .before .before .before .before .before .before .before .before .before .before
+      .before .before .before .before .before .before .args .s .now) _ _ _ _ (three (c .before .before .before .before .before .before .before .before
+      .before .before .before .before .before .before .before .before .before .before .before .before .before .before .before .args .s .now) _ _ _
+      (two (c .before .before .before .before .before .before .before .before .before .before .before .before .before .before .before .before .before
+      .before .before .before .before .before .before .args .s .now) _ _ (one (c .before .before .before .before .before .before .before .before
+      .before .before .before .before .before .before .before .before .before .before .before .before .before .before .before .args .s .now) _ (sym (c
+      .before .before .before .before .before .before .before .before .before .before .before .before .before .before .before .before .before .before
+      .digits .given .1) ∙ c .before .before .before .before .before .before .before .before .before .before .before .before .before .before .before
+      .before .before .before .before .before .field-at .ensures)) (sym (c .before .before .before .before .before .before .before .before .before
+      .before .before .target-size .given .1) ∙ c .before .before .before .before .before .before .before .before .before .before .before .before
+      .before .field-at2 .ensures)) (sym (c .before .before .before .before .before .before .expr-size .given .1) ∙ c .before .before .before .before
+      .before .before .before .before .field-at3 .ensures)) (sym (c .before .check-size .given .1) ∙ c .before .before .before .field-at4 .ensures),
 )
 
 add-check-end : tie.Need-add-check-end
 add-check-end c = omega (
   arith,
-  (four (c .before .before .before .before .before .before .before .before .before .before .before .before .before .before
-      .before .before .before .before .before .before .before .before .before .args .s .now) _ _ _ _
-      (three (c .before .before .before .before .before .before .before .before .before .before .before .before .before .before .before .before .before
-      .before .before .before .before .before .before .args .s .now) _ _ _
-      (two (c .before .before .before .before .before .before .before .before .before .before .before .before .before .before .before .before .before .before
-      .before .before .before .before .before .args .s .now) _ _ (one
-      (c .before .before .before .before .before .before .before .before .before .before .before .before .before .before .before .before .before .before
-      .before .before .before .before .before .args .s .now) _ (sym
-      (c .before .before .before .before .before .before .before .before .before .before .before .before .before .before .before .before .before .before
-      .digits .given .1) ∙ c .before .before .before .before .before .before .before .before .before .before .before .before .before .before .before .before
-      .before .before .before .before .field-at .ensures)) (sym (c .before .before .before .before .before .before .before .before .before .before .before
-      .target-size .given .1) ∙ c .before .before .before .before .before .before .before .before .before .before .before .before .before .field-at2
-      .ensures)) (sym (c .before .before .before .before .before .before .expr-size .given .1)
-      ∙ c .before .before .before .before .before .before .before .before .field-at3 .ensures))
-      (sym (c .before .check-size .given .1) ∙ c .before .before .before .field-at4 .ensures)) .inside,
-  (four (c .before .before .before .before .before .before .before .before .before .before .before .before .before .before .before .before .before .before
-      .before .before .before .before .before .args .s .now) _ _ _ _
-      (three (c .before .before .before .before .before .before .before .before .before .before .before .before .before .before .before .before .before
-      .before .before .before .before .before .before .args .s .now) _ _ _
-      (two (c .before .before .before .before .before .before .before .before .before .before .before .before .before .before .before .before .before .before
-      .before .before .before .before .before .args .s .now) _ _ (one
-      (c .before .before .before .before .before .before .before .before .before .before .before .before .before .before .before .before .before .before
-      .before .before .before .before .before .args .s .now) _ (sym
-      (c .before .before .before .before .before .before .before .before .before .before .before .before .before .before .before .before .before .before
-      .digits .given .1) ∙ c .before .before .before .before .before .before .before .before .before .before .before .before .before .before .before .before
-      .before .before .before .before .field-at .ensures)) (sym (c .before .before .before .before .before .before .before .before .before .before .before
-      .target-size .given .1) ∙ c .before .before .before .before .before .before .before .before .before .before .before .before .before .field-at2
-      .ensures)) (sym (c .before .before .before .before .before .before .expr-size .given .1)
-      ∙ c .before .before .before .before .before .before .before .before .field-at3 .ensures))
-      (sym (c .before .check-size .given .1) ∙ c .before .before .before .field-at4 .ensures)) .end,
+  four (c .before .before .before .before .before .before .before .before .before .before .before .before .before .before .before .before .before
+      .before .before .before .before .before .before .args .s .now) _ _ _ _ (three (c .before .before .before .before .before .before .before .before
+      .before .before .before .before .before .before .before .before .before .before .before .before .before .before .before .args .s .now) _ _ _
+      (two (c .before .before .before .before .before .before .before .before .before .before .before .before .before .before .before .before .before
+      .before .before .before .before .before .before .args .s .now) _ _ (one (c .before .before .before .before .before .before .before .before
+      .before .before .before .before .before .before .before .before .before .before .before .before .before .before .before .args .s .now) _ (sym (c
+      .before .before .before .before .before .before .before .before .before .before .before .before .before .before .before .before .before .before
+      .digits .given .1) ∙ c .before .before .before .before .before .before .before .before .before .before .before .before .before .before .before
+      .before .before .before .before .before .field-at .ensures)) (sym (c .before .before .before .before .before .before .before .before .before
+      .before .before .target-size .given .1) ∙ c .before .before .before .before .before .before .before .before .before .before .before .before
+      .before .field-at2 .ensures)) (sym (c .before .before .before .before .before .before .expr-size .given .1) ∙ c .before .before .before .before
+      .before .before .before .before .field-at3 .ensures)) (sym (c .before .check-size .given .1) ∙ c .before .before .before .field-at4 .ensures),
 )
 
 no-form-requires-5 : tie.Need-no-form-requires-5
 no-form-requires-5 c κs = search needs
 
 returns-5 : tie.Need-returns-5
-returns-5 c = c .no-form5 .ensures ∙ zero-number (c .before .before .before .before .before .before .before .before .before .before .before .before .before
-    .before .before .before .before .before .before .before .before .before .before .before .before .args .s .now) _ _ _ _ _
-    (four (c .before .before .before .before .before .before .before .before .before .before .before .before .before .before .before .before .before .before
-    .before .before .before .before .before .before .before .args .s .now) _ _ _ _
-    (three (c .before .before .before .before .before .before .before .before .before .before .before .before .before .before .before .before .before
-    .before .before .before .before .before .before .before .before .args .s .now) _ _ _
-    (two (c .before .before .before .before .before .before .before .before .before .before .before .before .before .before .before .before .before .before
-    .before .before .before .before .before .before .before .args .s .now) _ _
-    (one (c .before .before .before .before .before .before .before .before .before .before .before .before .before .before .before .before .before .before
-    .before .before .before .before .before .before .before .args .s .now) _
-    (sym (c .before .before .before .before .before .before .before .before .before .before .before .before .before .before .before .before .before .before
-    .before .before .digits .given .1) ∙ c .before .before .before .before .before .before .before .before .before .before .before .before .before .before
-    .before .before .before .before .before .before .before .before .field-at .ensures))
-    (sym (c .before .before .before .before .before .before .before .before .before .before .before .before .before .target-size .given .1)
-    ∙ c .before .before .before .before .before .before .before .before .before .before .before .before .before .before .before .field-at2 .ensures))
-    (sym (c .before .before .before .before .before .before .before .before .expr-size .given .1)
-    ∙ c .before .before .before .before .before .before .before .before .before .before .field-at3 .ensures))
-    (sym (c .before .before .before .check-size .given .1) ∙ c .before .before .before .before .before .field-at4 .ensures))
-    (c .before .before .before .before .before .before .before .before .before .before .before .before .before .before .before .before .before .card-number
-    .ensures) (c .before .if1 .taken)
+returns-5 c =
+    let at-expr-size = c .before .before .before .before .before .before .before .before in
+    let at-field-at2 = at-expr-size .before .before .before .before .before .before .before in
+    let at-digits = at-field-at2 .before .before .before .before .before in
+    let s = at-digits .before .before .before .before .before .args .s .now in
+    c .no-form5 .ensures ∙ zero-number s _ _ _ _ _ (four s _ _ _ _ (three s _ _ _ (two s _ _
+    (one s _ (sym (at-digits .digits .given .1) ∙ at-digits .before .before .field-at .ensures)) (sym
+    (at-expr-size .before .before .before .before .before .target-size .given .1) ∙ at-field-at2 .field-at2 .ensures)) (sym
+    (at-expr-size .expr-size .given .1) ∙ at-expr-size .before .before .field-at3 .ensures)) (sym (c .before .before .before .check-size .given .1)
+    ∙ c .before .before .before .before .before .field-at4 .ensures)) (at-field-at2 .before .before .card-number .ensures) (c .before .if1 .taken)
 
 sub-is-check : tie.Need-sub-is-check
 sub-is-check c = search needs
@@ -388,27 +300,16 @@ no-form-requires-6 : tie.Need-no-form-requires-6
 no-form-requires-6 c κs = search needs
 
 returns-6 : tie.Need-returns-6
-returns-6 c = c .no-form6 .ensures ∙ no-check (c .before .before .before .before .before .before .before .before .before .before .before .before .before
-    .before .before .before .before .before .before .before .before .before .before .before .before .before .before .before .args .s .now) _ _ _ _ _
-    (four (c .before .before .before .before .before .before .before .before .before .before .before .before .before .before .before .before .before .before
-    .before .before .before .before .before .before .before .before .before .before .args .s .now) _ _ _ _
-    (three (c .before .before .before .before .before .before .before .before .before .before .before .before .before .before .before .before .before
-    .before .before .before .before .before .before .before .before .before .before .before .args .s .now) _ _ _
-    (two (c .before .before .before .before .before .before .before .before .before .before .before .before .before .before .before .before .before .before
-    .before .before .before .before .before .before .before .before .before .before .args .s .now) _ _
-    (one (c .before .before .before .before .before .before .before .before .before .before .before .before .before .before .before .before .before .before
-    .before .before .before .before .before .before .before .before .before .before .args .s .now) _
-    (sym (c .before .before .before .before .before .before .before .before .before .before .before .before .before .before .before .before .before .before
-    .before .before .before .before .before .digits .given .1) ∙ c .before .before .before .before .before .before .before .before .before .before .before
-    .before .before .before .before .before .before .before .before .before .before .before .before .before .before .field-at .ensures))
-    (sym (c .before .before .before .before .before .before .before .before .before .before .before .before .before .before .before .before .target-size
-    .given .1) ∙ c .before .before .before .before .before .before .before .before .before .before .before .before .before .before .before .before .before
-    .before .field-at2 .ensures)) (sym (c .before .before .before .before .before .before .before .before .before .before .before .expr-size .given .1)
-    ∙ c .before .before .before .before .before .before .before .before .before .before .before .before .before .field-at3 .ensures))
-    (sym (c .before .before .before .before .before .before .check-size .given .1)
-    ∙ c .before .before .before .before .before .before .before .before .field-at4 .ensures))
-    (c .before .before .before .before .before .before .before .before .before .before .before .before .before .before .before .before .before .before
-    .before .before .card-number .ensures) (c .before .before .is-check .ensures) (not-true _ (c .before .if2 .taken))
+returns-6 c =
+    let at-expr-size = c .before .before .before .before .before .before .before .before .before .before .before in
+    let at-field-at2 = at-expr-size .before .before .before .before .before .before .before in
+    let s = at-field-at2 .before .before .before .before .before .before .before .before .before .before .args .s .now in
+    c .no-form6 .ensures ∙ no-check s _ _ _ _ _ (four s _ _ _ _ (three s _ _ _ (two s _ _
+    (one s _ (sym (at-field-at2 .before .before .before .before .before .digits .given .1) ∙ at-field-at2 .before .before .before
+    .before .before .before .before .field-at .ensures)) (sym (at-expr-size .before .before .before .before .before .target-size .given .1) ∙
+    at-field-at2 .field-at2 .ensures)) (sym (at-expr-size .expr-size .given .1) ∙ at-expr-size .before .before .field-at3 .ensures)) (sym (c .before
+    .before .before .before .before .before .check-size .given .1) ∙ c .before .before .before .before .before .before .before .before .field-at4
+    .ensures)) (at-field-at2 .before .before .card-number .ensures) (c .before .before .is-check .ensures) (not-true _ (c .before .if2 .taken))
 
 add-t22 : tie.Need-add-t22
 add-t22 c = omega (
@@ -433,26 +334,16 @@ add-t22 c = omega (
 )
 
 returns-7 : tie.Need-returns-7
-returns-7 c = whole (c .before .before .before .before .before .before .before .before .before .before .before .before .before .before .before .before
-    .before .before .before .before .before .before .before .before .before .before .before .args .s .now) _ _ _ _ _
-    (four (c .before .before .before .before .before .before .before .before .before .before .before .before .before .before .before .before .before .before
-    .before .before .before .before .before .before .before .before .before .args .s .now) _ _ _ _
-    (three (c .before .before .before .before .before .before .before .before .before .before .before .before .before .before .before .before .before
-    .before .before .before .before .before .before .before .before .before .before .args .s .now) _ _ _
-    (two (c .before .before .before .before .before .before .before .before .before .before .before .before .before .before .before .before .before .before
-    .before .before .before .before .before .before .before .before .before .args .s .now) _ _
-    (one (c .before .before .before .before .before .before .before .before .before .before .before .before .before .before .before .before .before .before
-    .before .before .before .before .before .before .before .before .before .args .s .now) _
-    (sym (c .before .before .before .before .before .before .before .before .before .before .before .before .before .before .before .before .before .before
-    .before .before .before .before .digits .given .1) ∙ c .before .before .before .before .before .before .before .before .before .before .before .before
-    .before .before .before .before .before .before .before .before .before .before .before .before .field-at .ensures))
-    (sym (c .before .before .before .before .before .before .before .before .before .before .before .before .before .before .before .target-size .given .1)
-    ∙ c .before .before .before .before .before .before .before .before .before .before .before .before .before .before .before .before .before .field-at2
-    .ensures)) (sym (c .before .before .before .before .before .before .before .before .before .before .expr-size .given .1)
-    ∙ c .before .before .before .before .before .before .before .before .before .before .before .before .field-at3 .ensures))
-    (sym (c .before .before .before .before .before .check-size .given .1) ∙ c .before .before .before .before .before .before .before .field-at4 .ensures))
-    (c .before .before .before .before .before .before .before .before .before .before .before .before .before .before .before .before .before .before
-    .before .card-number .ensures) (c .before .is-check .ensures) (c .before .before .before .if1 .left) (not-false _ (c .if2 .left))
+returns-7 c =
+    let at-expr-size = c .before .before .before .before .before .before .before .before .before .before in
+    let at-field-at2 = at-expr-size .before .before .before .before .before .before .before in
+    let s = at-field-at2 .before .before .before .before .before .before .before .before .before .before .args .s .now in
+    whole s _ _ _ _ _ (four s _ _ _ _ (three s _ _ _ (two s _ _ (one s _
+    (sym (at-field-at2 .before .before .before .before .before .digits .given .1) ∙ at-field-at2 .before .before .before .before .before .before
+    .before .field-at .ensures)) (sym (at-expr-size .before .before .before .before .before .target-size .given .1) ∙ at-field-at2 .field-at2
+    .ensures)) (sym (at-expr-size .expr-size .given .1) ∙ at-expr-size .before .before .field-at3 .ensures)) (sym (c .before .before .before .before
+    .before .check-size .given .1) ∙ c .before .before .before .before .before .before .before .field-at4 .ensures)) (at-field-at2 .before .before
+    .card-number .ensures) (c .before .is-check .ensures) (c .before .before .before .if1 .left) (not-false _ (c .if2 .left))
 
 pub card-form-spec : {M : Type 1} → statement M
 card-form-spec =

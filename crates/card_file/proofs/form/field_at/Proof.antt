@@ -47,18 +47,16 @@ sub-if3 : tie.Need-sub-if3
 sub-if3 c = search needs
 
 returns-3 : tie.Need-returns-3
-returns-3 c = unended (c .before .before .before .before .before .before .before .before .before .args .s .now)
-    (c .before .before .before .before .before .before .before .before .before .args .at)
-    (c .before .before .before .before .before .before .before .before .before .args .key .now)
-    (sym (not-false _ (c .before .before .before .if2 .left)) ∙ c .before .before .before .before .same-bytes .ensures) (c .before .until .ensures)
-    (c .if3 .taken)
+returns-3 c =
+    let at-args = c .before .before .before .before .before .before .before .before .before in
+    unended (at-args .args .s .now) (at-args .args .at) (at-args .args .key .now) (sym (not-false _ (c .before .before .before .if2 .left))
+    ∙ c .before .before .before .before .same-bytes .ensures) (c .before .until .ensures) (c .if3 .taken)
 
 returns-4 : tie.Need-returns-4
-returns-4 c = found (c .before .before .before .before .before .before .before .before .before .args .s .now)
-    (c .before .before .before .before .before .before .before .before .before .args .at)
-    (c .before .before .before .before .before .before .before .before .before .args .key .now)
-    (sym (not-false _ (c .before .before .before .if2 .left)) ∙ c .before .before .before .before .same-bytes .ensures) (c .before .until .ensures)
-    (c .if3 .left)
+returns-4 c =
+    let at-args = c .before .before .before .before .before .before .before .before .before in
+    found (at-args .args .s .now) (at-args .args .at) (at-args .args .key .now) (sym (not-false _ (c .before .before .before .if2 .left))
+    ∙ c .before .before .before .before .same-bytes .ensures) (c .before .until .ensures) (c .if3 .left)
 
 pub field-at-spec : {M : Type 1} → statement M
 field-at-spec =

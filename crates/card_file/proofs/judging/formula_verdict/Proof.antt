@@ -24,15 +24,13 @@ enum-known-a c = search needs
 
 returns-2 : tie.Need-returns-2
 returns-2 c = accepted-formula (c .before .before .before .before .before .before .before .args .target .now)
-    (c .before .before .before .before .before .before .before .args .expr .now) _
-    (sym (not-false _ (c .before .before .before .if1 .left)) ∙ c .before .before .before .before .is-target .ensures)
-    (sym (c .enum-told .given .1) ∙ c .before .before .judge .ensures)
+    (c .before .before .before .before .before .before .before .args .expr .now) _ (sym (not-false _ (c .before .before .before .if1 .left))
+    ∙ c .before .before .before .before .is-target .ensures) (sym (c .enum-told .given .1) ∙ c .before .before .judge .ensures)
 
 returns-3 : tie.Need-returns-3
-returns-3 c = refused-formula (c .before .before .before .before .before .before .before .before .args .target .now)
-    (c .before .before .before .before .before .before .before .before .args .expr .now) _ _
-    (sym (not-false _ (c .before .before .before .before .if1 .left)) ∙ c .before .before .before .before .before .is-target .ensures)
-    (sym (c .before .a .given .1) ∙ c .before .before .before .judge .ensures)
+returns-3 c = refused-formula (c .before .before .before .before .before .before .before .before .args .target .now) (c .before .before .before
+    .before .before .before .before .before .args .expr .now) _ _ (sym (not-false _ (c .before .before .before .before .if1 .left)) ∙ c .before
+    .before .before .before .before .is-target .ensures) (sym (c .before .a .given .1) ∙ c .before .before .before .judge .ensures)
 
 pub formula-verdict-spec : {M : Type 1} → statement M
 formula-verdict-spec =

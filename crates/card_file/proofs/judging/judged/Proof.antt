@@ -87,15 +87,12 @@ returns-2 c = check-differs (c .before .before .before .before .before .before .
     (c .before .before .same-bytes .ensures) (omega arith) (not-true _ (c .if2 .taken))
 
 returns-3 : tie.Need-returns-3
-returns-3 c = not-above (c .before .before .before .before .before .before .before .before .before .before .before .before .before .before .args .s .now)
-    (c .before .before .before .before .before .before .before .before .before .before .before .before .before .before .args .last)
-    (c .before .before .before .before .before .before .before .before .before .before .before .before .before .before .args .f)
-    (parts (c .before .before .before .before .before .before .before .before .before .before .before .before .before .before .args .s .now)
-    (c .before .before .before .before .before .before .before .before .before .before .before .before .before .before .args .f)
-    (c .before .before .before .before .before .before .before .before .before .before .before .before .before .before .pre)
-    (not-false _ (c .before .before .before .before .before .before .before .before .before .before .before .if1 .left)))
-    (c .before .before .before .before .before .before .before .sum-of .ensures) (c .before .before .before .before .before .before .digits-of .ensures)
-    (c .before .before .before .same-bytes .ensures) (not-false _ (c .before .if2 .left)) (c .before .before .rises .ensures) (not-true _ (c .if3 .taken))
+returns-3 c =
+    let at-args = c .before .before .before .before .before .before .before .before .before .before .before .before .before .before in
+    not-above (at-args .args .s .now) (at-args .args .last) (at-args .args .f) (parts (at-args .args .s .now) (at-args .args .f) (at-args .pre)
+    (not-false _ (c .before .before .before .before .before .before .before .before .before .before .before .if1 .left))) (c .before .before .before
+    .before .before .before .before .sum-of .ensures) (c .before .before .before .before .before .before .digits-of .ensures) (c .before .before
+    .before .same-bytes .ensures) (not-false _ (c .before .if2 .left)) (c .before .before .rises .ensures) (not-true _ (c .if3 .taken))
 
 sub-formula-verdict : tie.Need-sub-formula-verdict
 sub-formula-verdict c = let p = (parts (c .before .before .before .before .before .before .before .before .before .before .before .before .before .before
@@ -143,15 +140,11 @@ formula-verdict-requires : tie.Need-formula-verdict-requires
 formula-verdict-requires c κs = search needs
 
 returns-4 : tie.Need-returns-4
-returns-4 c = own (c .before .before .before .before .before .before .before .before .before .before .before .before .before .before .before .before .before
-    .args .s .now) (c .before .before .before .before .before .before .before .before .before .before .before .before .before .before .before .before
-    .before .args .last) (c .before .before .before .before .before .before .before .before .before .before .before .before .before .before .before .before
-    .before .args .f) (parts (c .before .before .before .before .before .before .before .before .before .before .before .before .before .before .before
-    .before .before .args .s .now) (c .before .before .before .before .before .before .before .before .before .before .before .before .before .before
-    .before .before .before .args .f) (c .before .before .before .before .before .before .before .before .before .before .before .before .before .before
-    .before .before .before .pre) (not-false _ (c .before .before .before .before .before .before .before .before .before .before .before .before .before
-    .before .if1 .left))) (c .before .before .before .before .before .before .before .before .before .before .sum-of .ensures)
-    (c .before .before .before .before .before .before .before .before .before .digits-of .ensures)
+returns-4 c =
+    let at-digits-of = c .before .before .before .before .before .before .before .before .before in
+    let at-args = at-digits-of .before .before .before .before .before .before .before .before in
+    own (at-args .args .s .now) (at-args .args .last) (at-args .args .f) (parts (at-args .args .s .now) (at-args .args .f) (at-args .pre) (not-false _
+    (at-digits-of .before .before .before .before .before .if1 .left))) (at-digits-of .before .sum-of .ensures) (at-digits-of .digits-of .ensures)
     (c .before .before .before .before .before .before .same-bytes .ensures) (not-false _ (c .before .before .before .before .if2 .left))
     (c .formula-verdict .ensures) (c .before .before .before .before .before .rises .ensures) (not-false _ (c .before .before .before .if3 .left))
 

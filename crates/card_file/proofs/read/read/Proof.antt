@@ -60,18 +60,12 @@ cast-put-card : tie.Need-cast-put-card Inv-loop μ-loop
 cast-put-card c = let b = bounds (c .before .before .before .before .before .before .before .loop .inv) in omega (arith, b .at-low, b .last-low)
 
 put-card-requires : tie.Need-put-card-requires Inv-loop μ-loop
-put-card-requires c κs = (
-  room (c .before .before .before .before .before .before .before .loop .inv)
-      (taken-at (c .before .before .before .before .before .before .before .before .before .before .args .file .now)
-      (c .before .before .before .before .before .before .before .loop .at) (c .before .before .before .before .before .before .before .loop .last)
-      (c .before .before .before .before .card-form .result) (c .before .before .before .before .card-form .ensures)
-      (sym (c .before .enum-told .given .1) ∙ c .before .before .before .judged .ensures)),
-  small (c .before .before .before .before .before .before .before .loop .inv)
-      (taken-at (c .before .before .before .before .before .before .before .before .before .before .args .file .now)
-      (c .before .before .before .before .before .before .before .loop .at) (c .before .before .before .before .before .before .before .loop .last)
-      (c .before .before .before .before .card-form .result) (c .before .before .before .before .card-form .ensures)
-      (sym (c .before .enum-told .given .1) ∙ c .before .before .before .judged .ensures)),
-)
+put-card-requires c κs =
+    let at-judged = c .before .before .before in
+    let at-loop = at-judged .before .before .before .before in
+    let its-taken-at = taken-at (at-loop .before .before .before .args .file .now) (at-loop .loop .at) (at-loop .loop .last) (at-judged .before
+    .card-form .result) (at-judged .before .card-form .ensures) (sym (c .before .enum-told .given .1) ∙ at-judged .judged .ensures) in
+    (room (at-loop .loop .inv) its-taken-at, small (at-loop .loop .inv) its-taken-at)
 
 add-count : tie.Need-add-count Inv-loop μ-loop
 add-count c = let b = bounds (c .before .before .before .before .before .before .before .before .before .loop .inv) in omega (arith, b .count-low, b .last-low)
@@ -114,15 +108,12 @@ loop-less c = let g = again (c .before .before .before .before .before .before .
     )
 
 loop-again : tie.Need-loop-again Inv-loop μ-loop
-loop-again c = again (c .before .before .before .before .before .before .before .before .before .before .loop .inv)
-    (c .before .before .before .before .before .before .before .before .before .loop-test .taken)
-    (taken-at (c .before .before .before .before .before .before .before .before .before .before .before .before .before .args .file .now)
-    (c .before .before .before .before .before .before .before .before .before .before .loop .at)
-    (c .before .before .before .before .before .before .before .before .before .before .loop .last)
-    (c .before .before .before .before .before .before .before .card-form .result)
-    (c .before .before .before .before .before .before .before .card-form .ensures)
-    (sym (c .before .before .before .before .enum-told .given .1) ∙ c .before .before .before .before .before .before .judged .ensures))
-    (c .before .before .put-card .ensures)
+loop-again c =
+    let at-judged = c .before .before .before .before .before .before in
+    let at-loop = at-judged .before .before .before .before in
+    again (at-loop .loop .inv) (at-judged .before .before .before .loop-test .taken) (taken-at (at-loop .before .before .before .args .file .now)
+    (at-loop .loop .at) (at-loop .loop .last) (at-judged .before .card-form .result) (at-judged .before .card-form .ensures) (sym
+    (c .before .before .before .before .enum-told .given .1) ∙ at-judged .judged .ensures)) (c .before .before .put-card .ensures)
 
 array-write-words : tie.Need-array-write-words Inv-loop μ-loop
 array-write-words c = omega (arith, long (c .before .loop .inv))

@@ -33,13 +33,13 @@ part-answer-requires : tie.Need-part-answer-requires Inv-loop μ-loop
 part-answer-requires c κs = search needs
 
 sub-kept-size : tie.Need-sub-kept-size Inv-loop μ-loop
-sub-kept-size c = omega (arith, c .before .before .part-end .ensures .order, c .before .before .part-end .ensures .inside)
+sub-kept-size c = omega (arith, c .before .before .part-end .ensures)
 
 kept-size-requires : tie.Need-kept-size-requires Inv-loop μ-loop
 kept-size-requires c κs = search needs
 
 sub-named-size : tie.Need-sub-named-size Inv-loop μ-loop
-sub-named-size c = omega (arith, c .before .before .before .part-end .ensures .order, c .before .before .before .part-end .ensures .inside)
+sub-named-size c = omega (arith, c .before .before .before .part-end .ensures)
 
 named-size-requires : tie.Need-named-size-requires Inv-loop μ-loop
 named-size-requires c κs = search needs
@@ -50,10 +50,9 @@ returns c = no-room (c .before .before .before .before .before .before .before .
     (c .before .before .before .part-answer .ensures)) (c .before .before .kept-size .ensures) (c .if1 .taken)
 
 returns-2 : tie.Need-returns-2 Inv-loop μ-loop
-returns-2 c = no-room-named (c .before .before .before .before .before .before .before .before .loop .inv)
-    (taken (c .before .before .before .before .before .before .before .before .loop .last)
-    (c .before .before .before .before .before .before .part-end .ensures) (c .before .before .before .before .part-answer .ensures))
-    (c .before .before .named-size .ensures) (c .if2 .taken)
+returns-2 c = no-room-named (c .before .before .before .before .before .before .before .before .loop .inv) (taken (c .before .before .before .before
+    .before .before .before .before .loop .last) (c .before .before .before .before .before .before .part-end .ensures) (c .before .before .before
+    .before .part-answer .ensures)) (c .before .before .named-size .ensures) (c .if2 .taken)
 
 last-kept-requires : tie.Need-last-kept-requires Inv-loop μ-loop
 last-kept-requires c κs = search needs
@@ -66,11 +65,10 @@ loop-less c = omega (
 )
 
 loop-again : tie.Need-loop-again Inv-loop μ-loop
-loop-again c = next (c .before .before .before .before .before .before .before .before .before .loop .inv)
-    (taken (c .before .before .before .before .before .before .before .before .before .loop .last)
-    (c .before .before .before .before .before .before .before .part-end .ensures) (c .before .before .before .before .before .part-answer .ensures))
-    (c .before .before .before .before .kept-size .ensures) (c .before .before .before .named-size .ensures) (c .before .before .if1 .left)
-    (c .before .if2 .left) (c .last-kept .ensures)
+loop-again c = next (c .before .before .before .before .before .before .before .before .before .loop .inv) (taken (c .before .before .before .before
+    .before .before .before .before .before .loop .last) (c .before .before .before .before .before .before .before .part-end .ensures) (c .before
+    .before .before .before .before .part-answer .ensures)) (c .before .before .before .before .kept-size .ensures) (c .before .before .before
+    .named-size .ensures) (c .before .before .if1 .left) (c .before .if2 .left) (c .last-kept .ensures)
 
 returns-3 : tie.Need-returns-3 Inv-loop μ-loop
 returns-3 c = end (c .before .loop .inv) (c .loop-test .left)

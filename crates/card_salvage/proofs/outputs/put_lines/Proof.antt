@@ -88,20 +88,15 @@ same-length : tie.Need-same-length
 same-length c = search needs
 
 returns : tie.Need-returns
-returns c = as-text (lines-of (c .before .before .before .before .before .before .before .before .before .before .before .before .before .before .before
-    .before .before .before .before .before .before .before .before .before .before .before .before .before .before .before .before .before .before .args
-    .first) (c .before .before .before .before .before .before .before .before .before .before .before .before .before .before .before .before .before
-    .before .before .before .before .before .before .before .before .before .before .before .before .before .before .before .before .args .size)
-    (c .before .before .before .before .before .before .before .before .before .before .before .before .before .before .before .before .before .before
-    .before .before .before .before .before .before .before .before .before .before .before .before .before .before .before .args .answer))
-    (then (then (then (then (then (then (c .before .before .before .before .before .before .before .before .before .before .before .before .before .before
-    .before .before .before .before .before .before .before .before .before .before .before .before .before .before .before .put-all .ensures)
-    (c .before .before .before .before .before .before .before .before .before .before .before .before .before .before .before .before .before .before
-    .before .before .before .before .before .before .before .put-decimal .ensures .0))
-    (c .before .before .before .before .before .before .before .before .before .before .before .before .before .before .before .before .before .before
-    .before .before .put-all2 .ensures)) (c .before .before .before .before .before .before .before .before .before .before .before .before .before .before
-    .before .before .put-decimal2 .ensures .0)) (c .before .before .before .before .before .before .before .before .before .before .before .put-all3
-    .ensures)) (c .before .before .before .before .before .before .before .put-decimal3 .ensures .0)) (c .before .before .put-all4 .ensures))
+returns c =
+    let at-put-all3 = c .before .before .before .before .before .before .before .before .before .before .before in
+    let at-put-all2 = at-put-all3 .before .before .before .before .before .before .before .before .before in
+    let at-put-all = at-put-all2 .before .before .before .before .before .before .before .before .before in
+    let at-args = at-put-all .before .before .before .before in
+    as-text (lines-of (at-args .args .first) (at-args .args .size) (at-args .args .answer)) (then (then (then (then (then (then
+    (at-put-all .put-all .ensures) (at-put-all2 .before .before .before .before .before .put-decimal .ensures .0)) (at-put-all2 .put-all2 .ensures))
+    (at-put-all3 .before .before .before .before .before .put-decimal2 .ensures .0)) (at-put-all3 .put-all3 .ensures))
+    (c .before .before .before .before .before .before .before .put-decimal3 .ensures .0)) (c .before .before .put-all4 .ensures))
 
 pub put-lines-spec : {M : Type 1} → statement M
 put-lines-spec =

@@ -27,9 +27,8 @@ same-length : tie.Need-same-length
 same-length c = search needs
 
 returns-2 : tie.Need-returns-2
-returns-2 c = put-name (c .before .before .before .before .before .before .before .before .args .first)
-    (c .before .before .before .before .before .before .before .before .args .size) (c .before .before .before .before .before .answer .given .1)
-    (c .before .before .put-lines .ensures)
+returns-2 c = put-name (c .before .before .before .before .before .before .before .before .args .first) (c .before .before .before .before .before
+    .before .before .before .args .size) (c .before .before .before .before .before .answer .given .1) (c .before .before .put-lines .ensures)
 
 pub put-name-spec : {M : Type 1} → statement M
 put-name-spec =

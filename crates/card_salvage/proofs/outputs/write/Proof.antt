@@ -34,13 +34,13 @@ part-answer-requires : tie.Need-part-answer-requires Inv-loop μ-loop
 part-answer-requires c κs = search needs
 
 sub-put-kept : tie.Need-sub-put-kept Inv-loop μ-loop
-sub-put-kept c = omega (arith, c .before .before .before .part-end .ensures .order, c .before .before .before .part-end .ensures .inside)
+sub-put-kept c = omega (arith, c .before .before .before .part-end .ensures)
 
 part-put-kept-start : tie.Need-part-put-kept-start Inv-loop μ-loop
-part-put-kept-start c = omega (arith, c .before .before .before .part-end .ensures .order, c .before .before .before .part-end .ensures .inside)
+part-put-kept-start c = omega (arith, c .before .before .before .part-end .ensures)
 
 part-put-kept-end : tie.Need-part-put-kept-end Inv-loop μ-loop
-part-put-kept-end c = omega (arith, c .before .before .before .part-end .ensures .order, c .before .before .before .part-end .ensures .inside)
+part-put-kept-end c = omega (arith, c .before .before .before .part-end .ensures)
 
 put-kept-requires : tie.Need-put-kept-requires Inv-loop μ-loop
 put-kept-requires c κs = room (c .before .before .before .before .before .before .loop .inv)
@@ -48,18 +48,13 @@ put-kept-requires c κs = room (c .before .before .before .before .before .befor
     (c .before .before .part-answer .ensures)) (c .before .before .before .before .before .before .before .before .before .before .pre .0)
 
 sub-put-name : tie.Need-sub-put-name Inv-loop μ-loop
-sub-put-name c = omega (
-  arith,
-  c .before .before .before .before .before .before .before .before .part-end .ensures .order,
-  c .before .before .before .before .before .before .before .before .part-end .ensures .inside,
-)
+sub-put-name c = omega (arith, c .before .before .before .before .before .before .before .before .part-end .ensures)
 
 put-name-requires : tie.Need-put-name-requires Inv-loop μ-loop
-put-name-requires c κs = named-room (c .before .before .before .before .before .before .before .before .before .before .loop .inv)
-    (taken (c .before .before .before .before .before .before .before .before .before .before .loop .last)
-    (c .before .before .before .before .before .before .before .before .part-end .ensures)
-    (c .before .before .before .before .before .before .part-answer .ensures))
-    (c .before .before .before .before .before .before .before .before .before .before .before .before .before .before .pre .1)
+put-name-requires c κs =
+    let at-part-end = c .before .before .before .before .before .before .before .before in
+    named-room (at-part-end .before .before .loop .inv) (taken (at-part-end .before .before .loop .last) (at-part-end .part-end .ensures)
+    (c .before .before .before .before .before .before .part-answer .ensures)) (at-part-end .before .before .before .before .before .before .pre .1)
 
 last-kept-requires : tie.Need-last-kept-requires Inv-loop μ-loop
 last-kept-requires c κs = search needs
