@@ -1,2 +1,3 @@
 -- Laws for the proofs of store.
 pub mod Encodings
+mod Integers

@@ -1,6 +1,6 @@
 -- Reading a cell (paper 01; of its image "any non-zero byte reads 1", since Ask 9 a bit is 0 or 1): "V0-V255 unsigned 16; N0-N255 signed 16; D0-D255 signed
 -- 32; R0-R255 singles"; "Reading an R cell that holds an infinity or NaN is 13." An element that is not there is 14.
-use mathlib.Core.Bool.{Bool, cond}
+use mathlib.Core.Bool.{Bool, not, cond}
 use mathlib.Core.List.{List}
 use Prim.Native.Nat.{ℕ}
 use lib.Dec.{eqb}
@@ -18,6 +18,7 @@ use Rattle.values.specs.Patterns.{signedOf}
 use Rattle.operators.specs.declared.Position.{Position}
 use Rattle.operators.specs.declared.Position.the-variants as P
 use Rattle.operators.specs.Operators.{indexRule}
+use Rattle.operators.specs.Kinds.{isInt}
 use Rattle.memory.specs.declared.Bank.{Bank}
 use Rattle.memory.specs.declared.Bank.the-variants.{X, C, «V», N, D, R}
 use Rattle.memory.specs.Layout.{layoutOf, ImageLayout, packed, hasCellIn}
@@ -30,6 +31,10 @@ bankKind «V» = K.Int
 bankKind N = K.Int
 bankKind D = K.Int
 bankKind R = K.Real
+
+-- "no R bank" (paper 02, Ask 12)
+abbrev pub realBank : Bank → Bool
+realBank b = not (isInt (bankKind b))
 
 abbrev pub bitOf : ℕ → ℤ
 bitOf n = cond (eqb n 0) (pos 0) (pos 1)

@@ -1,10 +1,14 @@
 // Cells of the image: where one lies, the number that it holds, and what it reads.
 ghost use mathlib.Core.Path.{_≡_};
+ghost use mathlib.Core.Bool.{true, not, _||_};
 ghost use Prim.Native.Nat.{_^_, _<_};
 ghost use lib.Dec.{T};
+ghost use Rattle.values.specs.declared.Value.the-variants.{Int};
+ghost use Rattle.operators.specs.Reals.{realValue};
+ghost use Rattle.operators.specs.private.Admitted.{admitted};
 ghost use Rattle.memory.specs.Layout.{layoutOf, blockPlace, packed, hasCell};
 ghost use Rattle.memory.specs.Laws.{Holdable};
-ghost use Rattle.memory.specs.Cells.{cellValue, readRule, positionRule, indexedRule};
+ghost use Rattle.memory.specs.Cells.{realBank, cellValue, readRule, positionRule, atPosition, indexedRule};
 use crate::Bank;
 use crate::IMAGE_SIZE;
 use crate::bytes;
@@ -31,15 +35,13 @@ fn unsigned_cell(n: u32) -> Outcome
     Outcome::Done(Value::Int(n as i32))
 }
 
+// Half the range is added and taken off again, around its end: no branch at the sign.
 fn signed_cell(n: u32) -> Outcome
     requires { ⌜ n < 65536 ⌝ }
     ensures { λ r. ⌜ r ≡ cellValue Bank.N n ⌝ }
 {
-    if n < 32768 {
-        Outcome::Done(Value::Int(n as i32))
-    } else {
-        Outcome::Done(Value::Int((n as i32) - 65536))
-    }
+    let turned = (n + 32768) % 65536;
+    Outcome::Done(Value::Int((turned as i32) - 32768))
 }
 
 fn wide_cell(n: u32) -> Outcome
@@ -108,12 +110,11 @@ pub fn put(image: &mut [u8], bank: Bank, element: u32, n: u32)
     }
 }
 
-pub fn read(image: &[u8], bank: Bank, element: u32) -> Outcome
+// A cell that the image has: no test, for a loop that asked once.
+pub fn read_present(image: &[u8], bank: Bank, element: u32) -> Outcome
+    requires { ⌜ T (hasCell (now image) bank element) ⌝ }
     ensures { λ r. ⌜ r ≡ readRule (now (image .entry)) bank element ⌝ }
 {
-    if !has_cell(image, bank, element) {
-        return Outcome::Stopped(Fault::IndexError);
-    }
     match bank {
         Bank::X => bit_cell(get(image, Bank::X, element)),
         Bank::C => bit_cell(get(image, Bank::C, element)),
@@ -124,6 +125,15 @@ pub fn read(image: &[u8], bank: Bank, element: u32) -> Outcome
     }
 }
 
+pub fn read(image: &[u8], bank: Bank, element: u32) -> Outcome
+    ensures { λ r. ⌜ r ≡ readRule (now (image .entry)) bank element ⌝ }
+{
+    if !has_cell(image, bank, element) {
+        return Outcome::Stopped(Fault::IndexError);
+    }
+    read_present(image, bank, element)
+}
+
 // The element of a bank that an index names.
 pub fn position(bank: Bank, index: Value) -> Position
     ensures { λ r. ⌜ r ≡ positionRule bank index ⌝ }
@@ -131,11 +141,52 @@ pub fn position(bank: Bank, index: Value) -> Position
     operators::index(index, crate::layout_of(bank).elements)
 }
 
+fn integer_position(bank: Bank, z: i32) -> Position
+    ensures { λ r. ⌜ r ≡ positionRule bank (Int z) ⌝ }
+{
+    operators::integers::index(z, crate::layout_of(bank).elements)
+}
+
+// As `position`, of an integer where reals is false: a real, which the profile without reals does not hold, names element 0 there.
+pub fn position_in(bank: Bank, index: Value, reals: bool) -> Position
+    ensures { λ r. ⌜ ((reals || not (realValue index)) ≡ true → r ≡ positionRule bank index) ⌝ }
+{
+    if reals {
+        return position(bank, index);
+    }
+    match index {
+        Value::Int(z) => integer_position(bank, z),
+        Value::Real(_) => Position::At(0),
+    }
+}
+
+fn read_at(image: &[u8], bank: Bank, position: Position) -> Outcome
+    ensures { λ r. ⌜ r ≡ atPosition (readRule (now (image .entry)) bank) position ⌝ }
+{
+    match position {
+        Position::At(i) => read(image, bank, i),
+        Position::Stopped(f) => Outcome::Stopped(f),
+    }
+}
+
 pub fn read_indexed(image: &[u8], bank: Bank, index: Value) -> Outcome
     ensures { λ r. ⌜ r ≡ indexedRule (now (image .entry)) bank index ⌝ }
 {
-    match position(bank, index) {
-        Position::At(i) => read(image, bank, i),
-        Position::Stopped(f) => Outcome::Stopped(f),
+    read_at(image, bank, position(bank, index))
+}
+
+// As `read_indexed`, or in the profile without reals: there an index is an integer, and R has no cell.
+pub fn read_indexed_in(image: &[u8], bank: Bank, index: Value, reals: bool) -> Outcome
+    ensures { λ r. ⌜ r ≡ admitted reals (realBank bank || realValue index) (indexedRule (now (image .entry)) bank index) ⌝ }
+{
+    if reals {
+        return read_indexed(image, bank, index);
+    }
+    if crate::is_real(bank) {
+        return Outcome::WrongKind;
+    }
+    match index {
+        Value::Int(z) => read_at(image, bank, integer_position(bank, z)),
+        Value::Real(_) => Outcome::WrongKind,
     }
 }

@@ -1,6 +1,7 @@
 // The memory image: 3,092 bytes that the caller lends. This crate alone knows where a cell lies.
 ghost use mathlib.Core.Path.{_≡_};
 ghost use Rattle.memory.specs.Layout.{layoutOf, flagAt};
+ghost use Rattle.memory.specs.Cells.{realBank};
 use values::Fault;
 
 mod bytes;
@@ -83,5 +84,19 @@ pub fn flag_at(f: Fault) -> usize
         Fault::OutOfRange => 3089,
         Fault::Overflow => 3090,
         Fault::DividedByZero => 3091,
+    }
+}
+
+// The one bank of reals.
+pub fn is_real(bank: Bank) -> bool
+    ensures { λ r. ⌜ r ≡ realBank bank ⌝ }
+{
+    match bank {
+        Bank::X => false,
+        Bank::C => false,
+        Bank::V => false,
+        Bank::N => false,
+        Bank::D => false,
+        Bank::R => true,
     }
 }

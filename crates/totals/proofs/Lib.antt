@@ -6,5 +6,6 @@ mod Middle
 mod Within
 mod Numbers
 mod Runs
+mod Admitted
 pub mod Laws
 mod Samples

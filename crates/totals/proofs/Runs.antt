@@ -10,7 +10,7 @@ use Rattle.values.specs.declared.ChoiceOp.{ChoiceOp}
 use Rattle.values.specs.declared.CompareOp.{CompareOp}
 use Rattle.memory.specs.declared.Bank.{Bank}
 use Rattle.memory.specs.declared.Bank.the-variants.{X, C, «V», N, D, R}
-use Rattle.memory.specs.Cells.{bankKind, readRule}
+use Rattle.memory.specs.Cells.{bankKind, readRule, realBank}
 use Rattle.memory.specs.Environment.{memoryAt}
 use Rattle.totals.specs.declared.TotalOp.{TotalOp}
 use Rattle.totals.specs.declared.TotalOp.the-variants as T'
@@ -19,9 +19,9 @@ use Rattle.totals.specs.declared.MatchOp.the-variants as M'
 use Rattle.totals.specs.declared.Step.the-variants as S
 use Rattle.totals.specs.declared.Visited.{Visited}
 use Rattle.totals.specs.Totals.{totalOver, matchOver}
-use Rattle.totals.specs.private.Steps.{isReal, runOver}
+use Rattle.totals.specs.private.Steps.{runOver}
 
-pub real-bank : (b : Bank) → isReal b ≡ true → b ≡ R
+pub real-bank : (b : Bank) → realBank b ≡ true → b ≡ R
 real-bank X e = absurd (false≢true e)
 real-bank C e = absurd (false≢true e)
 real-bank «V» e = absurd (false≢true e)
@@ -29,7 +29,7 @@ real-bank N e = absurd (false≢true e)
 real-bank D e = absurd (false≢true e)
 real-bank R e = refl
 
-pub whole-bank : (b : Bank) → isReal b ≡ false → bankKind b ≡ K.Int
+pub whole-bank : (b : Bank) → realBank b ≡ false → bankKind b ≡ K.Int
 whole-bank X e = refl
 whole-bank C e = refl
 whole-bank «V» e = refl

@@ -1,2 +1,3 @@
 -- Laws of the module integers.
 pub mod Whole
+mod Passing

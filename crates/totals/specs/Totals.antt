@@ -1,6 +1,6 @@
 -- Totals over a run of cells (paper 02, Ask 2): "Add SUMR, AVGR, MAXR, MINR and the COUNTIF and SUMIF families of the page". Each is one fold, which also
 -- counts the cells that it began: "each cell visited, a faulting one included". Over an environment: whatever a memory holds.
-use mathlib.Core.Bool.{Bool, false, _&&_, cond}
+use mathlib.Core.Bool.{Bool, true, false, _&&_, cond}
 use Prim.Native.Nat.{ℕ, zero, suc, _+_}
 use lib.Dec.{leb}
 use lib.IntN.{ℤ, pos, negsuc, natAbs}
@@ -89,6 +89,12 @@ totalKind (T'.Choice o) b = bankKind b
 abbrev pub matchKind : MatchOp → Bank → Kind
 matchKind (M'.Count o) b = K.Int
 matchKind (M'.Sum o) b = bankKind b
+
+-- "AVGR" (Ask 12), which is real over any bank
+abbrev pub realTotal : TotalOp → Bool
+realTotal T'.Sum = false
+realTotal T'.Average = true
+realTotal (T'.Choice o) = false
 
 -- ---- ranges: "a count below 1 or a range past the bank" is none
 

@@ -4,11 +4,11 @@ ghost use lib.Dec.{T};
 ghost use Rattle.values.specs.declared.Kind.the-variants as K;
 ghost use Rattle.values.specs.declared.Value.the-variants.{Int};
 ghost use Rattle.memory.specs.Cells.{bankKind, readRule};
-ghost use Rattle.operators.specs.Operators.{compareRule};
+ghost use Rattle.memory.specs.Layout.{hasCell};
 ghost use Rattle.totals.specs.declared.Step.the-variants as S;
 ghost use Rattle.totals.specs.Totals.{goodRange};
 ghost use Rattle.totals.specs.private.Steps.{matchStep, runOver};
-ghost use Rattle.totals.specs.private.Integers.{wholeOf, wholeIn, chosenOf, takenOf, noCells};
+ghost use Rattle.totals.specs.private.Integers.{MatchedBy, boundsOf, passesIn, isWide, wholeOf, wholeIn, chosenOf, takenOf, noCells};
 use crate::Visited;
 use memory::Bank;
 use memory::cells;
@@ -30,9 +30,10 @@ fn whole_of(v: Value) -> i32
 
 // A cell that the image has.
 pub fn whole_at(image: &[u8], bank: Bank, element: u32) -> i32
+    requires { ⌜ T (hasCell (now image) bank element) ⌝ }
     ensures { λ r. ⌜ r ≡ wholeIn (readRule (now (image .entry)) bank element) ⌝ }
 {
-    match cells::read(image, bank, element) {
+    match cells::read_present(image, bank, element) {
         Outcome::Done(v) => whole_of(v),
         Outcome::Stopped(_) => 0,
         Outcome::WrongKind => 0,
@@ -46,9 +47,9 @@ pub fn no_cells() -> Visited
     crate::ended(Outcome::Stopped(Fault::IndexError), 1)
 }
 
-// SUMR. It ends where a sum leaves 32 bits, which one more cell could bring back.
-pub fn sum(image: &[u8], bank: Bank, first: u32, count: u32) -> Visited
-    requires { ⌜ T (goodRange bank first count) × (bankKind bank ≡ K.Int) ⌝ }
+// SUMR. It ends where a sum leaves 32 bits, which one more cell could bring back; the sums of the narrow banks stay far within them.
+fn sum_of(wide: bool, image: &[u8], bank: Bank, first: u32, count: u32) -> Visited
+    requires { ⌜ T (goodRange bank first count) × (bankKind bank ≡ K.Int) × (wide ≡ isWide bank) ⌝ }
     ensures { λ r. ⌜ r ≡ runOver S.Add K.Int (readRule (now (image .entry)) bank) first count ⌝ }
 {
     if !cells::has_cell(image, bank, first + (count - 1)) {
@@ -59,12 +60,29 @@ pub fn sum(image: &[u8], bank: Bank, first: u32, count: u32) -> Visited
     while k < count {
         a += whole_at(image, bank, first + k) as i64;
         k += 1;
-        if !values::integers::in_range(a) {
-            return crate::ended(Outcome::Stopped(Fault::Overflow), k);
+        if wide {
+            if !values::integers::in_range(a) {
+                return crate::ended(Outcome::Stopped(Fault::Overflow), k);
+            }
         }
     }
     let held = a as i32;
     crate::ended(Outcome::Done(Value::Int(held)), count)
+}
+
+// Here and below an arm for each bank, so that its layout is known in the loop. R is none of them.
+pub fn sum(image: &[u8], bank: Bank, first: u32, count: u32) -> Visited
+    requires { ⌜ T (goodRange bank first count) × (bankKind bank ≡ K.Int) ⌝ }
+    ensures { λ r. ⌜ r ≡ runOver S.Add K.Int (readRule (now (image .entry)) bank) first count ⌝ }
+{
+    match bank {
+        Bank::X => sum_of(false, image, Bank::X, first, count),
+        Bank::C => sum_of(false, image, Bank::C, first, count),
+        Bank::V => sum_of(false, image, Bank::V, first, count),
+        Bank::N => sum_of(false, image, Bank::N, first, count),
+        Bank::D => sum_of(true, image, Bank::D, first, count),
+        Bank::R => no_cells(),
+    }
 }
 
 // The least or the greatest.
@@ -78,7 +96,7 @@ fn chosen_of(o: ChoiceOp, least: i32, greatest: i32) -> i32
 }
 
 // MAXR and MINR. Both are kept, so that no cell asks which one is wanted.
-pub fn choose(o: ChoiceOp, image: &[u8], bank: Bank, first: u32, count: u32) -> Visited
+fn choose_of(o: ChoiceOp, image: &[u8], bank: Bank, first: u32, count: u32) -> Visited
     requires { ⌜ T (goodRange bank first count) × (bankKind bank ≡ K.Int) ⌝ }
     ensures { λ r. ⌜ r ≡ runOver (S.Choose o) K.Int (readRule (now (image .entry)) bank) first count ⌝ }
 {
@@ -100,35 +118,100 @@ pub fn choose(o: ChoiceOp, image: &[u8], bank: Bank, first: u32, count: u32) -> 
     )
 }
 
-// The comparison of operators, of an integer: no pair of values is made for each cell.
-fn passes(o: CompareOp, z: i32, v: Value) -> bool
-    ensures { λ r. ⌜ r ≡ compareRule o (Int z) v ⌝ }
+pub fn choose(o: ChoiceOp, image: &[u8], bank: Bank, first: u32, count: u32) -> Visited
+    requires { ⌜ T (goodRange bank first count) × (bankKind bank ≡ K.Int) ⌝ }
+    ensures { λ r. ⌜ r ≡ runOver (S.Choose o) K.Int (readRule (now (image .entry)) bank) first count ⌝ }
 {
-    match v {
-        Value::Int(w) => values::integers::compare(o, z, w),
-        Value::Real(x) => values::singles::compare(o, values::convert::promote(z), x),
+    match bank {
+        Bank::X => choose_of(o, image, Bank::X, first, count),
+        Bank::C => choose_of(o, image, Bank::C, first, count),
+        Bank::V => choose_of(o, image, Bank::V, first, count),
+        Bank::N => choose_of(o, image, Bank::N, first, count),
+        Bank::D => choose_of(o, image, Bank::D, first, count),
+        Bank::R => no_cells(),
     }
 }
 
 // What a cell that passes adds.
-fn taken_of(counts: bool, z: i32) -> i32
+pub fn taken_of(counts: bool, z: i32) -> i32
     ensures { λ r. ⌜ r ≡ takenOf counts z ⌝ }
 {
     if counts { 1 } else { z }
 }
 
-// COUNTIF and SUMIF.
-pub fn matching(
+const LEAST: i32 = -2147483648;
+
+const GREATEST: i32 = 2147483647;
+
+// The integers that compare so with one: those from the least to the greatest, or all others.
+struct Bounds {
+    least: i32,
+    greatest: i32,
+    outside: bool,
+}
+
+fn bounds_of(o: CompareOp, w: i32) -> Bounds
+    ensures { λ r. ⌜ r ≡ boundsOf o w ⌝ }
+{
+    match o {
+        CompareOp::Lt => Bounds {
+            least: w,
+            greatest: GREATEST,
+            outside: true,
+        },
+        CompareOp::Gt => Bounds {
+            least: LEAST,
+            greatest: w,
+            outside: true,
+        },
+        CompareOp::Le => Bounds {
+            least: LEAST,
+            greatest: w,
+            outside: false,
+        },
+        CompareOp::Ge => Bounds {
+            least: w,
+            greatest: GREATEST,
+            outside: false,
+        },
+        CompareOp::Eq => Bounds {
+            least: w,
+            greatest: w,
+            outside: false,
+        },
+        CompareOp::Ne => Bounds {
+            least: w,
+            greatest: w,
+            outside: true,
+        },
+    }
+}
+
+fn passes(least: i32, greatest: i32, outside: bool, z: i32) -> bool
+    ensures { λ r. ⌜ r ≡ passesIn least greatest outside z ⌝ }
+{
+    if z < least {
+        return outside;
+    }
+    if greatest < z {
+        return outside;
+    }
+    !outside
+}
+
+// COUNTIF and SUMIF, of any comparison that has these bounds: no cell asks which one it is.
+fn matching_of(
     counts: bool,
-    o: CompareOp,
-    v: Value,
+    least: i32,
+    greatest: i32,
+    outside: bool,
     image: &[u8],
     bank: Bank,
     first: u32,
     count: u32,
 ) -> Visited
     requires { ⌜ T (goodRange bank first count) × (bankKind bank ≡ K.Int) ⌝ }
-    ensures { λ r. ⌜ r ≡ runOver (matchStep counts o v) K.Int (readRule (now (image .entry)) bank) first count ⌝ }
+    ensures { λ r. ⌜ MatchedBy least greatest outside counts (readRule (now (image .entry)) bank) first count r ⌝ }
 {
     if !cells::has_cell(image, bank, first + (count - 1)) {
         return no_cells();
@@ -138,7 +221,7 @@ pub fn matching(
     while k < count {
         let z = whole_at(image, bank, first + k);
         k += 1;
-        if passes(o, z, v) {
+        if passes(least, greatest, outside, z) {
             a += taken_of(counts, z) as i64;
             if !values::integers::in_range(a) {
                 return crate::ended(Outcome::Stopped(Fault::Overflow), k);
@@ -147,4 +230,75 @@ pub fn matching(
     }
     let held = a as i32;
     crate::ended(Outcome::Done(Value::Int(held)), count)
+}
+
+pub fn matching(
+    counts: bool,
+    o: CompareOp,
+    w: i32,
+    image: &[u8],
+    bank: Bank,
+    first: u32,
+    count: u32,
+) -> Visited
+    requires { ⌜ T (goodRange bank first count) × (bankKind bank ≡ K.Int) ⌝ }
+    ensures { λ r. ⌜ r ≡ runOver (matchStep counts o (Int w)) K.Int (readRule (now (image .entry)) bank) first count ⌝ }
+{
+    let b = bounds_of(o, w);
+    let least = b.least;
+    let greatest = b.greatest;
+    let outside = b.outside;
+    match bank {
+        Bank::X => matching_of(
+            counts,
+            least,
+            greatest,
+            outside,
+            image,
+            Bank::X,
+            first,
+            count,
+        ),
+        Bank::C => matching_of(
+            counts,
+            least,
+            greatest,
+            outside,
+            image,
+            Bank::C,
+            first,
+            count,
+        ),
+        Bank::V => matching_of(
+            counts,
+            least,
+            greatest,
+            outside,
+            image,
+            Bank::V,
+            first,
+            count,
+        ),
+        Bank::N => matching_of(
+            counts,
+            least,
+            greatest,
+            outside,
+            image,
+            Bank::N,
+            first,
+            count,
+        ),
+        Bank::D => matching_of(
+            counts,
+            least,
+            greatest,
+            outside,
+            image,
+            Bank::D,
+            first,
+            count,
+        ),
+        Bank::R => no_cells(),
+    }
 }

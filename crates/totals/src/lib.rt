@@ -5,7 +5,8 @@ ghost use lib.Dec.{T};
 ghost use Rattle.memory.specs.Cells.{bankKind, readRule};
 ghost use Rattle.memory.specs.Environment.{memoryAt};
 ghost use Rattle.totals.specs.Totals.{totalOver, matchOver, goodRange};
-ghost use Rattle.totals.specs.private.Steps.{endedWith, isReal, matchStep, runOver};
+ghost use Rattle.totals.specs.private.Admitted.{noVisit, totalIn, matchIn};
+ghost use Rattle.totals.specs.private.Steps.{endedWith, matchStep, runOver};
 use memory::Bank;
 use values::ChoiceOp;
 use values::CompareOp;
@@ -52,31 +53,15 @@ pub enum Step {
     AddIf(CompareOp, Value),
 }
 
-fn is_real(bank: Bank) -> bool
-    ensures { λ r. ⌜ r ≡ isReal bank ⌝ }
-{
-    match bank {
-        Bank::X => false,
-        Bank::C => false,
-        Bank::V => false,
-        Bank::N => false,
-        Bank::D => false,
-        Bank::R => true,
-    }
-}
-
-// SUMR. Here and in `choose` an arm for each bank, so that its layout is known in the loop.
+// SUMR.
 fn sum(image: &[u8], bank: Bank, first: u32, count: u32) -> Visited
     requires { ⌜ T (goodRange bank first count) ⌝ }
     ensures { λ r. ⌜ r ≡ runOver Step.Add (bankKind bank) (readRule (now (image .entry)) bank) first count ⌝ }
 {
-    match bank {
-        Bank::X => integers::sum(image, Bank::X, first, count),
-        Bank::C => integers::sum(image, Bank::C, first, count),
-        Bank::V => integers::sum(image, Bank::V, first, count),
-        Bank::N => integers::sum(image, Bank::N, first, count),
-        Bank::D => integers::sum(image, Bank::D, first, count),
-        Bank::R => tally::sum(false, image, first, count),
+    if memory::is_real(bank) {
+        tally::sum(false, image, first, count)
+    } else {
+        integers::sum(image, bank, first, count)
     }
 }
 
@@ -85,7 +70,7 @@ fn average(image: &[u8], bank: Bank, first: u32, count: u32) -> Visited
     requires { ⌜ T (goodRange bank first count) ⌝ }
     ensures { λ r. ⌜ r ≡ runOver Step.Average (bankKind bank) (readRule (now (image .entry)) bank) first count ⌝ }
 {
-    if is_real(bank) {
+    if memory::is_real(bank) {
         tally::sum(true, image, first, count)
     } else {
         tally::average(image, bank, first, count)
@@ -97,13 +82,10 @@ fn choose(o: ChoiceOp, image: &[u8], bank: Bank, first: u32, count: u32) -> Visi
     requires { ⌜ T (goodRange bank first count) ⌝ }
     ensures { λ r. ⌜ r ≡ runOver (Step.Choose o) (bankKind bank) (readRule (now (image .entry)) bank) first count ⌝ }
 {
-    match bank {
-        Bank::X => integers::choose(o, image, Bank::X, first, count),
-        Bank::C => integers::choose(o, image, Bank::C, first, count),
-        Bank::V => integers::choose(o, image, Bank::V, first, count),
-        Bank::N => integers::choose(o, image, Bank::N, first, count),
-        Bank::D => integers::choose(o, image, Bank::D, first, count),
-        Bank::R => tally::choose(o, image, first, count),
+    if memory::is_real(bank) {
+        tally::choose(o, image, first, count)
+    } else {
+        integers::choose(o, image, bank, first, count)
     }
 }
 
@@ -120,10 +102,12 @@ fn matched(
     requires { ⌜ T (goodRange bank first count) ⌝ }
     ensures { λ r. ⌜ r ≡ runOver (matchStep counts o v) (bankKind bank) (readRule (now (image .entry)) bank) first count ⌝ }
 {
-    if is_real(bank) {
-        tally::matching(counts, o, v, image, first, count)
-    } else {
-        integers::matching(counts, o, v, image, bank, first, count)
+    if memory::is_real(bank) {
+        return tally::matching(counts, o, v, image, first, count);
+    }
+    match v {
+        Value::Int(z) => integers::matching(counts, o, z, image, bank, first, count),
+        Value::Real(x) => tally::matching_promoted(counts, o, x, image, bank, first, count),
     }
 }
 
@@ -162,5 +146,66 @@ pub fn matching(op: MatchOp, image: &[u8], bank: Bank, first: u32, count: u32, v
     match op {
         MatchOp::Count(o) => run(Step::CountIf(o, v), image, bank, first, count),
         MatchOp::Sum(o) => run(Step::AddIf(o, v), image, bank, first, count),
+    }
+}
+
+// What is no run over cells: an outcome that leaves a machine stuck.
+pub fn no_visit() -> Visited
+    ensures { λ r. ⌜ r ≡ noVisit ⌝ }
+{
+    let result = Outcome::WrongKind;
+    Visited { result, cells: 0 }
+}
+
+// As `total`, or in the profile without reals: there AVGR and a range of R are no visit.
+pub fn total_in(
+    op: TotalOp,
+    image: &[u8],
+    bank: Bank,
+    first: u32,
+    count: u32,
+    reals: bool,
+) -> Visited
+    requires { ⌜ T (goodRange bank first count) ⌝ }
+    ensures { λ r. ⌜ ((tick : ℕ) → r ≡ totalIn reals (memoryAt tick (now (image .entry))) op bank first count) ⌝ }
+{
+    if reals {
+        return total(op, image, bank, first, count);
+    }
+    if memory::is_real(bank) {
+        return no_visit();
+    }
+    match op {
+        TotalOp::Sum => integers::sum(image, bank, first, count),
+        TotalOp::Average => no_visit(),
+        TotalOp::Choice(o) => integers::choose(o, image, bank, first, count),
+    }
+}
+
+// As `matching`, or in the profile without reals: there a range of R and a comparison with a real are no visit.
+pub fn matching_in(
+    op: MatchOp,
+    image: &[u8],
+    bank: Bank,
+    first: u32,
+    count: u32,
+    v: Value,
+    reals: bool,
+) -> Visited
+    requires { ⌜ T (goodRange bank first count) ⌝ }
+    ensures { λ r. ⌜ ((tick : ℕ) → r ≡ matchIn reals (memoryAt tick (now (image .entry))) op v bank first count) ⌝ }
+{
+    if reals {
+        return matching(op, image, bank, first, count, v);
+    }
+    if memory::is_real(bank) {
+        return no_visit();
+    }
+    match v {
+        Value::Int(z) => match op {
+            MatchOp::Count(o) => integers::matching(true, o, z, image, bank, first, count),
+            MatchOp::Sum(o) => integers::matching(false, o, z, image, bank, first, count),
+        },
+        Value::Real(_) => no_visit(),
     }
 }

@@ -1,13 +1,17 @@
 // Runs that are real: sum, least and greatest as singles beside the count.
 ghost use mathlib.Core.Path.{_≡_};
 ghost use Prim.Native.Nat.{_+_, _≤_, _<_};
+ghost use mathlib.Core.Bool.{false};
 ghost use lib.Dec.{T};
+ghost use lib.IntN.{natAbs};
+ghost use Rattle.values.specs.Convert.{promoted};
 ghost use Rattle.values.specs.declared.Kind.the-variants as K;
 ghost use Rattle.values.specs.declared.Kind.the-variants.{Real};
 ghost use Rattle.memory.specs.Cells.{bankKind, readRule};
 ghost use Rattle.totals.specs.Totals.{goodRange};
 ghost use Rattle.totals.specs.private.Steps.{sumStep, matchStep, runOver};
-ghost use Rattle.totals.specs.private.Tally.{begun, stepped, firstReal, reading};
+ghost use Rattle.totals.specs.private.Integers.{isWide};
+ghost use Rattle.totals.specs.private.Tally.{begun, stepped, firstReal, meanOf, reading};
 use crate::Step;
 use crate::Visited;
 use crate::integers;
@@ -16,6 +20,7 @@ use memory::cells;
 use reals::ArithOp;
 use values::ChoiceOp;
 use values::CompareOp;
+use values::Fault;
 use values::Outcome;
 use values::Value;
 use values::singles;
@@ -66,6 +71,14 @@ fn first_real(image: &[u8], first: u32) -> f32
     }
 }
 
+// AVGR's division, of two numbers: a tally would keep its other fields in the loop.
+fn mean(sum: f32, count: u32) -> Outcome
+    requires { ⌜ count ≤ 256 ⌝ }
+    ensures { λ r. ⌜ r ≡ meanOf sum count ⌝ }
+{
+    operators::arith(ArithOp::Div, Value::Real(sum), Value::Int(count as i32))
+}
+
 // What a run comes to whose last cell was taken.
 fn reading(step: Step, t: Tally) -> Outcome
     requires { ⌜ t .count ≤ 256 ⌝ }
@@ -73,11 +86,7 @@ fn reading(step: Step, t: Tally) -> Outcome
 {
     match step {
         Step::Add => Outcome::Done(Value::Real(t.sum)),
-        Step::Average => operators::arith(
-            ArithOp::Div,
-            Value::Real(t.sum),
-            Value::Int(t.count as i32),
-        ),
+        Step::Average => mean(t.sum, t.count),
         Step::Choose(o) => match o {
             ChoiceOp::Max => Outcome::Done(Value::Real(t.greatest)),
             ChoiceOp::Min => Outcome::Done(Value::Real(t.least)),
@@ -184,9 +193,21 @@ pub fn matching(
     crate::ended(reading(Step::AddIf(o, v), t), count)
 }
 
+// A cell of a narrow bank is a single as it is.
+fn promoted_cell(wide: bool, z: i32) -> f32
+    requires { ⌜ (wide ≡ false → natAbs z ≤ 65536) ⌝ }
+    ensures { λ r. ⌜ r ≡ promoted z ⌝ }
+{
+    if wide {
+        values::convert::promote(z)
+    } else {
+        z as f32
+    }
+}
+
 // AVGR of a bank of integers: the cells are promoted.
-pub fn average(image: &[u8], bank: Bank, first: u32, count: u32) -> Visited
-    requires { ⌜ T (goodRange bank first count) × (bankKind bank ≡ K.Int) ⌝ }
+fn average_of(wide: bool, image: &[u8], bank: Bank, first: u32, count: u32) -> Visited
+    requires { ⌜ T (goodRange bank first count) × (bankKind bank ≡ K.Int) × (wide ≡ isWide bank) ⌝ }
     ensures { λ r. ⌜ r ≡ runOver Step.Average Real (readRule (now (image .entry)) bank) first count ⌝ }
 {
     if !cells::has_cell(image, bank, first + (count - 1)) {
@@ -195,10 +216,56 @@ pub fn average(image: &[u8], bank: Bank, first: u32, count: u32) -> Visited
     let mut t = Tally::begin(0.0);
     while t.count < count {
         let z = integers::whole_at(image, bank, first + t.count);
-        t = t.step(values::convert::promote(z));
+        t = t.step(promoted_cell(wide, z));
         if !singles::is_finite(t.sum) {
             return crate::ended(singles::settled(t.sum), t.count);
         }
     }
-    crate::ended(reading(Step::Average, t), count)
+    crate::ended(mean(t.sum, t.count), count)
+}
+
+pub fn average(image: &[u8], bank: Bank, first: u32, count: u32) -> Visited
+    requires { ⌜ T (goodRange bank first count) × (bankKind bank ≡ K.Int) ⌝ }
+    ensures { λ r. ⌜ r ≡ runOver Step.Average Real (readRule (now (image .entry)) bank) first count ⌝ }
+{
+    match bank {
+        Bank::X => average_of(false, image, Bank::X, first, count),
+        Bank::C => average_of(false, image, Bank::C, first, count),
+        Bank::V => average_of(false, image, Bank::V, first, count),
+        Bank::N => average_of(false, image, Bank::N, first, count),
+        Bank::D => average_of(true, image, Bank::D, first, count),
+        Bank::R => integers::no_cells(),
+    }
+}
+
+// COUNTIF and SUMIF of a bank of integers, compared with a real: the cells are promoted to be compared.
+pub fn matching_promoted(
+    counts: bool,
+    o: CompareOp,
+    x: f32,
+    image: &[u8],
+    bank: Bank,
+    first: u32,
+    count: u32,
+) -> Visited
+    requires { ⌜ T (goodRange bank first count) × (bankKind bank ≡ K.Int) ⌝ }
+    ensures { λ r. ⌜ r ≡ runOver (matchStep counts o (Value.Real x)) K.Int (readRule (now (image .entry)) bank) first count ⌝ }
+{
+    if !cells::has_cell(image, bank, first + (count - 1)) {
+        return integers::no_cells();
+    }
+    let mut a: i64 = 0;
+    let mut k: u32 = 0;
+    while k < count {
+        let z = integers::whole_at(image, bank, first + k);
+        k += 1;
+        if singles::compare(o, values::convert::promote(z), x) {
+            a += integers::taken_of(counts, z) as i64;
+            if !values::integers::in_range(a) {
+                return crate::ended(Outcome::Stopped(Fault::Overflow), k);
+            }
+        }
+    }
+    let held = a as i32;
+    crate::ended(Outcome::Done(Value::Int(held)), count)
 }

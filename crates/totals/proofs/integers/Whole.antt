@@ -1,13 +1,13 @@
 -- Runs over the banks of integers: every cell of a good range can be read or none, and what is held stays an integer.
 use mathlib.Core.Path.{_≡_, refl, sym, ap, _∙_}
-use mathlib.Core.Bool.{Bool, true, false, false≢true, and-true}
+use mathlib.Core.Bool.{Bool, true, false, false≢true, and-true, cond}
 use mathlib.Core.List.{List}
-use Prim.Native.Nat.{ℕ, _+_, _-_, _≤_, _<_}
+use Prim.Native.Nat.{ℕ, suc, _+_, _-_, _*_, _^_, _≤_, _<_}
 use native.Mathlib.Omega.{arith}
-use lib.Dec.{T, eqb}
-use lib.IntN.{ℤ, pos, _+ℤ_, +ℤ-idr}
+use lib.Dec.{T, eqb, ltb}
+use lib.IntN.{ℤ, pos, negsuc, natAbs, _+ℤ_, +ℤ-idr}
 use lib.ListN.{length}
-use borrow.Author.Tests.{lt-ltb}
+use borrow.Author.Tests.{lt-ltb, eqb-true}
 use mir.Syntax.{w32, w64}
 use mir.Val.{SFits, toZ, ofZ}
 use mir.ValLaws.{toZ-ofZ}
@@ -22,21 +22,28 @@ use Rattle.values.specs.declared.CompareOp.{CompareOp}
 use Rattle.values.specs.declared.Outcome.{Outcome}
 use Rattle.values.specs.declared.Outcome.the-variants.{Done, Stopped, WrongKind}
 use Rattle.values.specs.Integers.{inRange, exactInt, choiceInt}
-use Rattle.values.proofs.Ranges.{sfits-range, read-wide}
+use Rattle.values.proofs.Ranges.{sfits-range, range-sfits, read-wide}
+use Rattle.values.specs.Patterns.{signedOf}
+use Rattle.values.proofs.integers.Sizes.{add-size}
 use Rattle.values.proofs.integers.Results.{wide, fits}
+use Rattle.words.specs.Laws.{Bytes}
 use Rattle.operators.specs.Operators.{compareRule}
 use Rattle.memory.specs.declared.Bank.{Bank}
 use Rattle.memory.specs.declared.Bank.the-variants.{X, C, «V», N, D, R}
 use Rattle.memory.specs.Layout.{imageSize, layoutOf, hasCell}
-use Rattle.memory.specs.Cells.{bankKind, cellValue, readRule}
+use Rattle.memory.specs.Cells.{bankKind, bitOf, cellValue, readRule}
 use Rattle.totals.specs.declared.Step.{Step}
 use Rattle.totals.specs.declared.Step.the-variants as S
 use Rattle.totals.specs.declared.Visited.{Visited}
 use Rattle.totals.specs.Totals.{then, foldCells, goodRange}
 use Rattle.totals.specs.private.Steps.{matchStep, stepRule, runOver}
-use Rattle.totals.specs.private.Integers.{wholeIn, chosenOf, takenOf, noCells}
+use Rattle.totals.specs.private.Integers.{isWide, wholeIn, chosenOf, takenOf, noCells}
+use Rattle.memory.proofs.Laws.{packed-laws}
 use Rattle.totals.proofs.Within.{range-in}
 use Rattle.totals.proofs.Middle.{Middle, stopped, ending, ending-done, middle-begin, middle-on, middle-stops, middle-unread, middle-ends, first-choice}
+
+pub no-int : K.Real ≡ K.Int → ⊥
+no-int q = let z : _≡_ {A = ℕ} 0 1 = cc in omega arith
 
 whole-cell : (b : Bank) (m : ℕ) → bankKind b ≡ K.Int → cellValue b m ≡ Done (Int (wholeIn (cellValue b m)))
 whole-cell X m e = refl
@@ -45,9 +52,28 @@ whole-cell «V» m e = refl
 whole-cell N m e = refl
 whole-cell D m e = refl
 whole-cell R m e = absurd (no-int e)
+
+narrow-bit : (n : ℕ) → natAbs (bitOf n) ≤ 65536
+narrow-bit n = by (eqb n 0)
   where
-    no-int : K.Real ≡ K.Int → ⊥
-    no-int q = let z : _≡_ {A = ℕ} 0 1 = cc in omega arith
+    by : (t : Bool) → natAbs (cond t (pos 0) (pos 1)) ≤ 65536
+    by true = omega arith
+    by false = omega arith
+
+narrow-signed : (n : ℕ) → n < 65536 → natAbs (signedOf 16 n) ≤ 65536
+narrow-signed n l = by (ltb n 32768) refl
+  where
+    by : (t : Bool) → ltb n 32768 ≡ t → natAbs (cond t (pos n) (negsuc (65536 - suc n))) ≤ 65536
+    by true e = omega arith
+    by false e = omega arith
+
+narrow-cell : (b : Bank) (n : ℕ) → isWide b ≡ false → n < 256 ^ layoutOf b .width → natAbs (wholeIn (cellValue b n)) ≤ 65536
+narrow-cell X n w l = narrow-bit n
+narrow-cell C n w l = narrow-bit n
+narrow-cell «V» n w l = omega arith
+narrow-cell N n w l = narrow-signed n l
+narrow-cell D n w l = absurd (false≢true (sym w))
+narrow-cell R n w l = absurd (false≢true (sym w))
 
 -- ---- a run seen from the middle
 
@@ -99,14 +125,14 @@ chosen Max a b z = refl
 chosen Min a b z = refl
 
 module _ (c : Bool) (o : CompareOp) (v : Value) (a z : ℤ) where
-  pub taken : compareRule o (Int z) v ≡ true → stepRule (matchStep c o v) (Int a) (Int z) ≡ exactInt (a +ℤ takenOf c z)
+  taken : compareRule o (Int z) v ≡ true → stepRule (matchStep c o v) (Int a) (Int z) ≡ exactInt (a +ℤ takenOf c z)
   taken e = go c
     where
       go : (c : Bool) → stepRule (matchStep c o v) (Int a) (Int z) ≡ exactInt (a +ℤ takenOf c z)
       go true = rw e refl
       go false = rw e refl
 
-  pub passed : compareRule o (Int z) v ≡ false → SFits w32 a → stepRule (matchStep c o v) (Int a) (Int z) ≡ Done (Int a)
+  passed : compareRule o (Int z) v ≡ false → SFits w32 a → stepRule (matchStep c o v) (Int a) (Int z) ≡ Done (Int a)
   passed e F = go c
     where
       go : (c : Bool) → stepRule (matchStep c o v) (Int a) (Int z) ≡ Done (Int a)
@@ -121,6 +147,37 @@ wide-sum a z F G = rw (read-wide z G) (fits a z F G Add)
 pub wide-back : (a z : ℤ) → SFits w32 a → SFits w32 z → toZ w64 (ofZ w64 (a +ℤ wide z)) ≡ a +ℤ z
 wide-back a z F G = rw (read-wide z G) (toZ-ofZ w64 (a +ℤ z) (fits a z F G Add))
 
+-- so many cells of narrow banks stay within 32 bits
+pub narrow-range : (z : ℤ) → natAbs z ≤ 16777216 → inRange z ≡ true
+narrow-range (pos n) h = sfits-range (pos n) (record { sfits = omega arith })
+narrow-range (negsuc n) h = sfits-range (negsuc n) (record { sfits = omega arith })
+
+pub narrow-sum : (a z : ℤ) (k : ℕ) → SFits w32 a → SFits w32 z → natAbs a ≤ k * 65536 → natAbs z ≤ 65536
+    → natAbs (toZ w64 (ofZ w64 (a +ℤ wide z))) ≤ (k + 1) * 65536
+narrow-sum a z k F G h l = rw (wide-back a z F G) (omega (arith, add-size a z))
+
+-- ---- a cell z of the IF forms
+
+module _ (c : Bool) (o : CompareOp) (v : Value) (read : ℕ → Outcome) (all : Visited) (i n : ℕ) {a : ℤ} {k : ℕ}
+    (m : Held (matchStep c o v) read all i n a k) (r : inRange a ≡ true) (l : k < n) (z : ℤ) (q : read (i + k) ≡ Done (Int z)) where
+  -- it passes and adds y
+  module _ (p : compareRule o (Int z) v ≡ true) (y : ℤ) (F : SFits w32 y) (e : y ≡ takenOf c z) where
+    abbrev next : ℤ
+    next = toZ w64 (ofZ w64 (a +ℤ wide y))
+
+    added : stepRule (matchStep c o v) (Int a) (Int z) ≡ exactInt next
+    added =
+        taken c o v a z p ∙ ap (λ (x : ℤ). exactInt (a +ℤ x)) (sym e) ∙ ap exactInt (sym (wide-back a y (range-sfits a r) F))
+
+    pub match-leaves : inRange next ≡ false → record { result = Stopped Overflow; cells = k + 1 } ≡ all
+    match-leaves f = leaves (matchStep c o v) read all i n m l z q next added f
+
+    pub match-stays : inRange next ≡ true → Held (matchStep c o v) read all i n next (k + 1)
+    match-stays f = stays (matchStep c o v) read all i n m l z q next added f
+
+  pub match-passes : compareRule o (Int z) v ≡ false → Held (matchStep c o v) read all i n a (k + 1)
+  match-passes p = holds (matchStep c o v) read all i n m l z q a (passed c o v a z p (range-sfits a r))
+
 -- ---- the cells of a good range
 
 module _ (image : List ℕ) (b : Bank) (i n : ℕ) (g : T (goodRange b i n)) where
@@ -133,9 +190,19 @@ module _ (image : List ℕ) (b : Bank) (i n : ℕ) (g : T (goodRange b i n)) whe
   alike : {t : Bool} → hasCell image b (i + (n - 1)) ≡ t → (k : ℕ) → k < n → hasCell image b (i + k) ≡ t
   alike e k l = let h = range-in (layoutOf b .elements) i n g in has k l ∙ sym (has (n - 1) (omega (arith, h .0))) ∙ e
 
+  pub all-there : hasCell image b (i + (n - 1)) ≡ true → (k : ℕ) → k < n → T (hasCell image b (i + k))
+  all-there e k l = rw (alike e k l) tt
+
   pub all-read : bankKind b ≡ K.Int → hasCell image b (i + (n - 1)) ≡ true → (k : ℕ) → k < n
       → readRule image b (i + k) ≡ Done (Int (wholeIn (readRule image b (i + k))))
   all-read w e k l = rw (alike e k l) (whole-cell b _ w)
+
+  pub all-narrow : Bytes image → isWide b ≡ false → hasCell image b (i + (n - 1)) ≡ true → (k : ℕ) → k < n
+      → natAbs (wholeIn (readRule image b (i + k))) ≤ 65536
+  all-narrow bytes w e k l =
+      let h = range-in (layoutOf b .elements) i n g in
+      rw (alike e k l)
+      (narrow-cell b _ w (packed-laws .get-below image b (i + k) (eqb-true (length image) imageSize (sym (has k l) ∙ alike e k l)) (omega (arith, h .1)) bytes))
 
   pub none-read : hasCell image b (i + (n - 1)) ≡ false → readRule image b (i + 0) ≡ Stopped IndexError
   none-read e = let h = range-in (layoutOf b .elements) i n g in rw (alike e 0 (omega (arith, h .0)))

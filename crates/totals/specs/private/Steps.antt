@@ -10,8 +10,6 @@ use Rattle.values.specs.declared.Outcome.{Outcome}
 use Rattle.values.specs.declared.CompareOp.{CompareOp}
 use Rattle.values.specs.Singles.{zeroReal}
 use Rattle.operators.specs.Operators.{arithRule}
-use Rattle.memory.specs.declared.Bank.{Bank}
-use Rattle.memory.specs.declared.Bank.the-variants.{X, C, «V», N, D, R}
 use Rattle.totals.specs.declared.Step.{Step}
 use Rattle.totals.specs.declared.Step.the-variants as S
 use Rattle.totals.specs.declared.Visited.{Visited}
@@ -19,14 +17,6 @@ use Rattle.totals.specs.Totals.{foldCells, zeroOf, average, fromFirst, c
 
 abbrev pub endedWith : Outcome → ℕ → Visited
 endedWith r n = record { result = r; cells = n }
-
-abbrev pub isReal : Bank → Bool
-isReal X = false
-isReal C = false
-isReal «V» = false
-isReal N = false
-isReal D = false
-isReal R = true
 
 -- SUMR, or AVGR where it is averaged
 abbrev pub sumStep : Bool → Step

@@ -1,6 +1,6 @@
 -- The running tally of a real run (paper 02, Ask 2): "A running tally keeps sum, least and greatest as singles beside the count for real banks,
 -- the sum from 0.0".
-use Prim.Native.Nat.{_+_}
+use Prim.Native.Nat.{ℕ, _+_}
 use lib.IntN.{pos}
 use lib.Ieee as Ieee
 use lib.Ieee.{Float, binary32}
@@ -32,10 +32,14 @@ firstReal (Done v) = asReal v
 firstReal (Stopped f) = zeroReal
 firstReal WrongKind = zeroReal
 
--- what a run comes to: "AVGR .. divided by the count"
+-- "AVGR .. divided by the count"
+abbrev pub meanOf : Float → ℕ → Outcome
+meanOf sum n = arithRule Div (Real sum) (Int (pos n))
+
+-- what a run comes to
 abbrev pub reading : Step → Tally → Outcome
 reading S.Add t = Done (Real (t .sum))
-reading S.Average t = arithRule Div (Real (t .sum)) (Int (pos (t .count)))
+reading S.Average t = meanOf (t .sum) (t .count)
 reading (S.Choose Max) t = Done (Real (t .greatest))
 reading (S.Choose Min) t = Done (Real (t .least))
 reading (S.CountIf o v) t = Done (Int (pos (t .count)))

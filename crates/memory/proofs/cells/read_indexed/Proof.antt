@@ -1,5 +1,4 @@
--- `memory::cells::read_indexed` meets its contract: the two arms are the rule's two cases.
-use mathlib.Core.Path.{sym, _∙_}
+-- `memory::cells::read_indexed` meets its contract: the cell at the position that the index names.
 use borrow.Author.Needs.{needs}
 use Rattle.memory.proofs.cells.read_indexed.Statement.{statement}
 use Rattle.memory.proofs.cells.read_indexed.Tie as tie
@@ -7,22 +6,11 @@ use Rattle.memory.proofs.cells.read_indexed.Tie as tie
 position-requires : tie.Need-position-requires
 position-requires c κs = search needs
 
-enum-known-i : tie.Need-enum-known-i
-enum-known-i c = search needs
-
-read-requires : tie.Need-read-requires
-read-requires c κs = search needs
-
-enum-known-f : tie.Need-enum-known-f
-enum-known-f c = search needs
+read-at-requires : tie.Need-read-at-requires
+read-at-requires c κs = search needs
 
 returns : tie.Need-returns
-returns c = rw (sym (c .before .before .before .before .position .ensures) ∙ c .before .before .i .given .1) (c .read .ensures)
-
-returns-2 : tie.Need-returns-2
-returns-2 c = rw (sym (c .before .before .before .position .ensures) ∙ c .before .f .given .1)
+returns c = rw (c .before .position .ensures) at (c .read-at .ensures)
 
 pub read-indexed-spec : {M : Type 1} → statement M
-read-indexed-spec =
-    tie.close
-    (tie.spec position-requires enum-known-i read-requires enum-known-f returns returns-2)
+read-indexed-spec = tie.close (tie.spec position-requires read-at-requires returns)

@@ -1,9 +1,11 @@
--- `memory::cells::signed_cell` meets its contract: from 32768 on, 65536 less.
-use mathlib.Core.Path.{_≡_, sym, ap, _∙_, subst}
-use Prim.Native.Nat.{ℕ, _≤_, _<_}
+-- `memory::cells::signed_cell` meets its contract: half the range, added around its end and taken off again, is 65536 less from 32768 on.
+use mathlib.Core.Path.{_≡_, refl, sym, ap, _∙_, subst}
+use mathlib.Core.Bool.{Bool, true, false}
+use Prim.Native.Nat.{ℕ, _+_, _%_, _-_, _≤_, _<_}
 use native.Mathlib.Omega.{arith}
-use lib.IntN.{ℤ, pos, _-ℤ_}
-use borrow.Author.Needs.{needs}
+use lib.Dec.{ltb}
+use lib.IntN.{ℤ, pos, negℤ, _+ℤ_, _-ℤ_, pos-+ℤ-pos, +ℤ-assoc, negℤ-+ℤ, +ℤ-negℤ-cancel}
+use borrow.Author.Tests.{ltb-true, ltb-false}
 use mir.Syntax.{w32}
 use mir.Val.{SFits, toZ}
 use mir.ValLaws.{toZ-pos, toZ-ofZ}
@@ -15,32 +17,45 @@ use Rattle.values.proofs.Laws.{pattern-laws}
 use Rattle.memory.proofs.cells.signed_cell.Statement.{statement}
 use Rattle.memory.proofs.cells.signed_cell.Tie as tie
 
-less : (n : ℕ) → 32768 ≤ n → n < 65536 → toZ w32 n -ℤ pos 65536 ≡ signedOf 16 n
-less n h l = ap (λ (z : ℤ). z -ℤ pos 65536) (toZ-pos w32 n (omega arith)) ∙ sym (pattern-laws .signed-set 16 n h l)
+both-less : (m h : ℕ) → pos (m + h) -ℤ pos (h + h) ≡ pos m -ℤ pos h
+both-less m h =
+    ap (λ (z : ℤ). z -ℤ pos (h + h)) (sym (pos-+ℤ-pos m h)) ∙ ap (λ (z : ℤ). pos m +ℤ pos h -ℤ z) (sym (pos-+ℤ-pos h h))
+    ∙ ap (λ (z : ℤ). pos m +ℤ pos h +ℤ z) (negℤ-+ℤ (pos h) (pos h)) ∙ sym (+ℤ-assoc (pos m +ℤ pos h) (negℤ (pos h)) (negℤ (pos h)))
+    ∙ ap (λ (z : ℤ). z -ℤ pos h) (+ℤ-negℤ-cancel (pos m) (pos h))
 
-less-fits : (n : ℕ) → 32768 ≤ n → n < 65536 → SFits w32 (toZ w32 n -ℤ pos 65536)
-less-fits n h l = subst (SFits w32) (sym (less n h l)) (record { sfits = omega (arith, signed-mag 16 n (omega arith) l) })
+added-less : (m h : ℕ) → pos (m + h) -ℤ pos h ≡ pos m
+added-less m h = ap (λ (z : ℤ). z -ℤ pos h) (sym (pos-+ℤ-pos m h)) ∙ +ℤ-negℤ-cancel (pos m) (pos h)
+
+turned : (n : ℕ) → n < 65536 → toZ w32 ((n + 32768) % 65536) -ℤ pos 32768 ≡ signedOf 16 n
+turned n l = by (ltb n 32768) refl
+  where
+    by : (t : Bool) → ltb n 32768 ≡ t → toZ w32 ((n + 32768) % 65536) -ℤ pos 32768 ≡ signedOf 16 n
+    by true e =
+        let h = ltb-true n 32768 e in
+        let q : (n + 32768) % 65536 ≡ n + 32768 = omega arith in
+        ap (λ (z : ℤ). z -ℤ pos 32768) (ap (toZ w32) q ∙ toZ-pos w32 (n + 32768) (omega arith)) ∙ added-less n 32768
+        ∙ sym (pattern-laws .signed-clear 16 n h)
+    by false e =
+        let h = ltb-false n 32768 e in
+        let q : (n + 32768) % 65536 ≡ n - 32768 = omega arith in
+        let m : n - 32768 + 32768 ≡ n = omega arith in
+        ap (λ (z : ℤ). z -ℤ pos 32768) (ap (toZ w32) q ∙ toZ-pos w32 (n - 32768) (omega arith)) ∙ sym (both-less (n - 32768) 32768)
+        ∙ ap (λ (j : ℕ). pos j -ℤ pos 65536) m ∙ sym (pattern-laws .signed-set 16 n h l)
+
+turned-fits : (n : ℕ) → n < 65536 → SFits w32 (toZ w32 ((n + 32768) % 65536) -ℤ pos 32768)
+turned-fits n l = subst (SFits w32) (sym (turned n l)) (record { sfits = omega (arith, signed-mag 16 n (omega arith) l) })
+
+add-turned : tie.Need-add-turned
+add-turned c = omega (arith, c .pre)
 
 cast-t4 : tie.Need-cast-t4
-cast-t4 c = search needs
+cast-t4 c = omega (arith, c .pre)
 
-cast-t6 : tie.Need-cast-t6
-cast-t6 c = search needs
-
-sub-t7 : tie.Need-sub-t7
-sub-t7 c = less-fits (c .before .args .n) (omega arith) (c .before .pre)
+sub-t5 : tie.Need-sub-t5
+sub-t5 c = turned-fits (c .args .n) (c .pre)
 
 returns : tie.Need-returns
-returns c =
-    let n = c .before .args .n in
-    rw (toZ-pos w32 n (omega arith), pattern-laws .signed-clear 16 n (omega arith))
-
-returns-2 : tie.Need-returns-2
-returns-2 c =
-    let n = c .before .args .n in
-    let h : 32768 ≤ n = omega arith in
-    let l = c .before .pre in
-    ap (λ (z : ℤ). Done (Int z)) (toZ-ofZ w32 _ (less-fits n h l) ∙ less n h l)
+returns c = ap (λ (z : ℤ). Done (Int z)) (toZ-ofZ w32 _ (turned-fits (c .args .n) (c .pre)) ∙ turned (c .args .n) (c .pre))
 
 pub signed-cell-spec : {M : Type 1} → statement M
-signed-cell-spec = tie.close (tie.spec cast-t4 cast-t6 sub-t7 returns returns-2)
+signed-cell-spec = tie.close (tie.spec add-turned cast-t4 sub-t5 returns)

@@ -1,248 +1,112 @@
--- `totals::integers::matching` meets its contract. The loop's invariant: the count or sum so far is an integer of 32 bits. The measure is the cells left.
-use mathlib.Core.Path.{_≡_, refl, sym, ap, _∙_}
-use mathlib.Core.Bool.{Bool, true, false}
-use Prim.Native.Nat.{ℕ, _+_, _-_, _≤_}
-use native.Mathlib.Omega.{arith}
-use lib.IntN.{ℤ, pos, _+ℤ_}
+-- `totals::integers::matching` meets its contract: an arm for each bank of integers, with the comparison's bounds.
+use mathlib.Core.Path.{refl, ap, _∙_}
 use borrow.Author.Needs.{needs}
-use borrow.Author.Tests.{not-true, not-false}
-use denote.Ref.{now}
-use mir.Syntax.{w32, w64}
+use mir.Syntax.{w32}
 use mir.Val.{SFits, toZ, ofZ}
 use mir.ValLaws.{toZ-ofZ}
-use Rattle.values.specs.declared.Kind.the-variants as K
-use Rattle.values.specs.declared.Value.the-variants.{Int}
-use Rattle.values.specs.declared.Outcome.{Outcome}
-use Rattle.values.specs.declared.Outcome.the-variants.{Done}
-use Rattle.values.specs.Integers.{inRange, exactInt}
-use Rattle.values.proofs.Ranges.{range-sfits}
-use Rattle.values.proofs.integers.Results.{wide, cast-wide}
-use Rattle.memory.specs.Cells.{readRule}
-use Rattle.operators.specs.Operators.{compareRule}
-use Rattle.totals.specs.private.Steps.{matchStep, stepRule, runOver}
-use Rattle.totals.specs.private.Integers.{takenOf}
-use Rattle.totals.proofs.Laws.{total-laws}
-use Rattle.totals.proofs.Middle.{middle-begin}
-use Rattle.totals.proofs.integers.Whole.{Held, all-read, none-held, held-ends, holds, stays, leaves, match-begins, taken, passed, wide-sum, wide-back}
+use Rattle.totals.specs.private.Integers.{boundsOf, Bounded}
+use Rattle.totals.proofs.integers.Whole.{no-int}
+use Rattle.totals.proofs.integers.Passing.{bounded}
 use Rattle.totals.proofs.integers.matching.Statement.{statement}
 use Rattle.totals.proofs.integers.matching.Tie as tie
 
-abbrev Inv-loop : tie.InvT-loop
-Inv-loop counts o v image bank first count a₀ k₀ a k =
-    (k ≤ count)
-    × (inRange (toZ w64 a) ≡ true)
-    × Held (matchStep counts o v) (readRule image bank) (runOver (matchStep counts o v) K.Int (readRule image bank) first count) first count (toZ w64 a) k
+-- the bounds as the loop is given them
+known : (c : tie.After-bounds-of) → Bounded (toZ w32 (ofZ w32 (c .bounds-of .result .least))) (toZ w32 (ofZ w32 (c .bounds-of .result .greatest)))
+    (c .bounds-of .result .outside) (c .before .before .args .o) (c .before .before .args .w)
+known c z r =
+    let s = c .before .before in
+    let F : SFits w32 (c .bounds-of .result .least) = search needs in
+    let G : SFits w32 (c .bounds-of .result .greatest) = search needs in
+    let e = c .bounds-of .ensures ∙ ap (boundsOf (s .args .o)) (toZ-ofZ w32 (s .args .w) (s .fits .w)) in
+    rw (toZ-ofZ w32 (c .bounds-of .result .least) F, toZ-ofZ w32 (c .bounds-of .result .greatest) G, e) (bounded (s .args .o) (s .args .w) z r)
 
-abbrev μ-loop : tie.MeasureT-loop
-μ-loop counts o v image bank first count a₀ k₀ a k = count - k
+bounds-of-requires : tie.Need-bounds-of-requires
+bounds-of-requires c κs = search needs
 
-abbrev start : tie.After-whole-at Inv-loop μ-loop → tie.Start Inv-loop μ-loop
-start c = c .before .before .before .before .before .before
+enum-told : tie.Need-enum-told
+enum-told c = search needs
 
-abbrev cells : tie.After-whole-at Inv-loop μ-loop → ℕ → Outcome
-cells c = readRule (now (start c .args .image)) (start c .args .bank)
+matching-of-requires : tie.Need-matching-of-requires
+matching-of-requires c κs = (rw (c .enum-told .given .1) at (c .before .before .before .before .before .before .pre .0), refl)
 
-abbrev held : tie.After-whole-at Inv-loop μ-loop → ℤ
-held c = toZ w64 (c .before .before .loop .a)
+enum-told-2 : tie.Need-enum-told-2
+enum-told-2 c = search needs
 
--- the sum with y more, at 64 bits
-abbrev next : tie.After-whole-at Inv-loop μ-loop → ℤ → ℤ
-next c y = toZ w64 (ofZ w64 (held c +ℤ wide y))
+matching-of-requires-2 : tie.Need-matching-of-requires-2
+matching-of-requires-2 c κs = (rw (c .enum-told2 .given .1) at (c .before .before .before .before .before .before .pre .0), refl)
 
-held-fits : (c : tie.After-whole-at Inv-loop μ-loop) → SFits w32 (held c)
-held-fits c = range-sfits (held c) (c .before .before .loop .inv .1)
+enum-told-3 : tie.Need-enum-told-3
+enum-told-3 c = search needs
 
-cell-fits : (c : tie.After-whole-at Inv-loop μ-loop) → SFits w32 (c .whole-at .result)
-cell-fits c = search needs
+matching-of-requires-3 : tie.Need-matching-of-requires-3
+matching-of-requires-3 c κs = (rw (c .enum-told3 .given .1) at (c .before .before .before .before .before .before .pre .0), refl)
 
-cell-read : (c : tie.After-whole-at Inv-loop μ-loop) → cells c (start c .args .first + c .before .before .loop .k) ≡ Done (Int (c .whole-at .result))
-cell-read c =
-    all-read (now (start c .args .image)) (start c .args .bank) (start c .args .first) (start c .args .count) (start c .pre .0) (start c .pre .1)
-    (sym (c .before .before .before .before .has-cell .ensures) ∙ not-false _ (c .before .before .before .if1 .left)) (c .before .before .loop .k)
-    (c .before .loop-test .taken)
-    ∙ ap (λ (z : ℤ). Done (Int z)) (sym (c .whole-at .ensures))
+enum-told-4 : tie.Need-enum-told-4
+enum-told-4 c = search needs
 
--- the cell as the calls read it
-cell-back : (c : tie.After-whole-at Inv-loop μ-loop) → toZ w32 (ofZ w32 (c .whole-at .result)) ≡ c .whole-at .result
-cell-back c = toZ-ofZ w32 (c .whole-at .result) (cell-fits c)
+matching-of-requires-4 : tie.Need-matching-of-requires-4
+matching-of-requires-4 c κs = (rw (c .enum-told4 .given .1) at (c .before .before .before .before .before .before .pre .0), refl)
 
-compared : (c : tie.After-whole-at Inv-loop μ-loop) (t : Bool) → compareRule (start c .args .o) (Int (toZ w32 (ofZ w32 (c .whole-at .result))))
-    (start c .args .v) ≡ t
-    → compareRule (start c .args .o) (Int (c .whole-at .result)) (start c .args .v) ≡ t
-compared c t e = ap (λ (z : ℤ). compareRule (start c .args .o) (Int z) (start c .args .v)) (sym (cell-back c)) ∙ e
+enum-told-5 : tie.Need-enum-told-5
+enum-told-5 c = search needs
 
--- a cell that passes, x being the sum with it
-module _ (c : tie.After-whole-at Inv-loop μ-loop) (p : compareRule (start c .args .o) (Int (toZ w32 (ofZ w32 (c .whole-at .result)))) (start c .args .v) ≡ true)
-    (y : ℤ) (F : SFits w32 y) (q : y ≡ takenOf (start c .args .counts) (toZ w32 (ofZ w32 (c .whole-at .result)))) where
-  added : stepRule (matchStep (start c .args .counts) (start c .args .o) (start c .args .v)) (Int (held c)) (Int (c .whole-at .result))
-      ≡ exactInt (next c y)
-  added =
-      taken (start c .args .counts) (start c .args .o) (start c .args .v) (held c) (c .whole-at .result) (compared c true p)
-      ∙ ap (λ (z : ℤ). exactInt (held c +ℤ z)) (sym (q ∙ ap (takenOf (start c .args .counts)) (cell-back c)))
-      ∙ ap exactInt (sym (wide-back (held c) y (held-fits c) F))
+matching-of-requires-5 : tie.Need-matching-of-requires-5
+matching-of-requires-5 c κs = (rw (c .enum-told5 .given .1) at (c .before .before .before .before .before .before .pre .0), refl)
 
-sub-has-cell : tie.Need-sub-has-cell Inv-loop μ-loop
-sub-has-cell c =
-    let h = total-laws .range-small (c .before .args .bank) (c .before .args .first) (c .before .args .count) (c .before .pre .0) in omega (arith, h .0)
+enum-told-6 : tie.Need-enum-told-6
+enum-told-6 c = search needs
 
-add-has-cell : tie.Need-add-has-cell Inv-loop μ-loop
-add-has-cell c =
-    let h = total-laws .range-small (c .before .args .bank) (c .before .args .first) (c .before .args .count) (c .before .pre .0) in omega (arith, h .0, h .1)
-
-has-cell-requires : tie.Need-has-cell-requires Inv-loop μ-loop
-has-cell-requires c κs = search needs
-
-no-cells-requires : tie.Need-no-cells-requires Inv-loop μ-loop
+no-cells-requires : tie.Need-no-cells-requires
 no-cells-requires c κs = search needs
 
-returns : tie.Need-returns Inv-loop μ-loop
+returns : tie.Need-returns
 returns c =
-    c .no-cells .ensures
-    ∙ none-held (now (c .before .before .before .before .args .image)) (c .before .before .before .before .args .bank)
-    (c .before .before .before .before .args .first) (c .before .before .before .before .args .count) (c .before .before .before .before .pre .0)
-    (sym (c .before .before .has-cell .ensures) ∙ not-true _ (c .before .if1 .taken))
-    (matchStep (c .before .before .before .before .args .counts) (c .before .before .before .before .args .o)
-    (c .before .before .before .before .args .v)) (Int (pos 0)) _
-    (match-begins (c .before .before .before .before .args .counts) (c .before .before .before .before .args .o)
-    (c .before .before .before .before .args .v) (readRule (now (c .before .before .before .before .args .image))
-    (c .before .before .before .before .args .bank)) (c .before .before .before .before .args .first) (c .before .before .before .before .args .count))
+    let s = c .before .before .before .before .before .before .before in
+    rw (c .before .enum-told .given .1) (c .matching-of .ensures (s .args .o) (s .args .w) (known (c .before .before .before .before .before)))
 
-loop-holds : tie.Need-loop-holds Inv-loop μ-loop
-loop-holds c =
-    let a = c .before .before .before .args in (
-      omega arith,
-      refl,
-      middle-begin (readRule (now (a .image)) (a .bank)) _ Done _ (a .first) (a .count) (Int (pos 0))
-          (match-begins (a .counts) (a .o) (a .v) (readRule (now (a .image)) (a .bank)) (a .first) (a .count)),
-    )
-
-add-whole-at : tie.Need-add-whole-at Inv-loop μ-loop
-add-whole-at c =
-    let h = total-laws .range-small (c .before .before .before .before .before .args .bank) (c .before .before .before .before .before .args .first)
-    (c .before .before .before .before .before .args .count) (c .before .before .before .before .before .pre .0) in omega (arith, h .1)
-
-whole-at-requires : tie.Need-whole-at-requires Inv-loop μ-loop
-whole-at-requires c κs = search needs
-
-add-k : tie.Need-add-k Inv-loop μ-loop
-add-k c =
-    let h = total-laws .range-small (c .before .before .before .before .before .before .args .bank)
-    (c .before .before .before .before .before .before .args .first) (c .before .before .before .before .before .before .args .count)
-    (c .before .before .before .before .before .before .pre .0) in omega (arith, h .1)
-
-passes-requires : tie.Need-passes-requires Inv-loop μ-loop
-passes-requires c κs = search needs
-
-taken-of-requires : tie.Need-taken-of-requires Inv-loop μ-loop
-taken-of-requires c κs = search needs
-
-cast-a : tie.Need-cast-a Inv-loop μ-loop
-cast-a c = let F : SFits w32 (c .taken-of .result) = search needs in cast-wide (c .taken-of .result) F
-
-add-a : tie.Need-add-a Inv-loop μ-loop
-add-a c = let F : SFits w32 (c .taken-of .result) = search needs in let t = c .before .before .before in wide-sum (held t) (c .taken-of .result) (held-fits t) F
-
-in-range-requires : tie.Need-in-range-requires Inv-loop μ-loop
-in-range-requires c κs = search needs
-
-ended-requires : tie.Need-ended-requires Inv-loop μ-loop
-ended-requires c κs = search needs
-
-returns-2 : tie.Need-returns-2 Inv-loop μ-loop
+returns-2 : tie.Need-returns-2
 returns-2 c =
-    let t = c .before .before .before .before .before .before in
-    let F : SFits w32 (c .before .before .before .taken-of .result) = search needs in
-    c .ended .ensures
-    ∙ leaves (matchStep (c .before .before .before .before .before .before .before .before .before .before .before .before .args .counts)
-    (c .before .before .before .before .before .before .before .before .before .before .before .before .args .o)
-    (c .before .before .before .before .before .before .before .before .before .before .before .before .args .v)) (cells t) _ (start t .args .first)
-    (start t .args .count) (c .before .before .before .before .before .before .before .before .loop .inv .2)
-    (c .before .before .before .before .before .before .before .loop-test .taken) (t .whole-at .result) (cell-read t)
-    (next t (c .before .before .before .taken-of .result))
-    (added t (sym (c .before .before .before .before .before .passes .ensures) ∙ c .before .before .before .before .if2 .taken)
-    (c .before .before .before .taken-of .result) F (c .before .before .before .taken-of .ensures))
-    (sym (c .before .before .in-range .ensures) ∙ not-true _ (c .before .if3 .taken))
+    let s = c .before .before .before .before .before .before .before in
+    rw (c .before .enum-told2 .given .1) (c .matching-of2 .ensures (s .args .o) (s .args .w) (known (c .before .before .before .before .before)))
 
-loop-less : tie.Need-loop-less Inv-loop μ-loop
-loop-less c = omega arith
-
-loop-again : tie.Need-loop-again Inv-loop μ-loop
-loop-again c =
-    let t = c .before .before .before .before .before in
-    let F : SFits w32 (c .before .before .taken-of .result) = search needs in
-    let e : inRange (next t (c .before .before .taken-of .result)) ≡ true = sym (c .before .in-range .ensures) ∙ not-false _ (c .if3 .left) in (
-      omega arith,
-      e,
-      stays (matchStep (c .before .before .before .before .before .before .before .before .before .before .before .args .counts)
-          (c .before .before .before .before .before .before .before .before .before .before .before .args .o)
-          (c .before .before .before .before .before .before .before .before .before .before .before .args .v)) (cells t) _ (start t .args .first)
-          (start t .args .count) (c .before .before .before .before .before .before .before .loop .inv .2)
-          (c .before .before .before .before .before .before .loop-test .taken)
-          (t .whole-at .result) (cell-read t) (next t (c .before .before .taken-of .result))
-          (added t (sym (c .before .before .before .before .passes .ensures) ∙ c .before .before .before .if2 .taken)
-          (c .before .before .taken-of .result) F (c .before .before .taken-of .ensures)) e,
-    )
-
-loop-less-2 : tie.Need-loop-less-2 Inv-loop μ-loop
-loop-less-2 c = omega arith
-
-loop-again-2 : tie.Need-loop-again-2 Inv-loop μ-loop
-loop-again-2 c =
-    let t = c .before .before in (
-      omega arith,
-      c .before .before .before .before .loop .inv .1,
-      holds (matchStep (c .before .before .before .before .before .before .before .before .args .counts)
-          (c .before .before .before .before .before .before .before .before .args .o)
-          (c .before .before .before .before .before .before .before .before .args .v)) (cells t) _ (start t .args .first) (start t .args .count)
-          (c .before .before .before .before .loop .inv .2) (c .before .before .before .loop-test .taken) (t .whole-at .result) (cell-read t) (held t)
-          (passed (c .before .before .before .before .before .before .before .before .args .counts)
-          (c .before .before .before .before .before .before .before .before .args .o)
-          (c .before .before .before .before .before .before .before .before .args .v) (held t) (t .whole-at .result)
-          (compared t false (sym (c .before .passes .ensures) ∙ c .if2 .left)) (held-fits t)),
-    )
-
-cast-held : tie.Need-cast-held Inv-loop μ-loop
-cast-held c = range-sfits _ (c .before .loop .inv .1)
-
-ended-requires-2 : tie.Need-ended-requires-2 Inv-loop μ-loop
-ended-requires-2 c κs = search needs
-
-returns-3 : tie.Need-returns-3 Inv-loop μ-loop
+returns-3 : tie.Need-returns-3
 returns-3 c =
-    let a = c .before .before .before .before .before .before .args in
-    c .ended2 .ensures
-    ∙ ap (λ (z : ℤ). record { result = Done (Int z); cells = a .count }) (toZ-ofZ w32 _ (range-sfits _ (c .before .before .loop .inv .1)))
-    ∙ held-ends (matchStep (c .before .before .before .before .before .before .args .counts)
-    (c .before .before .before .before .before .before .args .o) (c .before .before .before .before .before .before .args .v))
-    (readRule (now (a .image)) (a .bank)) _ (a .first) (a .count) (c .before .before .loop .inv .2) (c .before .loop-test .left)
-    (c .before .before .loop .inv .0)
+    let s = c .before .before .before .before .before .before .before in
+    rw (c .before .enum-told3 .given .1) (c .matching-of3 .ensures (s .args .o) (s .args .w) (known (c .before .before .before .before .before)))
+
+returns-4 : tie.Need-returns-4
+returns-4 c =
+    let s = c .before .before .before .before .before .before .before in
+    rw (c .before .enum-told4 .given .1) (c .matching-of4 .ensures (s .args .o) (s .args .w) (known (c .before .before .before .before .before)))
+
+returns-5 : tie.Need-returns-5
+returns-5 c =
+    let s = c .before .before .before .before .before .before .before in
+    rw (c .before .enum-told5 .given .1) (c .matching-of5 .ensures (s .args .o) (s .args .w) (known (c .before .before .before .before .before)))
+
+returns-6 : tie.Need-returns-6
+returns-6 c = absurd (no-int (rw (c .before .enum-told6 .given .1) at (c .before .before .before .before .before .before .before .pre .1)))
 
 pub matching-spec : {M : Type 1} → statement M
 matching-spec =
     tie.close
     (tie.spec
-    Inv-loop
-    μ-loop
-    sub-has-cell
-    add-has-cell
-    has-cell-requires
+    bounds-of-requires
+    enum-told
+    matching-of-requires
+    enum-told-2
+    matching-of-requires-2
+    enum-told-3
+    matching-of-requires-3
+    enum-told-4
+    matching-of-requires-4
+    enum-told-5
+    matching-of-requires-5
+    enum-told-6
     no-cells-requires
     returns
-    loop-holds
-    add-whole-at
-    whole-at-requires
-    add-k
-    passes-requires
-    taken-of-requires
-    cast-a
-    add-a
-    in-range-requires
-    ended-requires
     returns-2
-    loop-less
-    loop-again
-    loop-less-2
-    loop-again-2
-    cast-held
-    ended-requires-2
-    returns-3)
+    returns-3
+    returns-4
+    returns-5
+    returns-6)

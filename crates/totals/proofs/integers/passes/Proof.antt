@@ -1,51 +1,34 @@
--- `totals::integers::passes` meets its contract: a comparison of integers, or of reals.
+-- `totals::integers::passes` meets its contract.
+use mathlib.Core.Path.{_≡_}
+use mathlib.Core.Bool.{Bool, true, false}
+use lib.Signed.{ltZ}
 use mir.Syntax.{w32}
-use mir.Val.{SFits}
+use mir.Val.{toZ, ofZ}
 use mir.ValLaws.{toZ-ofZ}
-use borrow.Author.Needs.{needs}
 use Rattle.totals.proofs.integers.passes.Statement.{statement}
 use Rattle.totals.proofs.integers.passes.Tie as tie
 
-enum-known-v : tie.Need-enum-known-v
-enum-known-v c = search needs
+read-z : (s : tie.Start) → toZ w32 (ofZ w32 (s .args .z)) ≡ s .args .z
+read-z s = toZ-ofZ w32 (s .args .z) (s .fits .z)
 
-compare-requires : tie.Need-compare-requires
-compare-requires c κs = search needs
+read-least : (s : tie.Start) → toZ w32 (ofZ w32 (s .args .least)) ≡ s .args .least
+read-least s = toZ-ofZ w32 (s .args .least) (s .fits .least)
 
-enum-known-v-2 : tie.Need-enum-known-v-2
-enum-known-v-2 c = search needs
-
-promote-requires : tie.Need-promote-requires
-promote-requires c κs = search needs
-
-compare-requires-2 : tie.Need-compare-requires-2
-compare-requires-2 c κs = search needs
+read-greatest : (s : tie.Start) → toZ w32 (ofZ w32 (s .args .greatest)) ≡ s .args .greatest
+read-greatest s = toZ-ofZ w32 (s .args .greatest) (s .fits .greatest)
 
 returns : tie.Need-returns
-returns c =
-    let G : SFits w32 (c .before .before .v .given .0 .0) = search needs in rw (c .before .before .v .given .1)
-    (rw (
-      toZ-ofZ w32 (c .before .before .before .before .args .z) (c .before .before .before .before .fits .z),
-      toZ-ofZ w32
-          (c .before .before .v .given .0 .0) G,
-    ) at (c .compare .ensures))
+returns c = let s = c .before in rw (rw (read-z s, read-least s) at (c .if1 .taken))
 
 returns-2 : tie.Need-returns-2
 returns-2 c =
-    rw (c .before .before .before .v2 .given .1) (rw (
-      c .before .promote .ensures,
-      toZ-ofZ w32 (c .before .before .before .before .before .args .z)
-          (c .before .before .before .before .before .fits .z),
-    ) at (c .compare2 .ensures))
+    let s = c .before .before in
+    rw (rw (read-z s, read-least s) at (c .before .if1 .left), rw (read-z s, read-greatest s) at (c .if2 .taken))
+
+returns-3 : tie.Need-returns-3
+returns-3 c =
+    let s = c .before .before in
+    rw (rw (read-z s, read-least s) at (c .before .if1 .left), rw (read-z s, read-greatest s) at (c .if2 .left))
 
 pub passes-spec : {M : Type 1} → statement M
-passes-spec =
-    tie.close
-    (tie.spec
-    enum-known-v
-    compare-requires
-    enum-known-v-2
-    promote-requires
-    compare-requires-2
-    returns
-    returns-2)
+passes-spec = tie.close (tie.spec returns returns-2 returns-3)

@@ -1,183 +1,83 @@
--- `totals::integers::sum` meets its contract. The loop's invariant: the sum so far is an integer of 32 bits. The measure is the cells left.
-use mathlib.Core.Path.{_≡_, refl, sym, ap, _∙_}
-use mathlib.Core.Bool.{true}
-use Prim.Native.Nat.{ℕ, _+_, _-_, _≤_}
-use native.Mathlib.Omega.{arith}
-use lib.IntN.{ℤ, pos, _+ℤ_}
+-- `totals::integers::sum` meets its contract: an arm for each bank of integers.
+use mathlib.Core.Path.{refl}
 use borrow.Author.Needs.{needs}
-use borrow.Author.Tests.{not-true, not-false}
-use denote.Ref.{now}
-use mir.Syntax.{w32, w64}
-use mir.Val.{SFits, toZ, ofZ}
-use mir.ValLaws.{toZ-ofZ}
-use Rattle.values.specs.declared.Kind.the-variants as K
-use Rattle.values.specs.declared.Value.the-variants.{Int}
-use Rattle.values.specs.declared.Outcome.{Outcome}
-use Rattle.values.specs.declared.Outcome.the-variants.{Done}
-use Rattle.values.specs.Integers.{inRange, exactInt}
-use Rattle.values.proofs.Ranges.{range-sfits}
-use Rattle.values.proofs.integers.Results.{wide, cast-wide}
-use Rattle.memory.specs.Cells.{readRule}
-use Rattle.totals.specs.declared.Step.the-variants as S
-use Rattle.totals.specs.private.Steps.{runOver}
-use Rattle.totals.proofs.Laws.{total-laws}
-use Rattle.totals.proofs.Middle.{middle-begin}
-use Rattle.totals.proofs.integers.Whole.{Held, all-read, none-held, held-ends, stays, leaves, sum-begins, wide-sum, wide-back}
+use Rattle.totals.proofs.integers.Whole.{no-int}
 use Rattle.totals.proofs.integers.sum.Statement.{statement}
 use Rattle.totals.proofs.integers.sum.Tie as tie
 
-abbrev Inv-loop : tie.InvT-loop
-Inv-loop image bank first count a₀ k₀ a k =
-    (k ≤ count)
-    × (inRange (toZ w64 a) ≡ true)
-    × Held S.Add (readRule image bank) (runOver S.Add K.Int (readRule image bank) first count) first count (toZ w64 a) k
+enum-told : tie.Need-enum-told
+enum-told c = search needs
 
-abbrev μ-loop : tie.MeasureT-loop
-μ-loop image bank first count a₀ k₀ a k = count - k
+sum-of-requires : tie.Need-sum-of-requires
+sum-of-requires c κs = (rw (c .enum-told .given .1) at (c .before .before .before .pre .0), refl, refl)
 
-abbrev start : tie.After-whole-at Inv-loop μ-loop → tie.Start Inv-loop μ-loop
-start c = c .before .before .before .before .before .before
+enum-told-2 : tie.Need-enum-told-2
+enum-told-2 c = search needs
 
-abbrev cells : tie.After-whole-at Inv-loop μ-loop → ℕ → Outcome
-cells c = readRule (now (start c .args .image)) (start c .args .bank)
+sum-of-requires-2 : tie.Need-sum-of-requires-2
+sum-of-requires-2 c κs = (rw (c .enum-told2 .given .1) at (c .before .before .before .pre .0), refl, refl)
 
-abbrev held : tie.After-whole-at Inv-loop μ-loop → ℤ
-held c = toZ w64 (c .before .before .loop .a)
+enum-told-3 : tie.Need-enum-told-3
+enum-told-3 c = search needs
 
--- the sum with y more, at 64 bits
-abbrev next : tie.After-whole-at Inv-loop μ-loop → ℤ → ℤ
-next c y = toZ w64 (ofZ w64 (held c +ℤ wide y))
+sum-of-requires-3 : tie.Need-sum-of-requires-3
+sum-of-requires-3 c κs = (rw (c .enum-told3 .given .1) at (c .before .before .before .pre .0), refl, refl)
 
-held-fits : (c : tie.After-whole-at Inv-loop μ-loop) → SFits w32 (held c)
-held-fits c = range-sfits (held c) (c .before .before .loop .inv .1)
+enum-told-4 : tie.Need-enum-told-4
+enum-told-4 c = search needs
 
-cell-fits : (c : tie.After-whole-at Inv-loop μ-loop) → SFits w32 (c .whole-at .result)
-cell-fits c = search needs
+sum-of-requires-4 : tie.Need-sum-of-requires-4
+sum-of-requires-4 c κs = (rw (c .enum-told4 .given .1) at (c .before .before .before .pre .0), refl, refl)
 
-cell-read : (c : tie.After-whole-at Inv-loop μ-loop) → cells c (start c .args .first + c .before .before .loop .k) ≡ Done (Int (c .whole-at .result))
-cell-read c =
-    all-read (now (start c .args .image)) (start c .args .bank) (start c .args .first) (start c .args .count) (start c .pre .0) (start c .pre .1)
-    (sym (c .before .before .before .before .has-cell .ensures) ∙ not-false _ (c .before .before .before .if1 .left)) (c .before .before .loop .k)
-    (c .before .loop-test .taken)
-    ∙ ap (λ (z : ℤ). Done (Int z)) (sym (c .whole-at .ensures))
+enum-told-5 : tie.Need-enum-told-5
+enum-told-5 c = search needs
 
-sub-has-cell : tie.Need-sub-has-cell Inv-loop μ-loop
-sub-has-cell c =
-    let h = total-laws .range-small (c .before .args .bank) (c .before .args .first) (c .before .args .count) (c .before .pre .0) in omega (arith, h .0)
+sum-of-requires-5 : tie.Need-sum-of-requires-5
+sum-of-requires-5 c κs = (rw (c .enum-told5 .given .1) at (c .before .before .before .pre .0), refl, refl)
 
-add-has-cell : tie.Need-add-has-cell Inv-loop μ-loop
-add-has-cell c =
-    let h = total-laws .range-small (c .before .args .bank) (c .before .args .first) (c .before .args .count) (c .before .pre .0) in omega (arith, h .0, h .1)
+enum-told-6 : tie.Need-enum-told-6
+enum-told-6 c = search needs
 
-has-cell-requires : tie.Need-has-cell-requires Inv-loop μ-loop
-has-cell-requires c κs = search needs
-
-no-cells-requires : tie.Need-no-cells-requires Inv-loop μ-loop
+no-cells-requires : tie.Need-no-cells-requires
 no-cells-requires c κs = search needs
 
-returns : tie.Need-returns Inv-loop μ-loop
-returns c =
-    c .no-cells .ensures
-    ∙ none-held (now (c .before .before .before .before .args .image)) (c .before .before .before .before .args .bank)
-    (c .before .before .before .before .args .first) (c .before .before .before .before .args .count) (c .before .before .before .before .pre .0)
-    (sym (c .before .before .has-cell .ensures) ∙ not-true _ (c .before .if1 .taken)) S.Add (Int (pos 0)) _
-    (sum-begins (readRule (now (c .before .before .before .before .args .image)) (c .before .before .before .before .args .bank))
-    (c .before .before .before .before .args .first) (c .before .before .before .before .args .count))
+returns : tie.Need-returns
+returns c = rw (c .before .enum-told .given .1) (c .sum-of .ensures)
 
-loop-holds : tie.Need-loop-holds Inv-loop μ-loop
-loop-holds c =
-    let a = c .before .before .before .args in (
-      omega arith,
-      refl,
-      middle-begin (readRule (now (a .image)) (a .bank)) _ Done _ (a .first) (a .count) (Int (pos 0))
-          (sum-begins (readRule (now (a .image)) (a .bank)) (a .first) (a .count)),
-    )
+returns-2 : tie.Need-returns-2
+returns-2 c = rw (c .before .enum-told2 .given .1) (c .sum-of2 .ensures)
 
-add-whole-at : tie.Need-add-whole-at Inv-loop μ-loop
-add-whole-at c =
-    let h = total-laws .range-small (c .before .before .before .before .before .args .bank) (c .before .before .before .before .before .args .first)
-    (c .before .before .before .before .before .args .count) (c .before .before .before .before .before .pre .0) in omega (arith, h .1)
+returns-3 : tie.Need-returns-3
+returns-3 c = rw (c .before .enum-told3 .given .1) (c .sum-of3 .ensures)
 
-whole-at-requires : tie.Need-whole-at-requires Inv-loop μ-loop
-whole-at-requires c κs = search needs
+returns-4 : tie.Need-returns-4
+returns-4 c = rw (c .before .enum-told4 .given .1) (c .sum-of4 .ensures)
 
-cast-a : tie.Need-cast-a Inv-loop μ-loop
-cast-a c = cast-wide (c .whole-at .result) (cell-fits c)
+returns-5 : tie.Need-returns-5
+returns-5 c = rw (c .before .enum-told5 .given .1) (c .sum-of5 .ensures)
 
-add-a : tie.Need-add-a Inv-loop μ-loop
-add-a c = wide-sum (held c) (c .whole-at .result) (held-fits c) (cell-fits c)
-
-add-k : tie.Need-add-k Inv-loop μ-loop
-add-k c =
-    let h = total-laws .range-small (c .before .before .before .before .before .before .args .bank)
-    (c .before .before .before .before .before .before .args .first) (c .before .before .before .before .before .before .args .count)
-    (c .before .before .before .before .before .before .pre .0) in omega (arith, h .1)
-
-in-range-requires : tie.Need-in-range-requires Inv-loop μ-loop
-in-range-requires c κs = search needs
-
-ended-requires : tie.Need-ended-requires Inv-loop μ-loop
-ended-requires c κs = search needs
-
-returns-2 : tie.Need-returns-2 Inv-loop μ-loop
-returns-2 c =
-    let t = c .before .before .before in
-    c .ended .ensures
-    ∙ leaves S.Add (cells t) _ (start t .args .first) (start t .args .count) (c .before .before .before .before .before .loop .inv .2)
-    (c .before .before .before .before .loop-test .taken) (t .whole-at .result) (cell-read t) (next t (t .whole-at .result))
-    (ap exactInt (sym (wide-back (held t) (t .whole-at .result) (held-fits t) (cell-fits t))))
-    (sym (c .before .before .in-range .ensures) ∙ not-true _ (c .before .if2 .taken))
-
-loop-less : tie.Need-loop-less Inv-loop μ-loop
-loop-less c = omega arith
-
-loop-again : tie.Need-loop-again Inv-loop μ-loop
-loop-again c =
-    let t = c .before .before in
-    let e : inRange (next t (t .whole-at .result)) ≡ true = sym (c .before .in-range .ensures) ∙ not-false _ (c .if2 .left) in (
-      omega arith,
-      e,
-      stays S.Add (cells t) _ (start t .args .first) (start t .args .count) (c .before .before .before .before .loop .inv .2)
-          (c .before .before .before .loop-test .taken) (t .whole-at .result) (cell-read t) (next t (t .whole-at .result))
-          (ap exactInt (sym (wide-back (held t) (t .whole-at .result) (held-fits t) (cell-fits t)))) e,
-    )
-
-cast-held : tie.Need-cast-held Inv-loop μ-loop
-cast-held c = range-sfits _ (c .before .loop .inv .1)
-
-ended-requires-2 : tie.Need-ended-requires-2 Inv-loop μ-loop
-ended-requires-2 c κs = search needs
-
-returns-3 : tie.Need-returns-3 Inv-loop μ-loop
-returns-3 c =
-    let a = c .before .before .before .before .before .before .args in
-    c .ended2 .ensures
-    ∙ ap (λ (z : ℤ). record { result = Done (Int z); cells = a .count }) (toZ-ofZ w32 _ (range-sfits _ (c .before .before .loop .inv .1)))
-    ∙ held-ends S.Add (readRule (now (a .image)) (a .bank)) _ (a .first) (a .count) (c .before .before .loop .inv .2) (c .before .loop-test .left)
-    (c .before .before .loop .inv .0)
+returns-6 : tie.Need-returns-6
+returns-6 c = absurd (no-int (rw (c .before .enum-told6 .given .1) at (c .before .before .before .before .pre .1)))
 
 pub sum-spec : {M : Type 1} → statement M
 sum-spec =
     tie.close
     (tie.spec
-    Inv-loop
-    μ-loop
-    sub-has-cell
-    add-has-cell
-    has-cell-requires
+    enum-told
+    sum-of-requires
+    enum-told-2
+    sum-of-requires-2
+    enum-told-3
+    sum-of-requires-3
+    enum-told-4
+    sum-of-requires-4
+    enum-told-5
+    sum-of-requires-5
+    enum-told-6
     no-cells-requires
     returns
-    loop-holds
-    add-whole-at
-    whole-at-requires
-    cast-a
-    add-a
-    add-k
-    in-range-requires
-    ended-requires
     returns-2
-    loop-less
-    loop-again
-    cast-held
-    ended-requires-2
-    returns-3)
+    returns-3
+    returns-4
+    returns-5
+    returns-6)

@@ -12,11 +12,8 @@ enum-told c = search needs
 enum-told-2 : tie.Need-enum-told-2
 enum-told-2 c = search needs
 
-cast-t8 : tie.Need-cast-t8
-cast-t8 c = search needs
-
-arith-requires : tie.Need-arith-requires
-arith-requires c κs = search needs
+mean-requires : tie.Need-mean-requires
+mean-requires c κs = search needs
 
 enum-known-step : tie.Need-enum-known-step
 enum-known-step c = search needs
@@ -30,8 +27,8 @@ enum-told-4 c = search needs
 enum-told-5 : tie.Need-enum-told-5
 enum-told-5 c = search needs
 
-cast-t13 : tie.Need-cast-t13
-cast-t13 c = search needs
+cast-t9 : tie.Need-cast-t9
+cast-t9 c = search needs
 
 enum-told-6 : tie.Need-enum-told-6
 enum-told-6 c = search needs
@@ -40,8 +37,7 @@ returns : tie.Need-returns
 returns c = rw (c .enum-told .given .1)
 
 returns-2 : tie.Need-returns-2
-returns-2 c =
-    rw (c .before .before .enum-told2 .given .1) (rw (toZ-pos w32 (c .before .before .before .before .args .t .count) (omega arith)) at (c .arith .ensures))
+returns-2 c = rw (c .before .enum-told2 .given .1) (c .mean .ensures)
 
 returns-3 : tie.Need-returns-3
 returns-3 c = rw (c .before .before .before .step .given .1, c .enum-told3 .given .1)
@@ -61,13 +57,12 @@ reading-spec =
     (tie.spec
     enum-told
     enum-told-2
-    cast-t8
-    arith-requires
+    mean-requires
     enum-known-step
     enum-told-3
     enum-told-4
     enum-told-5
-    cast-t13
+    cast-t9
     enum-told-6
     returns
     returns-2
