@@ -4,7 +4,7 @@ use Prim.Native.Nat.{ℕ}
 use Rattle.words.specs.Ascii.{ascii}
 use Rattle.text_tables.specs.Tables.{rowAt}
 
--- the row of each answer, from 0 on; 19 is not in use
+-- the row of each answer, from 0 on
 abbrev pub answerTable : List ℕ
 answerTable =
     ascii "done\n"
@@ -26,7 +26,7 @@ answerTable =
     ++ ascii "a line out of form or order\n"
     ++ ascii "the check differs\n"
     ++ ascii "the number is not above the one before\n"
-    ++ ascii "\n"
+    ++ ascii "a real in the profile without reals\n"
     ++ ascii "more than forty formulas in a list"
 
 -- the words of an answer; none where the number is no answer

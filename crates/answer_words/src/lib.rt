@@ -6,8 +6,8 @@ ghost use lib.Seq.{sets};
 ghost use Rattle.lines.specs.private.Steps.{Puts};
 ghost use Rattle.answer_words.specs.Words.{answerTable, wordsOf, mostWords};
 
-// The row of each answer, from 0 on; 19 is not in use.
-const TABLE: [u8; 559] = *b"done
+// The row of each answer, from 0 on.
+const TABLE: [u8; 594] = *b"done
 the memory has not its size, 3,092 bytes
 no C, V, N, D or R cell, nor indexed bank
 the expression is empty or has over 1,024 bytes
@@ -26,7 +26,7 @@ the check does not accept the code
 a line out of form or order
 the check differs
 the number is not above the one before
-
+a real in the profile without reals
 more than forty formulas in a list";
 
 // The words of an answer put into a slice: the place behind them.

@@ -1,11 +1,67 @@
-// A line of text in an array, and the texts of results. Each function puts its text at a place and answers the place after it.
-// A text that has no room is not put: a line without it differs from the expected one.
+// For the programs of cases: what a line of their input says, and a line of text in an array with the texts of results. Each function of the latter puts its
+// text at a place and answers the place after it. A text that has no room is not put: a line without it differs from the expected one.
+ghost use Prim.Native.Nat.{_≤_, _<_};
+ghost use lib.ListN.{length};
 use libc::STDOUT_FILENO;
 use lines::printing;
 use memory::Bank;
 use values::Fault;
 use values::Outcome;
 use values::Value;
+
+// The byte b from a place on, or the end.
+pub fn find(text: &[u8], at: usize, b: u8) -> usize
+    requires { ⌜ at ≤ length (now text) ⌝ }
+    ensures { λ r. ⌜ (at ≤ r) × (r ≤ length (now (text .entry))) ⌝ }
+{
+    at + lines::until(&text[at..], b)
+}
+
+// The place behind another, within the text.
+pub fn behind(text: &[u8], at: usize) -> usize
+    ensures { λ r. ⌜ r ≤ length (now (text .entry)) ⌝ }
+{
+    if at < text.len() { at + 1 } else { text.len() }
+}
+
+fn digit(b: u8) -> u8 {
+    if b < 65 { b % 16 } else { b % 16 + 9 }
+}
+
+// The bytes of pairs of hexadecimal digits, as many as the code has room for.
+pub fn bytes_of(text: &[u8], code: &mut [u8; 16448]) -> usize {
+    let mut n: usize = 0;
+    let mut i: usize = 0;
+    while i < text.len() {
+        if text.len() - i < 2 {
+            return n;
+        }
+        if 16448 <= n {
+            return n;
+        }
+        code[n] = digit(text[i]) % 16 * 16 + digit(text[i + 1]) % 16;
+        n += 1;
+        i += 2;
+    }
+    n
+}
+
+fn wide(b: u8) -> u64
+    ensures { λ r. ⌜ r < 256 ⌝ }
+{
+    b as u64
+}
+
+// One number for all bytes of a buffer.
+pub fn sum_of(bytes: &[u8]) -> u64 {
+    let mut sum: u64 = 0;
+    let mut at: usize = 0;
+    while at < bytes.len() {
+        sum = (sum * 31 + wide(bytes[at])) % 65521;
+        at += 1;
+    }
+    sum
+}
 
 pub fn put_all(line: &mut [u8; 512], at: usize, text: &[u8]) -> usize {
     let room: &mut [u8] = line;
@@ -26,6 +82,12 @@ pub fn put_decimal(line: &mut [u8; 512], at: usize, n: u64) -> usize {
     let mut text = [0u8; 20];
     let k = printing::put_decimal(&mut text, 0, n);
     put_all(line, at, &text[..k])
+}
+
+// A space, and a number.
+pub fn put_number(line: &mut [u8; 512], at: usize, n: u64) -> usize {
+    let end = put(line, at, b' ');
+    put_decimal(line, end, n)
 }
 
 // The eight digits of a pattern, without the `0x` before them.

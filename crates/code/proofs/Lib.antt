@@ -7,3 +7,4 @@ mod Classes
 mod Decodes
 mod Fetches
 mod Numbers
+mod Reals

@@ -1,3 +1,4 @@
 pub mod Instructions
+pub mod Reals
 pub mod Encode
 pub mod private

@@ -3,12 +3,16 @@ ghost use mathlib.Core.Path.{_≡_};
 ghost use Prim.Native.Nat.{_+_, _<_, _≤_};
 ghost use lib.ListN.{length, take, drop};
 ghost use Rattle.words.specs.Words.{littleEndian};
-ghost use Rattle.code.specs.Instructions.{opcodeOf, wordOf, rangeBank, rangeFirst, rangeCount, fetched};
+ghost use Rattle.code.specs.declared.Instr.the-variants.{Unknown};
+ghost use Rattle.code.specs.Instructions.{opcodeOf, wordOf, rangeBank, rangeFirst, rangeCount, instructionOf, fetched};
+ghost use Rattle.code.specs.Reals.{readsReal};
 ghost use Rattle.code.specs.Encode.{joinWord, joinRange};
 ghost use Rattle.code.specs.private.Classes.{singleClass, rangeClass, classOf, numberOf};
 use memory::Bank;
+use memory::numbers;
 use operators::BinaryOp;
 use operators::UnaryOp;
+use operators::kinds;
 use totals::MatchOp;
 use totals::TotalOp;
 
@@ -191,6 +195,19 @@ pub fn class_of(n: u64) -> Class
         return Class::LoadIndexed;
     }
     Class::Unary
+}
+
+// Whether an instruction reads R, of eight bytes that are one.
+pub fn reads_real(n: u64) -> bool
+    ensures { λ r. ⌜ ((instructionOf n ≡ Unknown → ⊥) → r ≡ readsReal (instructionOf n)) ⌝ }
+{
+    match class_of(n) {
+        Class::Load => numbers::bank_kind(number_of(n) as u32) == kinds::REAL,
+        Class::LoadIndexed => numbers::bank_kind(number_of(n) as u32) == kinds::REAL,
+        Class::Total => numbers::bank_kind(range_bank(word_of(n)) as u32) == kinds::REAL,
+        Class::Match => numbers::bank_kind(range_bank(word_of(n)) as u32) == kinds::REAL,
+        _ => false,
+    }
 }
 
 fn wide(b: u8) -> u32

@@ -1,7 +1,5 @@
 // Checks and runs code. A line of the standard input has a name, how many instructions are meant, and the code's bytes in hexadecimal; printed are the
 // name, what the check says (i, r or 15), how a run ends and the instructions begun. tests/host/expected/codes.rs has what is expected.
-ghost use Prim.Native.Nat.{_≤_};
-ghost use lib.ListN.{length};
 use libc::STDIN_FILENO;
 use machine::Ended;
 use machine::Ran;
@@ -12,49 +10,12 @@ use verifier::Verdict;
 // The tick of every run: below zero as an integer, and far from the least one.
 const TICK: u32 = 0x8000_0005;
 
-// The byte b from a place on, or the end.
-fn find(text: &[u8], at: usize, b: u8) -> usize
-    requires { ⌜ at ≤ length (now text) ⌝ }
-    ensures { λ r. ⌜ (at ≤ r) × (r ≤ length (now (text .entry))) ⌝ }
-{
-    at + lines::until(&text[at..], b)
-}
-
-// The place behind another, within the text.
-fn behind(text: &[u8], at: usize) -> usize
-    ensures { λ r. ⌜ r ≤ length (now (text .entry)) ⌝ }
-{
-    if at < text.len() { at + 1 } else { text.len() }
-}
-
 fn number(text: &[u8]) -> usize {
     let mut n: usize = 0;
     let mut i = 0;
     while i < text.len() {
         n = n % 1000000 * 10 + (text[i] % 16) as usize;
         i += 1;
-    }
-    n
-}
-
-fn digit(b: u8) -> u8 {
-    if b < 65 { b % 16 } else { b % 16 + 9 }
-}
-
-// The bytes of pairs of digits, as many as the code has room for.
-fn bytes_of(text: &[u8], code: &mut [u8; 16448]) -> usize {
-    let mut n: usize = 0;
-    let mut i: usize = 0;
-    while i < text.len() {
-        if text.len() - i < 2 {
-            return n;
-        }
-        if 16448 <= n {
-            return n;
-        }
-        code[n] = digit(text[i]) % 16 * 16 + digit(text[i + 1]) % 16;
-        n += 1;
-        i += 2;
     }
     n
 }
@@ -165,19 +126,19 @@ fn try_first(name: &[u8], code: &[u8; 16448], size: usize, n: usize) {
 }
 
 fn one_case(line: &[u8]) {
-    let first = find(line, 0, b' ');
-    let start = behind(line, first);
-    let second = find(line, start, b' ');
+    let first = case_lines::find(line, 0, b' ');
+    let start = case_lines::behind(line, first);
+    let second = case_lines::find(line, start, b' ');
     let n = number(&line[start..second]);
     let mut code = [0u8; 16448];
-    let size = bytes_of(&line[behind(line, second)..], &mut code);
+    let size = case_lines::bytes_of(&line[case_lines::behind(line, second)..], &mut code);
     try_first(&line[..first], &code, size, n);
 }
 
 fn every_line(input: &[u8]) {
     let mut at: usize = 0;
     while at < input.len() {
-        let end = find(input, at, b'\n');
+        let end = case_lines::find(input, at, b'\n');
         one_case(&input[at..end]);
         at = end + 1;
     }

@@ -1,4 +1,3 @@
-pub mod Words
 pub mod Cards
 pub mod Salvage
 pub mod Lists

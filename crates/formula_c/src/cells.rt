@@ -17,5 +17,5 @@ pub extern "C" fn formula_cells(
     ensures { λ r. ⌜ r ≡ length (readBy (now (code .entry)) n (now (index .entry)) k) % 2 ^ 32 ⌝ }
     ensures { λ _. ⌜ now (list .exit) ≡ sets (now (list .entry)) 0 (cellNumbers (readBy (now (code .entry)) n (now (index .entry)) k)) ⌝ }
 {
-    crate::low(read_set::cells(code, n, index, k, list))
+    c_report::low(read_set::cells(code, n, index, k, list))
 }

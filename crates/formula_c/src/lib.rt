@@ -1,15 +1,14 @@
 // The operations for C, and the remainder: include/formula.h. A slice is a pointer and a length there, and the report is seven
 // 32-bit words.
 ghost use mathlib.Core.Path.{_≡_};
-ghost use Prim.Native.Nat.{_%_, _^_};
 ghost use lib.Ieee.{binary32, rem};
 ghost use lib.ListN.{length};
 ghost use Rattle.format_laws.specs.Format.{formatAnswer, formatBuffer};
 ghost use Rattle.compiler.specs.Compile.{compiling, codedBytes};
 ghost use Rattle.operations.specs.Operations.{compileAnswer, checkAnswer, compileTargetAnswer, compileTargetCode, runAnswer, runMemory};
-ghost use Rattle.operations.specs.Operations.{kindWord, bitsOf, evaluateAnswer, givenValue, givenAnswer, givenMemory};
+ghost use Rattle.operations.specs.Operations.{bitsOf, evaluateAnswer, givenValue, givenAnswer, givenMemory};
 ghost use Rattle.operations.specs.Operations.{request, requestAnswer, requestMemory, requestCode, requestIndex};
-ghost use Rattle.formula_c.specs.Words.{reportWords};
+ghost use Rattle.c_report.specs.Words.{reportWords};
 use operations::Answer;
 use values::Kind;
 use values::Value;
@@ -22,15 +21,6 @@ mod lists;
 mod replay;
 mod salvage;
 
-fn kind_number(v: Value) -> u32
-    ensures { λ r. ⌜ r ≡ kindWord v ⌝ }
-{
-    match v {
-        Value::Int(_) => 0,
-        Value::Real(_) => 1,
-    }
-}
-
 fn bits_of(v: Value) -> u32
     ensures { λ r. ⌜ r ≡ bitsOf v ⌝ }
 {
@@ -40,30 +30,13 @@ fn bits_of(v: Value) -> u32
     }
 }
 
-fn low(n: usize) -> u32
-    ensures { λ r. ⌜ r ≡ n % 2 ^ 32 ⌝ }
-{
-    (n % 4294967296) as u32
-}
-
 fn fill_report(a: Answer, report: &mut [u32; 7])
     ensures { λ _. ⌜ now (report .exit) ≡ reportWords a ⌝ }
 {
     let r = operations::reported(a);
     let value = r.value;
-    let place = low(r.place);
-    let count = low(r.count);
-    let bank = r.bank;
-    let number = memory::numbers::bank_number(bank) as u32;
-    *report = [
-        r.answer,
-        place,
-        kind_number(value),
-        bits_of(value),
-        count,
-        number,
-        r.element,
-    ];
+    let bits = bits_of(value);
+    c_report::fill(r, bits, report);
 }
 
 #[no_mangle]

@@ -14,7 +14,7 @@ pub extern "C" fn formula_listing(code: &[u8], n: usize, text: &mut [u8], result
     ensures { λ _. ⌜ now (text .exit) ≡ sets (now (text .entry)) 0 (listed (length (now (text .entry))) (instructions (now (code .entry)) n) .text) ⌝ }
 {
     let r = code_listing::listing(code, n, text);
-    let length = crate::low(r.length);
+    let length = c_report::low(r.length);
     *result = [r.answer, length];
 }
 
@@ -22,5 +22,5 @@ pub extern "C" fn formula_listing(code: &[u8], n: usize, text: &mut [u8], result
 pub extern "C" fn formula_words(answer: u32, text: &mut [u8]) -> u32
     ensures { λ r. ⌜ (r ≡ length (wordsOf answer) % 2 ^ 32) × (now (text .exit) ≡ sets (now (text .entry)) 0 (wordsOf answer)) ⌝ }
 {
-    crate::low(answer_words::words(answer, text))
+    c_report::low(answer_words::words(answer, text))
 }

@@ -2,8 +2,6 @@
 // of sentinels; printed are its own answer, the forty, and a sum of the bytes of the memory and of each buffer. Then the first list is run
 // with so many words of its table, some tables have places beyond the texts, and some buffers other sizes.
 // tests/host/expected/lists.rs has what is expected.
-ghost use Prim.Native.Nat.{_≤_, _<_};
-ghost use lib.ListN.{length};
 use libc::STDIN_FILENO;
 use run_list::Answers;
 
@@ -14,14 +12,6 @@ const SENTINEL: u8 = 195;
 const CODE_BYTES: usize = 16384;
 
 const TICK: u32 = 7;
-
-// The byte that ends the piece in which a place lies, or the line's end.
-fn piece_end(line: &[u8], at: usize, end: u8) -> usize
-    requires { ⌜ at ≤ length (now line) ⌝ }
-    ensures { λ r. ⌜ (at ≤ r) × (r ≤ length (now (line .entry))) ⌝ }
-{
-    at + lines::until(&line[at..], end)
-}
 
 fn push(words: &mut [u32; 168], n: usize, w: usize) -> usize {
     let room: &mut [u32] = words;
@@ -37,33 +27,12 @@ fn table_of(line: &[u8], words: &mut [u32; 168]) -> usize {
     let mut n: usize = 0;
     let mut at: usize = 0;
     while at < line.len() {
-        let end = piece_end(line, at, END);
+        let end = case_lines::find(line, at, END);
         let k = push(words, n, at);
         n = push(words, k, end - at);
         at = end + 1;
     }
     n
-}
-
-fn wide(b: u8) -> u64
-    ensures { λ r. ⌜ r < 256 ⌝ }
-{
-    b as u64
-}
-
-fn sum_of(bytes: &[u8]) -> u64 {
-    let mut sum: u64 = 0;
-    let mut at: usize = 0;
-    while at < bytes.len() {
-        sum = (sum * 31 + wide(bytes[at])) % 65521;
-        at += 1;
-    }
-    sum
-}
-
-fn put_number(line: &mut [u8; 512], at: usize, n: u64) -> usize {
-    let end = case_lines::put(line, at, b' ');
-    case_lines::put_decimal(line, end, n)
 }
 
 fn long(n: u32) -> u64 {
@@ -73,7 +42,7 @@ fn long(n: u32) -> u64 {
 fn put_answers(line: &mut [u8; 512], at: usize, answers: &[u32; 40]) -> usize {
     let mut end = at;
     for i in 0usize..40 {
-        end = put_number(line, end, long(answers[i]));
+        end = case_lines::put_number(line, end, long(answers[i]));
     }
     end
 }
@@ -84,9 +53,9 @@ fn run_on(words: &[u32], texts: &[u8], memory: &mut [u8], code: &mut [u8], index
     let mut line = [0u8; 512];
     let named = case_lines::put_decimal(&mut line, 0, long(result.answer));
     let told = put_answers(&mut line, named, &answers);
-    let a = put_number(&mut line, told, sum_of(memory));
-    let b = put_number(&mut line, a, sum_of(code));
-    let end = put_number(&mut line, b, sum_of(index_code));
+    let a = case_lines::put_number(&mut line, told, case_lines::sum_of(memory));
+    let b = case_lines::put_number(&mut line, a, case_lines::sum_of(code));
+    let end = case_lines::put_number(&mut line, b, case_lines::sum_of(index_code));
     case_lines::write(&mut line, end);
 }
 
@@ -118,7 +87,7 @@ fn run_line(line: &[u8], most: usize) {
 fn every_line(input: &[u8]) {
     let mut at: usize = 0;
     while at < input.len() {
-        let end = piece_end(input, at, b'\n');
+        let end = case_lines::find(input, at, b'\n');
         run_line(&input[at..end], 168);
         at = end + 1;
     }
@@ -126,7 +95,7 @@ fn every_line(input: &[u8]) {
 
 // As many formulas as there may be, with words behind them, and one more.
 fn first_line(input: &[u8]) {
-    let end = piece_end(input, 0, b'\n');
+    let end = case_lines::find(input, 0, b'\n');
     run_line(&input[0..end], 159);
     run_line(&input[0..end], 160);
     run_line(&input[0..end], 161);

@@ -1,5 +1,5 @@
 -- `act` as the code works it out, on the values held in an array: what an instruction leads to, and the step that the code makes of it.
-use mathlib.Core.Path.{_≡_, refl, ap}
+use mathlib.Core.Path.{_≡_, refl}
 use mathlib.Core.Bool.{Bool, true, false, cond, Bool·beq}
 use mathlib.Core.List.{List, _∷_}
 use Prim.Native.Nat.{ℕ, zero, suc, _-_, _≤_, _<_}
@@ -19,7 +19,7 @@ use Rattle.code.specs.declared.Instr.the-variants.{PushInt, PushReal, Load, Loa
 use Rattle.machine.specs.declared.Ended.the-variants.{Stopped, Stuck}
 use Rattle.machine.specs.declared.Step.{Step}
 use Rattle.machine.specs.Machine.{maxHeight, Next, goes, halts, pushValue, pushOutcome, act}
-use Rattle.machine.specs.private.Steps.{stuckStep, stopStep, skipStep, pushStep, pushOrStuck, taking, outcomeStep, givenStep, jumpStep, stepOf}
+use Rattle.machine.specs.private.Steps.{stuckStep, stopStep, skipStep, pushStep, pushOrStuck, taking, outcomeStep, givenStep, stepOf}
 use Rattle.machine.proofs.Held.{none, held, length-held}
 
 -- of h values in the array s
@@ -29,7 +29,7 @@ pub data Leads (s : List Value) (h : ℕ) : Next → Step → Type 0 where
   stop : (f : Fault) → Leads s h (halts (Stopped f)) (stopStep f)
   stick : Leads s h (halts Stuck) stuckStep
 
-last : (h : ℕ) → suc h - 1 ≡ h
+pub last : (h : ℕ) → suc h - 1 ≡ h
 last h = omega arith
 
 module _ (s : List Value) (h : ℕ) where
@@ -82,27 +82,3 @@ module _ (E : Environment) (s : List Value) where
   leads (Match o b i n) zero = stick
   leads (Match o b i n) (suc h) = one-leads h (λ v. matchOver E o v b i n .result)
   leads Unknown h = stick
-
--- a value that is not there to be taken does not matter
-module _ (E : Environment) {l l′ r r′ : Value} where
-  pub regardless : (i : Instr) (h : ℕ) → (2 ≤ h → l ≡ l′) → (1 ≤ h → r ≡ r′) → stepOf E i h l r ≡ stepOf E i h l′ r′
-  regardless (PushInt z) h p q = refl
-  regardless (PushReal x) h p q = refl
-  regardless (Load b i) h p q = refl
-  regardless (LoadIndexed b) zero p q = refl
-  regardless (LoadIndexed b) (suc h) p q = ap (λ (v : Value). givenStep (suc h) 1 (indexedCell E b v)) (q (omega arith))
-  regardless (Unary o) zero p q = refl
-  regardless (Unary o) (suc h) p q = ap (λ (v : Value). givenStep (suc h) 1 (unaryRule o v)) (q (omega arith))
-  regardless (Binary o) zero p q = refl
-  regardless (Binary o) (suc zero) p q = refl
-  regardless (Binary o) (suc (suc h)) p q = rw (p (omega arith), q (omega arith))
-  regardless (Jump d) h p q = refl
-  regardless (JumpIf t d) zero p q = refl
-  regardless (JumpIf t d) (suc h) p q = ap (λ (v : Value). jumpStep (suc h) v t d) (q (omega arith))
-  regardless Tick h p q = refl
-  regardless Since zero p q = refl
-  regardless Since (suc h) p q = ap (λ (v : Value). givenStep (suc h) 1 (sinceRule (E .tick) v)) (q (omega arith))
-  regardless (Total o b i n) h p q = refl
-  regardless (Match o b i n) zero p q = refl
-  regardless (Match o b i n) (suc h) p q = ap (λ (v : Value). givenStep (suc h) 1 (matchOver E o v b i n .result)) (q (omega arith))
-  regardless Unknown h p q = refl

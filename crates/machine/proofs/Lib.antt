@@ -2,8 +2,10 @@
 pub mod Laws
 pub mod Bounds
 pub mod Properness
+pub mod Profile
 mod Held
 mod Acts
+mod Barred
 mod Rest
 mod Performs
 mod Visits

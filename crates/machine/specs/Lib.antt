@@ -1,3 +1,4 @@
 pub mod Machine
+pub mod Profile
 pub mod Configurations
 pub mod private

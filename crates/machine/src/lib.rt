@@ -2,16 +2,18 @@
 // An instruction is performed from the number of its eight bytes, without being made an `Instr` first: enums pass through memory.
 ghost use mathlib.Core.Path.{_≡_};
 ghost use Prim.Native.Nat.{_+_, _*_, _-_, _≤_, _<_};
+ghost use mathlib.Core.Bool.{Bool};
 ghost use Rattle.memory.specs.Environment.{memoryOf};
 ghost use Rattle.code.specs.declared.Instr.the-variants.{JumpIf};
 ghost use Rattle.code.specs.declared.Class.the-variants.{PushInt, PushReal, Jump, Tick, Since, Load, LoadIndexed, Unary, Binary};
-ghost use Rattle.totals.specs.Totals.{totalOver, matchOver};
+ghost use Rattle.totals.specs.private.Admitted.{totalIn, matchIn};
 ghost use Rattle.totals.specs.Numbers.{totalOf, matchOf};
 ghost use Rattle.code.specs.Instructions.{wordOf};
 ghost use Rattle.code.specs.private.Classes.{numberOf, instrIn};
 ghost use Rattle.machine.specs.Machine.{maxCells, runsAt};
+ghost use Rattle.machine.specs.Profile.{runsIn};
 ghost use Rattle.machine.specs.private.Steps.{minimum, pushOrStuck, skipStep, stopStep, stuckStep, outcomeStep, bankStep};
-ghost use Rattle.machine.specs.private.Steps.{noVisit, wordVisit, totalVisit, matchVisit, onLast, IsVisit};
+ghost use Rattle.machine.specs.private.Steps.{wordVisit, totalVisit, matchVisit, onLast, IsVisit};
 ghost use Rattle.machine.specs.private.Steps.{IsStep, IsStepOn, IsStepOnBoth, IsLoad, IsLoadOn, IsTick, IsTickOn, stuckAt, failedAt, finishedAt};
 use code::Class;
 use memory::Bank;
@@ -131,7 +133,7 @@ fn outcome_step(height: u32, o: Outcome) -> Step
 // One function for each class of instruction, with w the number of its eight bytes and h values held. Whatever it does not look at may
 // be anything.
 fn push_int(w: u64, h: u32) -> Step
-    ensures { λ x. ⌜ IsStep (instrIn PushInt w) h x ⌝ }
+    ensures { λ x. ⌜ ((reals : Bool) → IsStep reals (instrIn PushInt w) h x) ⌝ }
 {
     push_step(
         h,
@@ -139,9 +141,12 @@ fn push_int(w: u64, h: u32) -> Step
     )
 }
 
-fn push_real(w: u64, h: u32) -> Step
-    ensures { λ x. ⌜ IsStep (instrIn PushReal w) h x ⌝ }
+fn push_real(w: u64, h: u32, reals: bool) -> Step
+    ensures { λ x. ⌜ IsStep reals (instrIn PushReal w) h x ⌝ }
 {
+    if !reals {
+        return stuck_step();
+    }
     let word = code::word_of(w);
     if values::patterns::is_finite_single(word) {
         return push_step(h, Value::Real(f32::from_bits(word)));
@@ -160,8 +165,8 @@ fn load_from(bank: Bank, word: u32, image: &[u8], h: u32) -> Step
 }
 
 // An arm for each bank, so that a bank's layout is known where its cell is read.
-fn load(w: u64, image: &[u8], h: u32) -> Step
-    ensures { λ x. ⌜ IsLoad (now (image .entry)) (instrIn Load w) h x ⌝ }
+fn load(w: u64, image: &[u8], h: u32, reals: bool) -> Step
+    ensures { λ x. ⌜ IsLoad reals (now (image .entry)) (instrIn Load w) h x ⌝ }
 {
     let word = code::word_of(w);
     match code::number_of(w) {
@@ -170,14 +175,19 @@ fn load(w: u64, image: &[u8], h: u32) -> Step
         2 => load_from(Bank::V, word, image, h),
         3 => load_from(Bank::N, word, image, h),
         4 => load_from(Bank::D, word, image, h),
-        5 => load_from(Bank::R, word, image, h),
+        5 => {
+            if reals {
+                return load_from(Bank::R, word, image, h);
+            }
+            stuck_step()
+        }
         _ => stuck_step(),
     }
 }
 
 // v is the last of h values, and left the one before it; where there are fewer, they may be anything.
-fn load_indexed(w: u64, image: &[u8], h: u32, v: Value) -> Step
-    ensures { λ x. ⌜ IsLoadOn (now (image .entry)) (instrIn LoadIndexed w) h v x ⌝ }
+fn load_indexed(w: u64, image: &[u8], h: u32, v: Value, reals: bool) -> Step
+    ensures { λ x. ⌜ IsLoadOn reals (now (image .entry)) (instrIn LoadIndexed w) h v x ⌝ }
 {
     if h < 1 {
         return stuck_step();
@@ -186,13 +196,13 @@ fn load_indexed(w: u64, image: &[u8], h: u32, v: Value) -> Step
         return stuck_step();
     }
     match numbers::bank_numbered(code::number_of(w)) {
-        BankOf::Is(b) => outcome_step(h - 1, memory::cells::read_indexed(image, b, v)),
+        BankOf::Is(b) => outcome_step(h - 1, memory::cells::read_indexed_in(image, b, v, reals)),
         BankOf::Nothing => stuck_step(),
     }
 }
 
-fn unary(w: u64, h: u32, v: Value) -> Step
-    ensures { λ x. ⌜ IsStepOn (instrIn Unary w) h v x ⌝ }
+fn unary(w: u64, h: u32, v: Value, reals: bool) -> Step
+    ensures { λ x. ⌜ IsStepOn reals (instrIn Unary w) h v x ⌝ }
 {
     if h < 1 {
         return stuck_step();
@@ -201,13 +211,13 @@ fn unary(w: u64, h: u32, v: Value) -> Step
         return stuck_step();
     }
     match tables::unary_of(code::number_of(w)) {
-        UnaryOf::Is(o) => outcome_step(h - 1, operators::unary(o, v)),
+        UnaryOf::Is(o) => outcome_step(h - 1, operators::unary_in(o, v, reals)),
         UnaryOf::Nothing => stuck_step(),
     }
 }
 
-fn binary(w: u64, h: u32, left: Value, v: Value) -> Step
-    ensures { λ x. ⌜ IsStepOnBoth (instrIn Binary w) h left v x ⌝ }
+fn binary(w: u64, h: u32, left: Value, v: Value, reals: bool) -> Step
+    ensures { λ x. ⌜ IsStepOnBoth reals (instrIn Binary w) h left v x ⌝ }
 {
     if h < 2 {
         return stuck_step();
@@ -215,23 +225,29 @@ fn binary(w: u64, h: u32, left: Value, v: Value) -> Step
     if code::word_of(w) != 0 {
         return stuck_step();
     }
-    outcome_step(h - 2, numbered::binary(code::number_of(w), left, v))
+    outcome_step(
+        h - 2,
+        numbered::binary_in(code::number_of(w), left, v, reals),
+    )
 }
 
 fn jump(w: u64, h: u32) -> Step
-    ensures { λ x. ⌜ IsStep (instrIn Jump w) h x ⌝ }
+    ensures { λ x. ⌜ ((reals : Bool) → IsStep reals (instrIn Jump w) h x) ⌝ }
 {
     skip_step(h, code::word_of(w))
 }
 
 // A jump if the truth of v is t. Each way returns at once: where the two join, the loop tests once more what kind of step it is.
-fn jump_if(w: u64, h: u32, v: Value, t: bool) -> Step
-    ensures { λ x. ⌜ IsStepOn (JumpIf t (wordOf w)) h v x ⌝ }
+fn jump_if(w: u64, h: u32, v: Value, t: bool, reals: bool) -> Step
+    ensures { λ x. ⌜ IsStepOn reals (JumpIf t (wordOf w)) h v x ⌝ }
 {
     if h < 1 {
         return stuck_step();
     }
-    if operators::truth(v) == t {
+    if !operators::is_admitted(v, reals) {
+        return stuck_step();
+    }
+    if operators::truth_in(v, reals) == t {
         return skip_step(h - 1, code::word_of(w));
     }
     skip_step(h - 1, 0)
@@ -262,17 +278,9 @@ fn since(w: u64, h: u32, tick: u32, v: Value) -> Step
     outcome_step(h - 1, operators::since(tick, v))
 }
 
-// What bytes that are no instruction over a range come to: an outcome that leaves the run stuck.
-fn no_visit() -> Visited
-    ensures { λ r. ⌜ r ≡ noVisit ⌝ }
-{
-    let result = Outcome::WrongKind;
-    Visited { result, cells: 0 }
-}
-
 // Over the range of the word, which must lie within its bank.
-fn total_over(o: TotalOp, w: u64, image: &[u8]) -> Visited
-    ensures { λ x. ⌜ IsVisit (now (image .entry)) (λ E. wordVisit (totalOver E o) (wordOf w)) x ⌝ }
+fn total_over(o: TotalOp, w: u64, image: &[u8], reals: bool) -> Visited
+    ensures { λ x. ⌜ IsVisit (now (image .entry)) (λ E. wordVisit (totalIn reals E o) (wordOf w)) x ⌝ }
 {
     let word = code::word_of(w);
     let first = code::range_first(word);
@@ -280,26 +288,26 @@ fn total_over(o: TotalOp, w: u64, image: &[u8]) -> Visited
     match numbers::bank_numbered(code::range_bank(word)) {
         BankOf::Is(b) => {
             if totals::ranges::is_good(b, first, count) {
-                return totals::total(o, image, b, first, count);
+                return totals::total_in(o, image, b, first, count, reals);
             }
-            no_visit()
+            totals::no_visit()
         }
-        BankOf::Nothing => no_visit(),
+        BankOf::Nothing => totals::no_visit(),
     }
 }
 
-fn total(w: u64, image: &[u8]) -> Visited
-    ensures { λ x. ⌜ IsVisit (now (image .entry)) (λ E. totalVisit E (totalOf (numberOf w)) (wordOf w)) x ⌝ }
+fn total(w: u64, image: &[u8], reals: bool) -> Visited
+    ensures { λ x. ⌜ IsVisit (now (image .entry)) (λ E. totalVisit reals E (totalOf (numberOf w)) (wordOf w)) x ⌝ }
 {
     match totals::tables::total_of(code::number_of(w)) {
-        TotalOf::Is(o) => total_over(o, w, image),
-        TotalOf::Nothing => no_visit(),
+        TotalOf::Is(o) => total_over(o, w, image, reals),
+        TotalOf::Nothing => totals::no_visit(),
     }
 }
 
 // As `total_over`, of cells compared with v.
-fn match_over(o: MatchOp, w: u64, image: &[u8], v: Value) -> Visited
-    ensures { λ x. ⌜ IsVisit (now (image .entry)) (λ E. wordVisit (matchOver E o v) (wordOf w)) x ⌝ }
+fn match_over(o: MatchOp, w: u64, image: &[u8], v: Value, reals: bool) -> Visited
+    ensures { λ x. ⌜ IsVisit (now (image .entry)) (λ E. wordVisit (matchIn reals E o v) (wordOf w)) x ⌝ }
 {
     let word = code::word_of(w);
     let first = code::range_first(word);
@@ -307,24 +315,24 @@ fn match_over(o: MatchOp, w: u64, image: &[u8], v: Value) -> Visited
     match numbers::bank_numbered(code::range_bank(word)) {
         BankOf::Is(b) => {
             if totals::ranges::is_good(b, first, count) {
-                return totals::matching(o, image, b, first, count, v);
+                return totals::matching_in(o, image, b, first, count, v, reals);
             }
-            no_visit()
+            totals::no_visit()
         }
-        BankOf::Nothing => no_visit(),
+        BankOf::Nothing => totals::no_visit(),
     }
 }
 
 // Compared with v, the last of h values.
-fn matching(w: u64, image: &[u8], h: u32, v: Value) -> Visited
-    ensures { λ x. ⌜ IsVisit (now (image .entry)) (λ E. onLast h (matchVisit E (matchOf (numberOf w)) v (wordOf w))) x ⌝ }
+fn matching(w: u64, image: &[u8], h: u32, v: Value, reals: bool) -> Visited
+    ensures { λ x. ⌜ IsVisit (now (image .entry)) (λ E. onLast h (matchVisit reals E (matchOf (numberOf w)) v (wordOf w))) x ⌝ }
 {
     if h < 1 {
-        return no_visit();
+        return totals::no_visit();
     }
     match totals::tables::match_of(code::number_of(w)) {
-        MatchOf::Is(o) => match_over(o, w, image, v),
-        MatchOf::Nothing => no_visit(),
+        MatchOf::Is(o) => match_over(o, w, image, v, reals),
+        MatchOf::Nothing => totals::no_visit(),
     }
 }
 
@@ -392,13 +400,13 @@ fn finished(n: usize, place: usize, h: u32, v: Value, count: usize) -> Ran
     }
 }
 
-// The first n instructions of the code, from no values held. They are no more than the check takes, so that the count fits. Bytes beyond
-// the code are no instruction. A jump past the end leaves the loop as the end does, and is told from it afterwards; one that no code holds
-// is stuck at once, so that places, heights and counts fit 32 bits, as a controller's registers do. The match stands whole: with some of its
-// arms in a function of their own a run takes a tenth to a half more machine instructions.
-pub fn run(code: &[u8], n: usize, image: &[u8], tick: u32) -> Ran
+// The first n instructions of the code, from no values held, with reals or in the profile without them. They are no more than the check
+// takes, so that the count fits. Bytes beyond the code are no instruction. A jump past the end leaves the loop as the end does, and is told
+// from it afterwards; one that no code holds is stuck at once, so that places, heights and counts fit 32 bits, as a controller's registers
+// do. The match stands whole: with some of its arms in a function of their own a run takes a tenth to a half more machine instructions.
+pub fn run_in(code: &[u8], n: usize, image: &[u8], tick: u32, reals: bool) -> Ran
     requires { ⌜ n ≤ 2048 ⌝ }
-    ensures { λ r. ⌜ r ≡ runsAt tick (now (code .entry)) n (now (image .entry)) ⌝ }
+    ensures { λ r. ⌜ r ≡ runsIn reals tick (now (code .entry)) n (now (image .entry)) ⌝ }
 {
     let mut stack = [Value::Int(0); 128];
     let mut h: u32 = 0;
@@ -410,24 +418,24 @@ pub fn run(code: &[u8], n: usize, image: &[u8], tick: u32) -> Ran
         count += 1;
         let step = match code::class_of(w) {
             Class::PushInt => push_int(w, h),
-            Class::PushReal => push_real(w, h),
+            Class::PushReal => push_real(w, h, reals),
             Class::Jump => jump(w, h),
-            Class::JumpIfFalse => jump_if(w, h, stack[from_top(h, 1)], false),
-            Class::JumpIfTrue => jump_if(w, h, stack[from_top(h, 1)], true),
+            Class::JumpIfFalse => jump_if(w, h, stack[from_top(h, 1)], false, reals),
+            Class::JumpIfTrue => jump_if(w, h, stack[from_top(h, 1)], true, reals),
             Class::Tick => push_tick(w, h, tick),
             Class::Since => since(w, h, tick, stack[from_top(h, 1)]),
-            Class::Load => load(w, image, h),
-            Class::LoadIndexed => load_indexed(w, image, h, stack[from_top(h, 1)]),
-            Class::Unary => unary(w, h, stack[from_top(h, 1)]),
-            Class::Binary => binary(w, h, stack[from_top(h, 2)], stack[from_top(h, 1)]),
+            Class::Load => load(w, image, h, reals),
+            Class::LoadIndexed => load_indexed(w, image, h, stack[from_top(h, 1)], reals),
+            Class::Unary => unary(w, h, stack[from_top(h, 1)], reals),
+            Class::Binary => binary(w, h, stack[from_top(h, 2)], stack[from_top(h, 1)], reals),
             Class::Total => {
-                let visited = total(w, image);
+                let visited = total(w, image, reals);
                 count += visited.cells;
                 let result = visited.result;
                 outcome_step(h, result)
             }
             Class::Match => {
-                let visited = matching(w, image, h, stack[from_top(h, 1)]);
+                let visited = matching(w, image, h, stack[from_top(h, 1)], reals);
                 count += visited.cells;
                 let result = visited.result;
                 outcome_step(less_one(h), result)
@@ -455,4 +463,12 @@ pub fn run(code: &[u8], n: usize, image: &[u8], tick: u32) -> Ran
         }
     }
     finished(n, place as usize, h, stack[0], count as usize)
+}
+
+// The run of the full box.
+pub fn run(code: &[u8], n: usize, image: &[u8], tick: u32) -> Ran
+    requires { ⌜ n ≤ 2048 ⌝ }
+    ensures { λ r. ⌜ r ≡ runsAt tick (now (code .entry)) n (now (image .entry)) ⌝ }
+{
+    run_in(code, n, image, tick, true)
 }

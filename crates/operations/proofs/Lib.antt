@@ -2,5 +2,9 @@
 pub mod Verdicts
 pub mod Requests
 pub mod Cells
-mod Following
 pub mod Giving
+pub mod Full
+mod Runs
+mod Following
+mod Halves
+mod Performing

@@ -1,10 +1,11 @@
--- `compile`, `compile_target` and `compile_and_run`: the request as the tests find it, and that the runs of compiled code end as the rules say of the trees.
-use mathlib.Core.Path.{_≡_, refl, sym, ap, ap₂, subst, _∙_}
-use mathlib.Core.Bool.{Bool, true, false, cond}
+-- Compile, compile a target, and compile and run: what each target and each judgement comes to; the request of the full box, and that the runs of compiled
+-- code end as the rules say of the trees.
+use mathlib.Core.Path.{_≡_, refl, sym, ap, _∙_}
+use mathlib.Core.Bool.{cond}
 use mathlib.Core.List.{List, []}
 use Prim.Native.Nat.{ℕ, _≤_, _<_}
 use native.Mathlib.Omega.{arith}
-use lib.Dec.{ltb}
+use lib.Dec.{eqb, ltb}
 use lib.IntN.{pos}
 use lib.ListN.{length}
 use borrow.Author.Tests.{eq-eqb, ne-eqb, lt-ltb, le-ltb}
@@ -16,7 +17,6 @@ use Rattle.grammar.specs.Tree.{Tree}
 use Rattle.grammar.specs.Eval.{eval}
 use Rattle.text.specs.Judge.{Judgement, accepted, refused, judgeFrom, judge}
 use Rattle.text.specs.Targets.{Target, toCell, toIndexed, noTarget, indexText, targetOf}
-use Rattle.machine.specs.declared.Ran.{Ran}
 use Rattle.machine.specs.Machine.{exec, runsAt, endOf}
 use Rattle.verifier.specs.Safety.{Kinded}
 use Rattle.verifier.proofs.Safe.{memory-kinded}
@@ -25,7 +25,6 @@ use Rattle.compiler.specs.declared.Coded.{Coded}
 use Rattle.compiler.specs.declared.Coded.the-variants as Coded
 use Rattle.compiler.specs.Compile.{compiling, codedAnswer, codedBytes}
 use Rattle.compiler.proofs.Theorems.{compile-theorems-from}
-use Rattle.compiler.proofs.Theorems as Compile
 use Rattle.targets.specs.declared.Element.{Element}
 use Rattle.targets.specs.declared.Element.the-variants.{Is, By}
 use Rattle.targets.specs.declared.Found.the-variants.{In}
@@ -34,10 +33,8 @@ use Rattle.targets.specs.Found.{foundOf, indexBytes}
 use Rattle.targets.proofs.Theorems.{indexed}
 use Rattle.operations.specs.declared.Answer.{Answer}
 use Rattle.operations.specs.declared.Answer.the-variants.{Done, Refused}
-use Rattle.operations.specs.Operations.{doneWith, compileAnswer, targetAnswer, reached, arrival, arrivalOf, finished, memoryAfter}
+use Rattle.operations.specs.Operations.{doneWith, compileAnswer, targetAnswer, reached, arrival, arrivalOf}
 use Rattle.operations.specs.Operations.{Request, stops, ofText, ofTarget, request, requestAnswer, requestMemory, requestCode, requestIndex}
-use Rattle.operations.specs.private.Bounds.{Few, none, some}
-use Rattle.operations.proofs.Verdicts.{Finishes}
 
 -- ---- compile alone
 
@@ -77,26 +74,43 @@ keeps-index index noTarget e = refl
 
 -- ---- the request
 
+-- the sizes of what is lent are looked at before the request q
+module _ (m code index : List ℕ) (q : Request) where
+  abbrev pub sized : Request
+  sized = cond (eqb (length m) imageSize) (cond (ltb (length code) 16384) (stops 10 0) (cond (ltb (length index) 16384) (stops 10 0) q)) (stops 1 0)
+
+  pub wrong-size : (length m ≡ imageSize → ⊥) → sized ≡ stops 1 0
+  wrong-size h = rw (ne-eqb (length m) imageSize h)
+
+  module _ (h : length m ≡ imageSize) where
+    pub short-code : length code < 16384 → sized ≡ stops 10 0
+    short-code l = rw (eq-eqb (length m) imageSize h, lt-ltb (length code) 16384 l)
+
+    pub short-index : 16384 ≤ length code → length index < 16384 → sized ≡ stops 10 0
+    short-index c l = rw (eq-eqb (length m) imageSize h, le-ltb (length code) 16384 c, lt-ltb (length index) 16384 l)
+
+    pub right-sizes : 16384 ≤ length code → 16384 ≤ length index → sized ≡ q
+    right-sizes c l = rw (eq-eqb (length m) imageSize h, le-ltb (length code) 16384 c, le-ltb (length index) 16384 l)
+
+-- in the full box
 module _ (target text m code index : List ℕ) where
+  abbrev asked : Request
+  asked = ofTarget text code index (targetOf target)
+
   pub no-memory : (length m ≡ imageSize → ⊥) → request target text m code index ≡ stops 1 0
-  no-memory h = rw (ne-eqb (length m) imageSize h)
+  no-memory h = wrong-size m code index asked h
 
   module _ (h : length m ≡ imageSize) where
     pub no-room : length code < 16384 → request target text m code index ≡ stops 10 0
-    no-room l = rw (eq-eqb (length m) imageSize h, lt-ltb (length code) 16384 l)
+    no-room l = short-code m code index asked h l
 
     pub no-index-room : 16384 ≤ length code → length index < 16384 → request target text m code index ≡ stops 10 0
-    no-index-room c l = rw (eq-eqb (length m) imageSize h, le-ltb (length code) 16384 c, lt-ltb (length index) 16384 l)
+    no-index-room c l = short-index m code index asked h c l
 
     pub named : {g : Target} → 16384 ≤ length code → 16384 ≤ length index → targetOf target ≡ g → request target text m code index ≡ ofTarget text code index g
-    named c l e = rw (eq-eqb (length m) imageSize h, le-ltb (length code) 16384 c, le-ltb (length index) 16384 l, e)
+    named c l e = right-sizes m code index asked h c l ∙ ap (ofTarget text code index) e
 
 -- a target that is found
-pub bad-target : (text code index : List ℕ) (g : Target) → foundOf g ≡ Found.Other → ofTarget text code index g ≡ stops 2 0
-bad-target text code index (toCell b i) e = let z : _≡_ {A = ℕ} 0 1 = cc in absurd (omega arith)
-bad-target text code index (toIndexed b t) e = let z : _≡_ {A = ℕ} 0 1 = cc in absurd (omega arith)
-bad-target text code index noTarget e = refl
-
 pub good-target : {b : Bank} {e : Element} (text code index : List ℕ) (g : Target) → foundOf g ≡ In b e
     → ofTarget text code index g ≡ ofText code index g (judge text)
 good-target text code index (toCell b i) e = refl
@@ -128,14 +142,6 @@ module _ (d : ℕ) (s : List ℕ) (t : Tree) (e : judgeFrom d s ≡ accepted t) 
   run-tree code h = ap (λ x. x .end) (run-code code h) ∙ compile-theorems-from d .demand s t e .same (memoryAt tick m) (kinded tick m)
 
 module _ (target : List ℕ) where
-  -- the index's code is short
-  pub few-compiled : {b : Bank} {e : Element} (g : Target) → targetOf target ≡ g → foundOf g ≡ In b e → Few e
-  few-compiled {e = e} (toCell b i) q f = let p : Is i ≡ e = cc in subst Few p none
-  few-compiled {e = e} (toIndexed b t) q f =
-      let p : By (length (codeOf t)) ≡ e = cc in
-      subst Few p (some (Compile.short 1 (indexText target) t (indexed target q .judged)))
-  few-compiled noTarget q f = let z : _≡_ {A = ℕ} 0 1 = cc in absurd (omega arith)
-
   -- where the index's code leads is where the rules lead
   pub arrives : {b : Bank} {e : Element} (tick : ℕ) (m index : List ℕ) (g : Target) → targetOf target ≡ g → 16384 ≤ length index → foundOf g ≡ In b e
       → arrival tick (indexBytes index g) m b e ≡ arrivalOf tick (indexBytes index g) m g
@@ -150,33 +156,12 @@ module _ (target : List ℕ) where
       rw (p, r) (ap (λ d. record { destination = reached c d; count = runsAt tick (codedBytes index (accepted t)) (length (codeOf t)) m .count }) x)
   arrives tick m index noTarget q h f = let z : _≡_ {A = ℕ} 0 1 = cc in absurd (omega arith)
 
--- the judgement j of the text s was compiled, and what was written was run on m; then came what follows a value, or the flag
-pub performs : {q : Request} (tick : ℕ) (s code index m : List ℕ) (g : Target) (b : Bank) (e : Element)
-    (j : Judgement) {n : ℕ} {code′ index′ : List ℕ} {x : Ran} {r : Answer} {m′ : List ℕ}
-    → q ≡ ofText code index g j → judge s ≡ j → 16384 ≤ length code → Coded.Done n ≡ codedAnswer j → code′ ≡ codedBytes code j → index′ ≡ indexBytes index g
-    → x ≡ runsAt tick code′ n m → arrival tick (indexBytes index g) m b e ≡ arrivalOf tick (indexBytes index g) m g
-    → Finishes m (arrival tick index′ m b e) x r m′ → Performs tick q m code index r m′ code′ index′
-performs tick s code index m g b e (accepted t) {n} {code′} {index′} {x} {r} {m′} o j h a w i f v y =
-    let l : n ≡ length (codeOf t) = cc in
-    let c : runsAt tick code′ n m ≡ runsAt tick (codedBytes code (accepted t)) (length (codeOf t)) m = cc in
-    let p : arrival tick index′ m b e ≡ arrivalOf tick (indexBytes index g) m g = ap (λ i. arrival tick i m b e) i ∙ v in
-    let z = subst (λ x. Finishes m (arrivalOf tick (indexBytes index g) m g) x r m′) (f ∙ c) (subst (λ a. Finishes m a x r m′) p y) in
-    let d = run-tree 0 s t j tick m code h in
-    let a = arrivalOf tick (indexBytes index g) m g in
-    rw o (z .0 ∙ ap (λ d. finished m a d (runsAt tick (codedBytes code (accepted t)) (length (codeOf t)) m .count)) d, (z .1 ∙ ap (memoryAfter m a) d, (w, i)))
-performs tick s code index m g b e (refused a p) o j h d w i f v y = let z : _≡_ {A = ℕ} 0 1 = cc in absurd (omega arith)
-
--- the same, where the text is refused
+-- the text is refused
 pub refuses-text : {q : Request} (tick : ℕ) (code index m : List ℕ) (g : Target) (j : Judgement) {a p : ℕ} {code′ : List ℕ}
     → q ≡ ofText code index g j → Coded.Refused a p ≡ codedAnswer j → code′ ≡ codedBytes code j
     → Performs tick q m code index (Refused a p) m code′ index
 refuses-text tick code index m g (accepted t) o e w = let z : _≡_ {A = ℕ} 0 1 = cc in absurd (omega arith)
 refuses-text tick code index m g (refused a p) o e w = rw o (cc, (refl, (w, refl)))
-
--- compiled code is short
-pub few-coded : (s : List ℕ) (j : Judgement) {n : ℕ} → judge s ≡ j → Coded.Done n ≡ codedAnswer j → n ≤ 2048
-few-coded s (accepted t) {n} q e = let l : n ≡ length (codeOf t) = cc in omega (arith, Compile.short 0 s t q)
-few-coded s (refused a p) q e = let z : _≡_ {A = ℕ} 0 1 = cc in absurd (omega arith)
 
 -- a buffer with room leaves the judgement to the text
 pub with-room : (code s : List ℕ) → 16384 ≤ length code → compiling (length code) s ≡ judge s

@@ -1,10 +1,10 @@
--- `check` and `run`: from the verdict, the memory and the target to what they answer and write.
-use mathlib.Core.Path.{_≡_, refl, sym, ap, subst, _∙_}
+-- The check and the run of the full box: accepted code, and where its value goes.
+use mathlib.Core.Path.{_≡_, refl, ap, _∙_}
 use mathlib.Core.Bool.{Bool, true, false, cond}
 use mathlib.Core.List.{List, [], _∷_}
 use Prim.Native.Nat.{ℕ, suc, _+_, _≤_}
 use native.Mathlib.Omega.{arith}
-use lib.Dec.{ltb}
+use lib.Dec.{eqb, ltb}
 use lib.ListN.{length}
 use borrow.Author.Tests.{eq-eqb, ne-eqb}
 use Rattle.values.specs.declared.Kind.{Kind}
@@ -18,29 +18,17 @@ use Rattle.machine.specs.declared.Ran.{Ran}
 use Rattle.machine.specs.Machine.{rangeCells, rangesOf, runsAt}
 use Rattle.verifier.specs.declared.Verdict.{Verdict}
 use Rattle.verifier.specs.declared.Verdict.the-variants as Verdict
-use Rattle.verifier.specs.Accepts.{Accepts, CorrectVerdict}
+use Rattle.verifier.specs.Accepts.{Accepts}
 use Rattle.verifier.specs.Verdicts.{verdict}
 use Rattle.verifier.proofs.Safe.{safe}
 use Rattle.verifier.proofs.Verdicts.{verdict-laws}
 use Rattle.targets.specs.declared.Element.{Element}
-use Rattle.targets.specs.declared.Element.the-variants.{Is, By}
 use Rattle.targets.specs.declared.Found.{Found}
 use Rattle.targets.specs.declared.Found.the-variants.{In}
 use Rattle.targets.specs.Found.{foundToRun}
 use Rattle.operations.specs.declared.Answer.{Answer}
-use Rattle.operations.specs.declared.Answer.the-variants.{Refused}
-use Rattle.operations.specs.Operations.{doneWith, verdictAnswer, checkAnswer, Goal, to, none, isAccepted, indexPasses, goalOf, goal, Arrival, arrival}
-use Rattle.operations.specs.Operations.{finished, memoryAfter, ranAnswer, ranMemory, runAnswer, runMemory}
-use Rattle.operations.specs.private.Bounds.{mostBegun, Few, none as no-code, some}
-
--- ---- the verdict
-
-module _ {code : List ℕ} {n : ℕ} {v w : Verdict} (right : CorrectVerdict code n v) (e : v ≡ w) where
-  pub the-verdict : verdict (instructions code n) ≡ w
-  the-verdict = sym (verdict-laws .determined code n v right) ∙ e
-
-  pub checked : verdictAnswer w ≡ checkAnswer code n
-  checked = ap verdictAnswer (sym the-verdict)
+use Rattle.operations.specs.Operations.{doneWith, verdictAnswer, checkAnswer, Goal, to, none, indexPasses, goalOf, goal, Arrival, finished, memoryAfter}
+use Rattle.operations.specs.private.Bounds.{mostBegun}
 
 -- ---- counts
 
@@ -64,31 +52,29 @@ module _ (code : List ℕ) (n : ℕ) where
   pub passes : {k : Kind} → Accepts (instructions code n) k → checkAnswer code n ≡ doneWith 0
   passes {k} a = ap verdictAnswer (verdict-laws .exact (instructions code n) k .1 a)
 
-  -- no more instructions than the check accepts, and no more begun
-  pub few-accepted : {k : Kind} → verdict (instructions code n) ≡ Verdict.Accepted k → n ≤ 2048
-  few-accepted {k} e = omega (arith, verdict-laws .exact (instructions code n) k .0 e .few, decode-length code 0 n)
-
+  -- no more begun than instructions and cells of their ranges
   pub few-begun : (tick : ℕ) (m : List ℕ) → n ≤ 2048 → runsAt tick code n m .count ≤ mostBegun
   few-begun tick m h = omega (arith, safe .counts-code (memoryAt tick m) code n, few-ranges (instructions code n), decode-length code 0 n)
 
--- index code that is checked is short
-pub few-checked : (index : List ℕ) (e : Element) → indexPasses index e ≡ true → Few e
-few-checked index (Is i) h = no-code
-few-checked index (By k) h = by (verdict (instructions index k)) refl h
-  where
-    by : (v : Verdict) → verdict (instructions index k) ≡ v → isAccepted v ≡ true → Few (By k)
-    by (Verdict.Accepted j) q h = some (few-accepted index k q)
-    by Verdict.Refused q h = let z : _≡_ {A = ℕ} 0 1 = cc in absurd (omega arith)
-
 -- ---- where the value goes
+
+-- the memory's size is looked at before the goal g
+module _ (m : List ℕ) (g : Goal) where
+  pub wrong-size : (length m ≡ imageSize → ⊥) → cond (eqb (length m) imageSize) g (none 1) ≡ none 1
+  wrong-size h = rw (ne-eqb (length m) imageSize h)
+
+  pub right-size : length m ≡ imageSize → cond (eqb (length m) imageSize) g (none 1) ≡ g
+  right-size h = rw (eq-eqb (length m) imageSize h)
 
 module _ (code : List ℕ) (n : ℕ) (target index : List ℕ) (k : ℕ) (m : List ℕ) where
   pub no-memory : (length m ≡ imageSize → ⊥) → goal code n target index k m ≡ none 1
-  no-memory h = rw (ne-eqb (length m) imageSize h)
+  no-memory h = wrong-size m (goalOf index (verdict (instructions code n)) (foundToRun k target)) h
 
   pub named : {x : Found} {v : Verdict} → length m ≡ imageSize → foundToRun k target ≡ x → verdict (instructions code n) ≡ v
       → goal code n target index k m ≡ goalOf index v x
-  named {x} h e q = rw (eq-eqb (length m) imageSize h, e) (ap (λ v. goalOf index v x) q)
+  named {x} h e q =
+      right-size m (goalOf index (verdict (instructions code n)) (foundToRun k target)) h ∙ ap (goalOf index (verdict (instructions code n))) e
+      ∙ ap (λ v. goalOf index v x) q
 
   pub aimed : {b : Bank} {e : Element} {v : Verdict} {j : Kind} {p : Bool} → length m ≡ imageSize → foundToRun k target ≡ In b e
       → verdict (instructions code n) ≡ v → v ≡ Verdict.Accepted j → indexPasses index e ≡ p → goal code n target index k m ≡ cond p (to b e) (none 15)
@@ -99,18 +85,3 @@ module _ (code : List ℕ) (n : ℕ) (target index : List ℕ) (k : ℕ) (m : Li
 -- r and m′ are what comes of the run x
 abbrev pub Finishes : List ℕ → Arrival → Ran → Answer → List ℕ → Type 0
 Finishes m a x r m′ = (r ≡ finished m a (x .end) (x .count)) × (m′ ≡ memoryAfter m a (x .end))
-
--- r and m′ are what run gives
-abbrev Runs : ℕ → List ℕ → ℕ → List ℕ → List ℕ → ℕ → List ℕ → List ℕ → Answer → Type 0
-Runs tick code n target index k m m′ r = (r ≡ runAnswer tick code n target index k m) × (m′ ≡ runMemory tick code n target index k m)
-
-module _ (tick : ℕ) (code : List ℕ) (n : ℕ) (target index : List ℕ) (k : ℕ) (m : List ℕ) where
-  pub refuses : {a : ℕ} → goal code n target index k m ≡ none a → Runs tick code n target index k m m (Refused a 0)
-  refuses e = (ap (ranAnswer tick index m (runsAt tick code n m)) (sym e), ap (ranMemory tick index m (runsAt tick code n m)) (sym e))
-
-  pub after-run : {m′ : List ℕ} {b : Bank} {e : Element} {r : Answer} {x : Ran} → goal code n target index k m ≡ to b e → x ≡ runsAt tick code n m
-      → Finishes m (arrival tick index m b e) x r m′ → Runs tick code n target index k m m′ r
-  after-run {b = b} {e = e} g f h = (
-    h .0 ∙ ap (λ x. finished m (arrival tick index m b e) (x .end) (x .count)) f ∙ ap (ranAnswer tick index m (runsAt tick code n m)) (sym g),
-    h .1 ∙ ap (λ x. memoryAfter m (arrival tick index m b e) (x .end)) f ∙ ap (ranMemory tick index m (runsAt tick code n m)) (sym g),
-  )

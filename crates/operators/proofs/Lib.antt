@@ -4,6 +4,7 @@ pub mod Ranges
 pub mod Typed
 pub mod Keys
 pub mod Cases
+pub mod Admitted
 pub mod Gives
 pub mod Classes
 pub mod Operators

@@ -1,5 +1,6 @@
 pub mod Operators
 pub mod Tables
 pub mod Kinds
+pub mod Reals
 pub mod Laws
 pub mod private

@@ -1,7 +1,10 @@
 // Every operator of paper 01 on values: mixed kinds, truth, the branches of IF, and the element that an index names.
 ghost use mathlib.Core.Path.{_≡_};
+ghost use mathlib.Core.Bool.{true, not, _||_};
 ghost use Rattle.operators.specs.Operators.{asReal, pairOf, arithRule, powerRule};
-ghost use Rattle.operators.specs.Operators.{fromBool, cutOutcome, truthRule, unaryRule, sinceRule, branchRule, elementBelow, cutBelow, indexRule};
+ghost use Rattle.operators.specs.Operators.{fromBool, cutOutcome, truthRule, unaryRule, sinceRule, branchRule, cutBelow, indexRule};
+ghost use Rattle.operators.specs.Reals.{realValue, realUnary};
+ghost use Rattle.operators.specs.private.Admitted.{admitted};
 use reals::ArithOp;
 use values::BitOp;
 use values::ChoiceOp;
@@ -13,6 +16,7 @@ use values::Outcome;
 use values::ShiftOp;
 use values::Value;
 
+pub mod integers;
 pub mod kinds;
 pub mod numbered;
 pub mod tables;
@@ -106,8 +110,34 @@ pub fn truth(v: Value) -> bool
     ensures { λ r. ⌜ r ≡ truthRule v ⌝ }
 {
     match v {
-        Value::Int(z) => z != 0,
+        Value::Int(z) => integers::truth(z),
         Value::Real(x) => x != 0.0,
+    }
+}
+
+// Whether a value may be held: any, or in the profile without reals (reals false) an integer.
+pub fn is_admitted(v: Value, reals: bool) -> bool
+    ensures { λ r. ⌜ r ≡ (reals || not (realValue v)) ⌝ }
+{
+    if reals {
+        return true;
+    }
+    match v {
+        Value::Int(_) => true,
+        Value::Real(_) => false,
+    }
+}
+
+// In the profile without reals (reals false) a real, which none of its code holds, is as good as false.
+pub fn truth_in(v: Value, reals: bool) -> bool
+    ensures { λ r. ⌜ ((reals || not (realValue v)) ≡ true → r ≡ truthRule v) ⌝ }
+{
+    if reals {
+        return truth(v);
+    }
+    match v {
+        Value::Int(z) => integers::truth(z),
+        Value::Real(_) => false,
     }
 }
 
@@ -115,7 +145,7 @@ fn negate(v: Value) -> Outcome
     ensures { λ r. ⌜ r ≡ unaryRule UnaryOp.Neg v ⌝ }
 {
     match v {
-        Value::Int(z) => values::integers::negate(z),
+        Value::Int(z) => integers::unary(UnaryOp::Neg, z),
         Value::Real(x) => Outcome::Done(Value::Real(-x)),
     }
 }
@@ -124,7 +154,7 @@ fn complement(v: Value) -> Outcome
     ensures { λ r. ⌜ r ≡ unaryRule UnaryOp.Complement v ⌝ }
 {
     match v {
-        Value::Int(z) => Outcome::Done(Value::Int(values::patterns::complement(z))),
+        Value::Int(z) => integers::unary(UnaryOp::Complement, z),
         Value::Real(_) => Outcome::WrongKind,
     }
 }
@@ -133,7 +163,7 @@ fn absolute(v: Value) -> Outcome
     ensures { λ r. ⌜ r ≡ unaryRule UnaryOp.Abs v ⌝ }
 {
     match v {
-        Value::Int(z) => values::integers::absolute(z),
+        Value::Int(z) => integers::unary(UnaryOp::Abs, z),
         Value::Real(x) => Outcome::Done(Value::Real(values::singles::absolute(x))),
     }
 }
@@ -181,6 +211,19 @@ pub fn unary(op: UnaryOp, v: Value) -> Outcome
     }
 }
 
+// As `unary`, or in the profile without reals: there a real is no operand, and TOREAL and FRAC are no operations.
+pub fn unary_in(op: UnaryOp, v: Value, reals: bool) -> Outcome
+    ensures { λ r. ⌜ r ≡ admitted reals (realUnary op || realValue v) (unaryRule op v) ⌝ }
+{
+    if reals {
+        return unary(op, v);
+    }
+    match v {
+        Value::Int(z) => integers::unary(op, z),
+        Value::Real(_) => Outcome::WrongKind,
+    }
+}
+
 // The tick less v, around the end of the counter.
 pub fn since(tick: u32, v: Value) -> Outcome
     ensures { λ r. ⌜ r ≡ sinceRule tick v ⌝ }
@@ -201,26 +244,11 @@ pub fn branch(v: Value, other: Kind) -> Value
     }
 }
 
-// The element of a number: one that lies outside the bank names none.
-fn element_below(z: i32, elements: u32) -> Position
-    ensures { λ r. ⌜ r ≡ elementBelow elements z ⌝ }
-{
-    if z < 0 {
-        return Position::Stopped(Fault::IndexError);
-    }
-    let i = z as u32;
-    if i < elements {
-        Position::At(i)
-    } else {
-        Position::Stopped(Fault::IndexError)
-    }
-}
-
 fn cut_below(c: Cut, elements: u32) -> Position
     ensures { λ r. ⌜ r ≡ cutBelow elements c ⌝ }
 {
     match c {
-        Cut::Whole(z) => element_below(z, elements),
+        Cut::Whole(z) => integers::index(z, elements),
         Cut::Outside => Position::Stopped(Fault::OutOfRange),
     }
 }
@@ -230,7 +258,7 @@ pub fn index(v: Value, elements: u32) -> Position
     ensures { λ r. ⌜ r ≡ indexRule elements v ⌝ }
 {
     match v {
-        Value::Int(z) => element_below(z, elements),
+        Value::Int(z) => integers::index(z, elements),
         Value::Real(x) => {
             if x < 0.0 {
                 return Position::Stopped(Fault::IndexError);

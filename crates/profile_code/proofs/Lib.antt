@@ -2,7 +2,5 @@
 pub mod Theorems
 pub mod Checked
 mod Readers
-mod Passes
-mod Places
 mod Runs
 mod Shown

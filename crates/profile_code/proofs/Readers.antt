@@ -13,7 +13,7 @@ use Rattle.code.specs.declared.Instr.{Instr}
 use Rattle.code.specs.declared.Instr.the-variants.{PushInt, PushReal, Load, LoadIndexed, Unary, Binary, Jump, JumpIf, Tick, Since, Total, Match, Unknown}
 use Rattle.read_set.specs.Cells.{sameBank, instrCells, codeCells}
 use Rattle.profile.specs.Parts.{realBank}
-use Rattle.profile_code.specs.Instructions.{readsReal}
+use Rattle.code.specs.Reals.{readsReal}
 use Rattle.profile_code.specs.Theorems.{NoReader}
 use Rattle.profile.proofs.Tests.{false-true, both}
 

@@ -25,27 +25,13 @@ use Rattle.machine.proofs.Laws.{onward as after}
 use Rattle.verifier.specs.Typing.{Shape, illTyped, next, hasRoom, moveOf}
 use Rattle.verifier.specs.Accepts.{instrAt}
 use Rattle.verifier.specs.Safety.{Kinded}
+use Rattle.verifier.proofs.Safe.{here, there, place}
 use Rattle.profile.specs.Parts.{realBank}
-use Rattle.profile_code.specs.Instructions.{readsReal}
-use Rattle.profile_code.specs.Checking.{allInt, heldAfter, moveIn, AcceptsIn}
-use Rattle.profile_code.specs.Machine.{realAmong, barred, execIn}
+use Rattle.code.specs.Reals.{readsReal}
+use Rattle.verifier.specs.Profile.{allInt, heldAfter, moveIn, AcceptsIn}
+use Rattle.machine.specs.Profile.{realAmong, barred, execIn}
 use Rattle.profile.proofs.Tests.{both}
 use Rattle.profile_code.proofs.Checked.{integers, no-reader, acts-in, accepted}
-use Rattle.profile_code.proofs.Places.{here, stands}
-
--- ---- with reals
-
-full-after : (E : Environment) (n : ℕ) (c : List Instr) (x : Next) → ((k : ℕ) (st : List Value) → execIn true E c k st ≡ exec E c k st)
-    → elim x as (λ x. Ran) [ goes k st ↦ counting n (execIn true E c k st) | halts e ↦ record { end = e; count = n } ] ≡ after E n c x
-full-after E n c (goes k st) h = ap (counting n) (h k st)
-full-after E n c (halts e) h = refl
-
-pub full-run : (E : Environment) (c : List Instr) (k : ℕ) (st : List Value) → execIn true E c k st ≡ exec E c k st
-unfolding exec execIn
-full-run E [] zero st = refl
-full-run E [] (suc k) st = refl
-full-run E (i ∷ c) (suc k) st = full-run E c k st
-full-run E (i ∷ c) zero st = full-after E (cost E i st) c (act E i st) (full-run E c)
 
 -- ---- an instruction that the profile lets through is barred by nothing
 
@@ -113,14 +99,16 @@ among-all (v ∷ st) e = let h = both (isInt (kindOf v)) (allInt (map kindOf st)
 
 module _ (E : Environment) (K : Kinded E) (c : List Instr) (k : Kind) (acc : AcceptsIn false c k) where
   pub held-ints : {left : List Instr} {d : ℕ} {st : List Value} → Configuration E c left d st → realAmong (length st) st ≡ false
-  held-ints {st = st} C = let a = stands E K c k (accepted c k acc) C in among-all st (integers c k acc _ _ (a .reached))
+  held-ints {st = st} C = among-all st (integers c k acc _ _ (place E K c k (accepted c k acc) C .1 .reached))
 
   let-through : {i : Instr} {left : List Instr} {st : List Value} → Configuration E c (i ∷ left) 0 st → barred i st ≡ false
   let-through {i} {left} {st} C =
-      let b = here E K c k (accepted c k acc) (stands E K c k (accepted c k acc) C) in
-      subst (λ (j : Instr). barred j st ≡ false) (sym (b .is))
-      (unbarred (instrAt c (b .place)) st (no-reader c k acc (b .place) (b .inside)) (acts-in c k acc (b .place) (map kindOf st) (b .reached) (b .inside))
-      (integers c k acc (b .place) (map kindOf st) (b .reached)))
+      let a = place E K c k (accepted c k acc) C in
+      let p = a .0 in
+      let b = here E K c k (accepted c k acc) (a .1) in
+      let r = there E K c k (accepted c k acc) (a .1) in
+      subst (λ (j : Instr). barred j st ≡ false) (sym (b .first))
+      (unbarred (instrAt c p) st (no-reader c k acc p (b .inside)) (acts-in c k acc p (map kindOf st) r (b .inside)) (integers c k acc p (map kindOf st) r))
 
   -- what follows an instruction is the same in both machines
   same-after : {i : Instr} {left : List Instr} {st : List Value} → Configuration E c (i ∷ left) 0 st

@@ -2,7 +2,7 @@
 use mathlib.Core.Path.{refl}
 use Rattle.verifier.specs.Typing.{moveOf}
 use Rattle.verifier.specs.Verdicts.{sameShape}
-use Rattle.profile_code.specs.Checking.{dataflowIn}
+use Rattle.verifier.specs.Profile.{dataflowIn}
 use Rattle.profile_code.specs.Shown.{AllShown, shown}
 
 all-shown : AllShown shown

@@ -15,7 +15,7 @@ use Rattle.code.specs.declared.Instr.{Instr}
 use Rattle.code.specs.declared.Instr.the-variants.{PushInt, PushReal, Load, LoadIndexed, Unary, Jump, Total, Match}
 use Rattle.verifier.specs.declared.Verdict.{Verdict}
 use Rattle.verifier.specs.declared.Verdict.the-variants.{Accepted, Refused}
-use Rattle.profile_code.specs.Checking.{verdictIn}
+use Rattle.verifier.specs.Profile.{verdictIn}
 
 abbrev one : Instr
 one = PushInt (pos 1)

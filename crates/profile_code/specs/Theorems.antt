@@ -20,9 +20,9 @@ use Rattle.verifier.specs.Verdicts.{verdict}
 use Rattle.verifier.specs.Safety.{Kinded}
 use Rattle.read_set.specs.Cells.{codeCells}
 use Rattle.profile.specs.Parts.{realBank}
-use Rattle.profile_code.specs.Instructions.{readsReal}
-use Rattle.profile_code.specs.Checking.{allInt, AcceptsIn, verdictIn}
-use Rattle.profile_code.specs.Machine.{realAmong, execIn}
+use Rattle.code.specs.Reals.{readsReal}
+use Rattle.verifier.specs.Profile.{allInt, AcceptsIn, verdictIn}
+use Rattle.machine.specs.Profile.{realAmong, execIn}
 
 -- "holds only integers", wherever the code can come
 abbrev pub HoldsIntegers : List Instr → Type 0

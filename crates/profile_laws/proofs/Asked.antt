@@ -11,7 +11,7 @@ use Rattle.grammar.specs.Tree.{Tree}
 use Rattle.grammar.specs.Parse.{mostOpen}
 use Rattle.text.specs.Judge.{Judgement, accepted, refused, judge}
 use Rattle.text.specs.Targets.{Target, toCell, toIndexed, noTarget, targetOf}
-use Rattle.compiler.specs.Compile.{compiling, compilingIn}
+use Rattle.compiler.specs.Compile.{inRoom, compiling, compilingIn}
 use Rattle.targets.specs.Found.{indexBytes}
 use Rattle.operations.specs.declared.Answer.the-variants.{Refused}
 use Rattle.operations.specs.Operations.{targetAnswer, compileTargetAnswer, compileTargetCode, Request, stops, ofText, ofTarget, request}
@@ -20,7 +20,9 @@ use Rattle.profile_text.specs.Judge.{judgeIn}
 use Rattle.profile_text.specs.Targets.{integerTarget, takenTarget, targetIn}
 use Rattle.profile_text.proofs.Theorems.{profile-texts}
 use Rattle.profile_text.proofs.Judging.{Judged, as-full, real-token, judged}
-use Rattle.profile_laws.specs.Operations.{compileTargetAnswerFor, compileTargetCodeFor, ofTargetFor, requestFor}
+use Rattle.operations.proofs.Requests.{sized}
+use Rattle.operations.proofs.Full.{same-judged}
+use Rattle.operations.specs.Profile.{compileTargetAnswerFor, compileTargetCodeFor, ofTargetFor, requestFor}
 use Rattle.profile_laws.specs.Results.{OfProfile}
 use Rattle.profile_laws.proofs.Goals.{two, nineteen}
 
@@ -28,12 +30,6 @@ none-open : 0 ≤ mostOpen
 none-open = omega arith
 
 -- ---- texts
-
-pub full-judge : (s : List ℕ) → judgeIn true 0 s ≡ judge s
-full-judge s = profile-texts .full 0 s
-
-pub full-compiling : (room : ℕ) (s : List ℕ) → compilingIn true 0 room s ≡ compiling room s
-full-compiling room s = ap (λ (j : Judgement). cond (ltb room 16384) (refused 10 0) j) (full-judge s)
 
 -- what the profile takes the full box takes
 pub took : (s : List ℕ) (t : Tree) → judgeIn false 0 s ≡ accepted t → (judge s ≡ accepted t) × (integerOnly t ≡ true)
@@ -43,7 +39,7 @@ same-judge : (s : List ℕ) (t : Tree) → judgeIn false 0 s ≡ accepted t → 
 same-judge s t e = e ∙ sym (took s t e .0)
 
 pub same-compiling : (room : ℕ) (s : List ℕ) (t : Tree) → judgeIn false 0 s ≡ accepted t → compilingIn false 0 room s ≡ compiling room s
-same-compiling room s t e = ap (λ (j : Judgement). cond (ltb room 16384) (refused 10 0) j) (same-judge s t e)
+same-compiling room s t e = ap (inRoom room) (same-judge s t e)
 
 -- two judgements: one, or the profile finds a real token
 pub data Judgements : Judgement → Judgement → Type 0 where
@@ -94,21 +90,11 @@ module _ (index target : List ℕ) (e : targetIn false target ≡ targetOf targe
 -- ---- requests
 
 module _ (text m code index : List ℕ) where
-  abbrev sized : Request → Request
-  sized q = cond (eqb (length m) imageSize) (cond (ltb (length code) 16384) (stops 10 0) (cond (ltb (length index) 16384) (stops 10 0) q)) (stops 1 0)
-
-  of-target : (reals : Bool) → judgeIn reals 0 text ≡ judge text → (g : Target) → ofTargetFor reals text code index g ≡ ofTarget text code index g
-  of-target reals e (toCell b i) = ap (ofText code index (toCell b i)) e
-  of-target reals e (toIndexed b t) = ap (ofText code index (toIndexed b t)) e
-  of-target reals e noTarget = refl
-
-  pub full-request : (target : List ℕ) → requestFor true target text m code index ≡ request target text m code index
-  full-request target = ap sized (of-target true (full-judge text) (targetOf target))
-
   pub same-request : (target : List ℕ) (t : Tree) → judgeIn false 0 text ≡ accepted t → (targetIn false target ≡ noTarget → ⊥)
       → requestFor false target text m code index ≡ request target text m code index
   same-request target t e n =
-      ap sized (of-target false (same-judge text t e) (targetIn false target) ∙ ap (ofTarget text code index) (same-target target n))
+      ap (sized m code index)
+      (same-judged text code index false (same-judge text t e) (targetIn false target) ∙ ap (ofTarget text code index) (same-target target n))
 
   -- two requests: one, or the profile stops alone
   pub data Requests : Request → Request → Type 0 where

@@ -9,13 +9,14 @@ use lib.Dec.{eqb}
 use lib.IntN.{ℤ}
 use lib.ListN.{length}
 use Rattle.values.specs.declared.Kind.the-variants as K
-use Rattle.values.specs.declared.Value.{Value}
 use Rattle.values.specs.declared.Value.the-variants as V'
 use Rattle.memory.specs.declared.Bank.{Bank}
-use Rattle.memory.specs.Layout.{imageSize, packed}
+use Rattle.memory.specs.Layout.{imageSize}
 use Rattle.code.specs.declared.Instr.{Instr}
 use Rattle.code.specs.Instructions.{instructions}
 use Rattle.machine.specs.declared.Ran.{Ran}
+use Rattle.machine.specs.Machine.{runsAt}
+use Rattle.machine.specs.Profile.{runsIn}
 use Rattle.verifier.specs.declared.Verdict.{Verdict}
 use Rattle.targets.specs.declared.Element.{Element}
 use Rattle.targets.specs.declared.Element.the-variants.{Is, By}
@@ -24,18 +25,17 @@ use Rattle.targets.specs.declared.Found.the-variants.{In, Other}
 use Rattle.targets.specs.Found.{foundToRun, takenFound, runTargetIn}
 use Rattle.operations.specs.declared.Answer.{Answer}
 use Rattle.operations.specs.declared.Answer.the-variants.{Refused}
-use Rattle.operations.specs.Operations.{reached, Arrival, Goal, to, none, isAccepted, indexPasses, givenGoalOf, goalOf, goal, givenGoal, runsIn, arrival}
-use Rattle.operations.specs.Operations.{finished, memoryAfter, followAnswer, followMemory, ranAnswer, ranMemory, runAnswer, runMemory, gaveAnswer}
-use Rattle.operations.specs.Operations.{gaveMemory, givenAnswer, givenMemory}
+use Rattle.operations.specs.Operations.{Arrival, Goal, to, none, isAccepted, givenGoalOf, goalOf, goal, givenGoal, arrival}
+use Rattle.operations.specs.Operations.{finished, memoryAfter, followAnswer, followMemory, ranAnswer, ranMemory, gaveAnswer, gaveMemory}
 use Rattle.profile.specs.Parts.{realBank}
-use Rattle.profile_code.specs.Checking.{AcceptsIn, verdictIn}
+use Rattle.verifier.specs.Profile.{AcceptsIn, verdictIn}
 use Rattle.profile_code.proofs.Theorems.{profile-code}
-use Rattle.profile_laws.specs.Operations.{runsFor, arrivalFor, indexPassesFor, givenGoalOfFor, goalOfFor, goalFor, givenGoalFor}
-use Rattle.profile_laws.specs.Operations.{ranAnswerFor, ranMemoryFor, runAnswerFor, runMemoryFor, gaveAnswerFor, gaveMemoryFor, givenAnswerFor}
-use Rattle.profile_laws.specs.Operations.{givenMemoryFor}
+use Rattle.operations.specs.Profile.{arrivalFor, givenGoalOfFor, goalOfFor, goalFor, givenGoalFor, ranAnswerFor, ranMemoryFor, gaveAnswerFor}
+use Rattle.operations.specs.Profile.{gaveMemoryFor}
+use Rattle.operations.proofs.Full.{arrival-same}
 use Rattle.profile_laws.specs.Results.{OfProfile}
-use Rattle.profile_laws.specs.Theorems.{FeederCode, FeederIndex}
-use Rattle.profile_laws.proofs.Verdicts.{BothChecks, passes, fails, both-checks, full-runs, same-runs}
+use Rattle.profile_laws.specs.Theorems.{IntegerCode, IntegerIndex}
+use Rattle.profile_laws.proofs.Verdicts.{BothChecks, passes, fails, both-checks, same-runs}
 
 pub two : OfProfile 2
 two = inl refl
@@ -46,78 +46,7 @@ fifteen = inr (inl refl)
 pub nineteen : OfProfile 19
 nineteen = inr (inr refl)
 
--- ---- where a value arrives
-
--- where the runs of the index code are the same
-arrival-same : (reals : Bool) (tick : ℕ) (index m : List ℕ) (b : Bank) (e : Element)
-    → ((k : ℕ) → e ≡ By k → runsFor reals tick index k m ≡ runsIn packed tick index k m) → arrivalFor reals tick index m b e ≡ arrival tick index m b e
-arrival-same reals tick index m b (Is i) h = refl
-arrival-same reals tick index m b (By k) h = ap (λ (x : Ran). record { destination = reached b (x .end); count = x .count }) (h k refl)
-
--- ---- with reals
-
-full-passes : (index : List ℕ) (e : Element) → indexPassesFor true index e ≡ indexPasses index e
-full-passes index (Is i) = refl
-full-passes index (By k) = ap isAccepted (profile-code .full-verdict (instructions index k))
-
-full-given : (index : List ℕ) (f : Found) → givenGoalOfFor true index f ≡ givenGoalOf index f
-full-given index (In b e) = ap (λ (x : Bool). cond x (to b e) (none 15)) (full-passes index e)
-full-given index Other = refl
-
-full-goal-of : (index : List ℕ) (v : Verdict) (f : Found) → goalOfFor true index v f ≡ goalOf index v f
-full-goal-of index v (In b e) = ap (λ (g : Goal). cond (isAccepted v) g (none 15)) (full-given index (In b e))
-full-goal-of index v Other = refl
-
-pub full-goal : (code target index m : List ℕ) (n k : ℕ) → goalFor true code n target index k m ≡ goal code n target index k m
-full-goal code target index m n k =
-    ap (λ (g : Goal). cond (eqb (length m) imageSize) g (none 1))
-    (full-goal-of index (verdictIn true (instructions code n)) (foundToRun k target)
-    ∙ ap (λ (v : Verdict). goalOf index v (foundToRun k target)) (profile-code .full-verdict (instructions code n)))
-
-pub full-given-goal : (target index m : List ℕ) (k : ℕ) → givenGoalFor true target index k m ≡ givenGoal target index k m
-full-given-goal target index m k = ap (λ (g : Goal). cond (eqb (length m) imageSize) g (none 1)) (full-given index (foundToRun k target))
-
-module _ (tick : ℕ) (index m : List ℕ) where
-  full-arrival : (b : Bank) (e : Element) → arrivalFor true tick index m b e ≡ arrival tick index m b e
-  full-arrival b e = arrival-same true tick index m b e (λ k i. full-runs tick index k m)
-
-  full-ran : (x : Ran) (g : Goal) → ranAnswerFor true tick index m x g ≡ ranAnswer tick index m x g
-  full-ran x (to b e) = ap (λ (a : Arrival). finished m a (x .end) (x .count)) (full-arrival b e)
-  full-ran x (none a) = refl
-
-  full-ran-memory : (x : Ran) (g : Goal) → ranMemoryFor true tick index m x g ≡ ranMemory tick index m x g
-  full-ran-memory x (to b e) = ap (λ (a : Arrival). memoryAfter m a (x .end)) (full-arrival b e)
-  full-ran-memory x (none a) = refl
-
-  full-gave : (v : Value) (g : Goal) → gaveAnswerFor true tick v index m g ≡ gaveAnswer tick v index m g
-  full-gave v (to b e) = ap (followAnswer m v 0) (full-arrival b e)
-  full-gave v (none a) = refl
-
-  full-gave-memory : (v : Value) (g : Goal) → gaveMemoryFor true tick v index m g ≡ gaveMemory tick v index m g
-  full-gave-memory v (to b e) = ap (followMemory m v) (full-arrival b e)
-  full-gave-memory v (none a) = refl
-
-module _ (tick : ℕ) (target index m : List ℕ) (k : ℕ) where
-  pub full-run : (code : List ℕ) (n : ℕ) → runAnswerFor true tick code n target index k m ≡ runAnswer tick code n target index k m
-  full-run code n =
-      full-ran tick index m (runsFor true tick code n m) (goalFor true code n target index k m)
-      ∙ ap (λ (x : Ran). ranAnswer tick index m x (goalFor true code n target index k m)) (full-runs tick code n m)
-      ∙ ap (ranAnswer tick index m (runsIn packed tick code n m)) (full-goal code target index m n k)
-
-  pub full-run-memory : (code : List ℕ) (n : ℕ) → runMemoryFor true tick code n target index k m ≡ runMemory tick code n target index k m
-  full-run-memory code n =
-      full-ran-memory tick index m (runsFor true tick code n m) (goalFor true code n target index k m)
-      ∙ ap (λ (x : Ran). ranMemory tick index m x (goalFor true code n target index k m)) (full-runs tick code n m)
-      ∙ ap (ranMemory tick index m (runsIn packed tick code n m)) (full-goal code target index m n k)
-
-  pub full-store : (v : Value) → givenAnswerFor true tick v target index k m ≡ givenAnswer tick v target index k m
-  full-store v = full-gave tick index m v (givenGoalFor true target index k m) ∙ ap (gaveAnswer tick v index m) (full-given-goal target index m k)
-
-  pub full-store-memory : (v : Value) → givenMemoryFor true tick v target index k m ≡ givenMemory tick v target index k m
-  full-store-memory v =
-      full-gave-memory tick index m v (givenGoalFor true target index k m) ∙ ap (gaveMemory tick v index m) (full-given-goal target index m k)
-
--- ---- without reals: the goals of both
+-- ---- the goals of both
 
 -- the index code is the profile's, where there is one
 pub data Indexed (index : List ℕ) : Element → Type 0 where
@@ -164,7 +93,7 @@ module _ (index : List ℕ) where
   sized false x = both-stop 1
 
   pub run-goals : (code target m : List ℕ) (n k : ℕ)
-      → Goals index (FeederCode code n) (goalFor false code n target index k m) (goal code n target index k m)
+      → Goals index (IntegerCode code n) (goalFor false code n target index k m) (goal code n target index k m)
   run-goals code target m n k = sized (eqb (length m) imageSize) (of-run (instructions code n) (foundToRun k target) (both-checks (instructions code n)))
 
   pub store-goals : (target m : List ℕ) (k : ℕ) → Goals index (Unit {0}) (givenGoalFor false target index k m) (givenGoal target index k m)
@@ -178,21 +107,21 @@ pub data Alike (m : List ℕ) (g : Goal) (a a′ : Answer) (n n′ : List ℕ) :
   alone : (r : ℕ) → OfProfile r → g ≡ none r → a ≡ Refused r 0 → n ≡ m → Alike m g a a′ n n′
 
 module _ (tick : ℕ) (index m : List ℕ) where
-  index-runs : {e : Element} → Indexed index e → (k : ℕ) → e ≡ By k → runsFor false tick index k m ≡ runsIn packed tick index k m
+  index-runs : {e : Element} → Indexed index e → (k : ℕ) → e ≡ By k → runsIn false tick index k m ≡ runsAt tick index k m
   index-runs plain k e = let z : _≡_ {A = ℕ} 0 1 = cc in absurd (omega arith)
   index-runs (coded {k = j} a) k e =
-      let i : j ≡ k = cc in subst (λ (k : ℕ). runsFor false tick index k m ≡ runsIn packed tick index k m) i (same-runs tick index j m a)
+      let i : j ≡ k = cc in subst (λ (k : ℕ). runsIn false tick index k m ≡ runsAt tick index k m) i (same-runs tick index j m a)
 
   same-arrival : (b : Bank) (e : Element) → Indexed index e → arrivalFor false tick index m b e ≡ arrival tick index m b e
   same-arrival b e h = arrival-same false tick index m b e (index-runs h)
 
-  pub ran-alike : (code : List ℕ) (n : ℕ) {g h : Goal} → Goals index (FeederCode code n) g h
-      → Alike m g (ranAnswerFor false tick index m (runsFor false tick code n m) g) (ranAnswer tick index m (runsIn packed tick code n m) h)
-      (ranMemoryFor false tick index m (runsFor false tick code n m) g) (ranMemory tick index m (runsIn packed tick code n m) h)
+  pub ran-alike : (code : List ℕ) (n : ℕ) {g h : Goal} → Goals index (IntegerCode code n) g h
+      → Alike m g (ranAnswerFor false tick index m (runsIn false tick code n m) g) (ranAnswer tick index m (runsAt tick code n m) h)
+      (ranMemoryFor false tick index m (runsIn false tick code n m) g) (ranMemory tick index m (runsAt tick code n m) h)
   ran-alike code n (both-stop a) = same refl refl
   ran-alike code n (stops-alone a h o) = alone a o refl refl refl
   ran-alike code n (both-go b e p i) =
-      let x = runsFor false tick code n m in
+      let x = runsIn false tick code n m in
       let r = same-runs tick code n m p in
       same
       (ap (λ (a : Arrival). finished m a (x .end) (x .count)) (same-arrival b e i)
@@ -224,7 +153,7 @@ passes-code : (c : List Instr) → AcceptsIn false c K.Int → isAccepted (verdi
 passes-code c a = ap isAccepted (profile-code .exact false c K.Int .1 a)
 
 module _ (index : List ℕ) (f : Found) (taken : takenFound false f ≡ Other → ⊥)
-    (by-index : (b : Bank) (j : ℕ) → takenFound false f ≡ In b (By j) → FeederCode index j) where
+    (by-index : (b : Bank) (j : ℕ) → takenFound false f ≡ In b (By j) → IntegerCode index j) where
   given-to : (x : Found) → takenFound false f ≡ x → (a : ℕ) → givenGoalOfFor false index x ≡ none a → ⊥
   given-to (In b (Is i)) e a h = to-not h
   given-to (In b (By j)) e a h =
@@ -241,8 +170,8 @@ wrong-size : (b : Bool) (g : Goal) (a : ℕ) → OfProfile a → ((r : ℕ) → 
 wrong-size true g a o n e = n a e
 wrong-size false g a o n e = not-one o (none-same e)
 
-module _ (target index m : List ℕ) (k : ℕ) (by-index : FeederIndex k target index) (taken : runTargetIn false k target ≡ Other → ⊥) where
-  pub run-goes : (code : List ℕ) (n : ℕ) → FeederCode code n → (a : ℕ) → OfProfile a → goalFor false code n target index k m ≡ none a → ⊥
+module _ (target index m : List ℕ) (k : ℕ) (by-index : IntegerIndex k target index) (taken : runTargetIn false k target ≡ Other → ⊥) where
+  pub run-goes : (code : List ℕ) (n : ℕ) → IntegerCode code n → (a : ℕ) → OfProfile a → goalFor false code n target index k m ≡ none a → ⊥
   run-goes code n p a o =
       wrong-size (eqb (length m) imageSize) (goalOfFor false index (verdictIn false (instructions code n)) (runTargetIn false k target)) a o
       (λ r e. run-to index (foundToRun k target) taken by-index (instructions code n) p (runTargetIn false k target) refl r e)

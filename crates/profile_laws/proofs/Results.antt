@@ -13,36 +13,36 @@ use Rattle.values.specs.declared.Value.the-variants.{Int, Real}
 use Rattle.values.specs.declared.Fault.{Fault}
 use Rattle.values.specs.declared.Fault.the-variants.{DividedByZero, Overflow, OutOfRange, IndexError}
 use Rattle.values.specs.Values.{faultNumber}
-use Rattle.memory.specs.Layout.{imageSize, packed}
+use Rattle.memory.specs.Layout.{imageSize}
 use Rattle.text.specs.Judge.{Judgement}
 use Rattle.text.specs.Targets.{Target, targetOf}
 use Rattle.code.specs.declared.Instr.{Instr}
 use Rattle.code.specs.Instructions.{instructions}
 use Rattle.machine.specs.declared.Ran.{Ran}
+use Rattle.machine.specs.Machine.{runsAt}
+use Rattle.machine.specs.Profile.{runsIn}
 use Rattle.verifier.specs.declared.Verdict.{Verdict}
 use Rattle.verifier.specs.declared.Verdict.the-variants as Verdict
 use Rattle.compiler.specs.Compile.{codedBytes}
 use Rattle.targets.specs.Found.{indexBytes}
 use Rattle.operations.specs.declared.Answer.{Answer}
 use Rattle.operations.specs.declared.Answer.the-variants.{Refused}
-use Rattle.operations.specs.Operations.{compileAnswer, verdictAnswer, targetAnswer, Goal, runsIn, valueAnswer, evaluateAnswer, givenValue, gaveAnswer}
+use Rattle.operations.specs.Operations.{compileAnswer, verdictAnswer, targetAnswer, Goal, valueAnswer, evaluateAnswer, givenValue, gaveAnswer}
 use Rattle.operations.specs.Operations.{gaveMemory}
 use Rattle.operations.specs.Operations.{Request, requestAnswer, requestMemory, requestCode, requestIndex}
+use Rattle.operations.proofs.Full.{full-compiling, full-check, full-run, full-run-memory, full-store, full-store-memory, full-request}
 use Rattle.promises.specs.Terms.{answerNumber, Refusal}
 use Rattle.promises.specs.Promises.{Operation, compile, compile-target, check, run, compile-and-run, store, OperationResult, FrameConditions, resultOf}
 use Rattle.promises.proofs.Promises.{promises}
 use Rattle.promises.proofs.Halves.{halves}
 use Rattle.profile.specs.Parts.{realValue}
-use Rattle.profile_code.specs.Checking.{verdictIn}
-use Rattle.profile_code.proofs.Theorems.{profile-code}
-use Rattle.profile_laws.specs.Operations.{runsFor, gaveAnswerFor, gaveMemoryFor, evaluateAnswerFor}
+use Rattle.operations.specs.Profile.{gaveAnswerFor, gaveMemoryFor, evaluateAnswerFor}
 use Rattle.profile_laws.specs.Results.{resultFor, OfProfile, Profiled, as-full, refuses, ProfileFrame}
-use Rattle.profile_laws.proofs.Verdicts.{BothChecks, passes, fails, both-checks, full-runs, same-runs}
+use Rattle.profile_laws.proofs.Verdicts.{BothChecks, passes, fails, both-checks, same-runs}
 use Rattle.profile_laws.proofs.Goals.{two, fifteen, nineteen, Goals, both-stop, stops-alone, both-go, run-goals, store-goals, Alike, same}
 use Rattle.profile_laws.proofs.Goals.{alone, ran-alike, gave-alike}
-use Rattle.profile_laws.proofs.Goals.{full-run, full-run-memory, full-store, full-store-memory}
-use Rattle.profile_laws.proofs.Asked.{full-compiling, Judgements, one-judgement, real-found, both-compile, Targets, one-target, none-taken, both-target}
-use Rattle.profile_laws.proofs.Asked.{full-request, Requests, one-request, stops-before, both-requests}
+use Rattle.profile_laws.proofs.Asked.{Judgements, one-judgement, real-found, both-compile, Targets, one-target, none-taken, both-target}
+use Rattle.profile_laws.proofs.Asked.{Requests, one-request, stops-before, both-requests}
 
 -- the memory and the answer alone
 abbrev leaves : List ℕ → List ℕ → Answer → List ℕ → OperationResult
@@ -63,17 +63,11 @@ performs tick m code index q =
 pub full : (o : Operation) (target m code index : List ℕ) → resultFor true o target m code index ≡ resultOf o target m code index
 full (compile text) target m code index = ap (compiles m code index) (full-compiling (length code) text)
 full compile-target target m code index = refl
-full (check n) target m code index = ap (λ (v : Verdict). leaves code index (verdictAnswer v) m) (profile-code .full-verdict (instructions code n))
+full (check n) target m code index = ap (λ (a : Answer). leaves code index a m) (full-check code n)
 full (run n k tick) target m code index = leaves-same code index (full-run tick target index m k code n) (full-run-memory tick target index m k code n)
-full (compile-and-run text tick) target m code index = ap (performs tick m code index) (full-request text m code index target)
+full (compile-and-run text tick) target m code index = ap (performs tick m code index) (full-request text code index target m)
 full (store kind bits k tick) target m code index =
     leaves-same code index (full-store tick target index m k (givenValue kind bits)) (full-store-memory tick target index m k (givenValue kind bits))
-
-pub full-evaluate : (tick : ℕ) (code : List ℕ) (n : ℕ) (m : List ℕ) → evaluateAnswerFor true tick code n m ≡ evaluateAnswer tick code n m
-full-evaluate tick code n m =
-    ap (λ (x : Ran). cond (eqb (length m) imageSize) (valueAnswer x (verdictIn true (instructions code n))) (Refused 1 0)) (full-runs tick code n m)
-    ∙ ap (λ (v : Verdict). cond (eqb (length m) imageSize) (valueAnswer (runsIn packed tick code n m) v) (Refused 1 0))
-    (profile-code .full-verdict (instructions code n))
 
 -- ---- without reals
 
@@ -132,8 +126,8 @@ pub either-evaluate : (code m : List ℕ) (n tick : ℕ)
 either-evaluate code m n tick = by (eqb (length m) imageSize) (both-checks (instructions code n))
   where
     by : (b : Bool) {v w : Verdict} → BothChecks (instructions code n) v w
-        → (cond b (valueAnswer (runsFor false tick code n m) v) (Refused 1 0) ≡ cond b (valueAnswer (runsIn packed tick code n m) w) (Refused 1 0))
-        ⊎ (cond b (valueAnswer (runsFor false tick code n m) v) (Refused 1 0) ≡ Refused 15 0)
+        → (cond b (valueAnswer (runsIn false tick code n m) v) (Refused 1 0) ≡ cond b (valueAnswer (runsAt tick code n m) w) (Refused 1 0))
+        ⊎ (cond b (valueAnswer (runsIn false tick code n m) v) (Refused 1 0) ≡ Refused 15 0)
     by false h = inl refl
     by true (passes a) = inl (ap (λ (x : Ran). valueAnswer x (Verdict.Accepted K.Int)) (same-runs tick code n m a))
     by true (fails w) = inr refl

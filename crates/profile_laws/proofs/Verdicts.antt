@@ -1,25 +1,26 @@
 -- Both checks on one code, and both machines on code that the profile's check accepts.
 use mathlib.Core.Path.{_≡_, refl, sym, ap, subst}
-use mathlib.Core.Bool.{Bool, true, false}
+use mathlib.Core.Bool.{Bool, false}
 use mathlib.Core.List.{List, []}
 use Prim.Native.Nat.{ℕ}
 use native.Mathlib.Omega.{arith}
 use Rattle.values.specs.declared.Kind.{Kind}
 use Rattle.values.specs.declared.Kind.the-variants as K
-use Rattle.memory.specs.Layout.{packed}
 use Rattle.memory.specs.Environment.{memoryAt}
 use Rattle.code.specs.declared.Instr.{Instr}
 use Rattle.code.specs.Instructions.{instructions}
+use Rattle.machine.specs.Machine.{runsAt}
+use Rattle.machine.specs.Profile.{runsIn}
 use Rattle.verifier.specs.declared.Verdict.{Verdict}
 use Rattle.verifier.specs.declared.Verdict.the-variants.{Accepted, Refused}
 use Rattle.verifier.specs.Verdicts.{verdict}
 use Rattle.verifier.proofs.Verdicts.{verdict-laws}
 use Rattle.operations.specs.declared.Answer.the-variants as Answer
-use Rattle.operations.specs.Operations.{doneWith, verdictAnswer, runsIn}
+use Rattle.operations.specs.Operations.{doneWith, verdictAnswer}
 use Rattle.operations.proofs.Requests.{kinded}
-use Rattle.profile_code.specs.Checking.{AcceptsIn, verdictIn}
+use Rattle.verifier.specs.Profile.{AcceptsIn, verdictIn}
 use Rattle.profile_code.proofs.Theorems.{profile-code}
-use Rattle.profile_laws.specs.Operations.{checkAnswerFor, runsFor}
+use Rattle.operations.specs.Profile.{checkAnswerFor}
 
 -- the profile's verdict and the full box's
 pub data BothChecks (c : List Instr) : Verdict → Verdict → Type 0 where
@@ -41,11 +42,8 @@ both-checks c = by (verdictIn false c) refl
 
 -- ---- runs
 
-pub full-runs : (tick : ℕ) (code : List ℕ) (n : ℕ) (m : List ℕ) → runsFor true tick code n m ≡ runsIn packed tick code n m
-full-runs tick code n m = profile-code .full-run (memoryAt tick m) (instructions code n) 0 []
-
 pub same-runs : (tick : ℕ) (code : List ℕ) (n : ℕ) (m : List ℕ) → AcceptsIn false (instructions code n) K.Int
-    → runsFor false tick code n m ≡ runsIn packed tick code n m
+    → runsIn false tick code n m ≡ runsAt tick code n m
 same-runs tick code n m a = profile-code .ran (memoryAt tick m) (instructions code n) K.Int (kinded tick m) a .1
 
 -- ---- the check's answer

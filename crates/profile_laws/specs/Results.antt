@@ -12,8 +12,8 @@ use Rattle.operations.specs.declared.Answer.the-variants.{Refused}
 use Rattle.operations.specs.Operations.{reportOf, givenValue, requestAnswer, requestMemory, requestCode, requestIndex}
 use Rattle.promises.specs.Terms.{answerNumber, Refusal, SameBut}
 use Rattle.promises.specs.Promises.{Operation, compile, compile-target, check, run, compile-and-run, store, OperationResult}
-use Rattle.profile_laws.specs.Operations.{compileAnswerFor, compiledCodeFor, compileTargetAnswerFor, compileTargetCodeFor, checkAnswerFor}
-use Rattle.profile_laws.specs.Operations.{runAnswerFor, runMemoryFor, givenAnswerFor, givenMemoryFor, requestFor}
+use Rattle.operations.specs.Profile.{compileAnswerFor, compiledCodeFor, compileTargetAnswerFor, compileTargetCodeFor, checkAnswerFor}
+use Rattle.operations.specs.Profile.{runAnswerFor, runMemoryFor, givenAnswerFor, givenMemoryFor, requestFor}
 
 -- the promises' `resultOf`, for either
 abbrev pub resultFor : Bool → Operation → List ℕ → List ℕ → List ℕ → List ℕ → OperationResult

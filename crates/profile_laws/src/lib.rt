@@ -1,1 +1,1 @@
-// The operations in the profile without reals (paper 02, request 12), and that they are the full box's: definitions and theorems, no code.
+// The operations in the profile without reals (paper 02, request 12) are the full box's: theorems, no code.

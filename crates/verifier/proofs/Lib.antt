@@ -1,7 +1,10 @@
--- Safe and Verdicts are what other crates may cite; the others are the laws that lead to them and to `check`.
+-- Safe, Verdicts, Profile, Admitted and Moves are what other crates may cite; the others are the laws that lead to them and to `check`.
 pub mod Safe
 pub mod Verdicts
-mod Moves
+pub mod Profile
+pub mod Admitted
+pub mod Moves
+mod Full
 mod Pass
 mod Onward
 mod Bits

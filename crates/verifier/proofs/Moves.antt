@@ -1,20 +1,22 @@
 -- Tests and places: whether two are the same, and where a move leads, which is forward, and within the code where each instruction stands.
 use mathlib.Core.Path.{_≡_, refl, sym, ap, _∙_, subst}
-use mathlib.Core.Bool.{Bool, true, false, cond}
+use mathlib.Core.Bool.{Bool, true, false, not, _&&_, cond, false≢true}
 use mathlib.Core.List.{List, [], _∷_}
 use Prim.Native.Nat.{ℕ, suc, _+_, _-_, _≤_, _<_}
 use native.Mathlib.Omega.{arith}
 use lib.Dec.{T, leb, leb→le, eqb}
 use lib.ListN.{length, drop, length-drop}
 use lib.Seq.{drop-cons}
-use borrow.Author.Tests.{leb-true, eqb-true, eqb-false}
+use borrow.Author.Tests.{leb-true, eqb-true, eqb-false, not-true}
 use Rattle.values.specs.declared.Kind.{Kind}
 use Rattle.operators.specs.Kinds.{isInt, unaryTakes, binaryTakes}
 use Rattle.code.specs.declared.Instr.{Instr}
 use Rattle.code.specs.declared.Instr.the-variants.{PushInt, PushReal, Load, LoadIndexed, Unary, Binary, Jump, JumpIf, Tick, Since, Total, Match, Unknown}
+use Rattle.code.specs.Reals.{readsReal}
 use Rattle.machine.specs.Machine.{maxHeight}
 use Rattle.verifier.specs.Typing.{Shape, Move, illTyped, next, jump, fork, hasRoom, pushKind, moveOf, wellFormed}
 use Rattle.verifier.specs.Accepts.{MovesTo, next-place, jump-target, not-taken, taken, instrAt}
+use Rattle.verifier.specs.Profile.{allInt, heldAfter, moveIn, wellFormedIn}
 
 -- a place is another, or it is not
 pub compare : {X : Type 0} (q t : ℕ) → (q ≡ t → X) → ((q ≡ t → ⊥) → X) → X
@@ -46,6 +48,13 @@ able next-place e = let z : _≡_ {A = ℕ} 0 1 = cc in omega arith
 able jump-target e = let z : _≡_ {A = ℕ} 0 1 = cc in omega arith
 able not-taken e = let z : _≡_ {A = ℕ} 0 1 = cc in omega arith
 able taken e = let z : _≡_ {A = ℕ} 0 1 = cc in omega arith
+
+-- what it holds there is what it leaves
+pub held : {p q : ℕ} {m : Move} {r : Shape} → MovesTo p m q r → heldAfter m ≡ r
+held next-place = refl
+held jump-target = refl
+held not-taken = refl
+held taken = refl
 
 pub forward : {p q : ℕ} {m : Move} {r : Shape} → MovesTo p m q r → p < q
 forward next-place = omega arith
@@ -111,8 +120,34 @@ goes-known (Total o b i n) s k e = refl
 goes-known (Match o b i n) s k e = refl
 goes-known Unknown s k e = let z : _≡_ {A = ℕ} 0 1 = cc in absurd (omega arith)
 
-pub within : (i : Instr) (s : Shape) {n p q : ℕ} {r : Shape} → p < n → wellFormed (n - suc p) i ≡ true → MovesTo p (moveOf i s) q r → q ≤ n
-within i s {n} {p} l e w = omega (arith, reach w, spanned i s (n - suc p) e)
+-- ---- with reals or without
+
+-- what is known without reals is known, and does not read R
+pub known-full : (i : Instr) (k : ℕ) → wellFormedIn false k i ≡ true → (wellFormed k i ≡ true) × (readsReal i ≡ false)
+known-full i k = by (wellFormed k i) (readsReal i)
+  where
+    by : (b r : Bool) → (b && not r) ≡ true → (b ≡ true) × (r ≡ false)
+    by true r e = (refl, not-true r e)
+    by false r e = absurd (false≢true e)
+
+-- and what is no instruction is not
+pub unknown-not : (k : ℕ) (i : Instr) → wellFormed k i ≡ true → i ≡ Unknown → ⊥
+unknown-not k i t e = false≢true (sym (ap (wellFormed k) e) ∙ t)
+
+pub known-in : (i : Instr) (k : ℕ) → wellFormed k i ≡ true → readsReal i ≡ false → wellFormedIn false k i ≡ true
+known-in i k e f = rw (e, f)
+
+spanned-in : (reals : Bool) (i : Instr) (s : Shape) (k : ℕ) → wellFormedIn reals k i ≡ true → span (moveIn reals i s) ≤ k
+spanned-in true i s k e = spanned i s k e
+spanned-in false i s k e = by (allInt (heldAfter (moveOf i s)))
+  where
+    by : (b : Bool) → span (cond b (moveOf i s) illTyped) ≤ k
+    by true = spanned i s k (known-full i k e .0)
+    by false = omega arith
+
+pub within : (reals : Bool) (i : Instr) (s : Shape) {n p q : ℕ} {r : Shape} → p < n → wellFormedIn reals (n - suc p) i ≡ true
+    → MovesTo p (moveIn reals i s) q r → q ≤ n
+within reals i s {n} {p} l e w = omega (arith, reach w, spanned-in reals i s (n - suc p) e)
 
 -- ---- places in the code
 

@@ -145,18 +145,18 @@ led (leads w h) = (w, h)
 
 module _ (E : Environment) (K : Kinded E) (c : List Instr) (k : Kind) (acc : Accepts c k) where
   -- a configuration of accepted code: the instructions left begin at the place p, and the one d further on is reached with the kinds of the values held
-  record At (left : List Instr) (d : ℕ) (st : List Value) (p : ℕ) : Type 0 where
-    rest : left ≡ drop p c
-    reached : Reached c (p + d) (map kindOf st)
-    room : length st ≤ maxHeight
-    in-code : p + d ≤ length c
+  pub record At (left : List Instr) (d : ℕ) (st : List Value) (p : ℕ) : Type 0 where
+    pub rest : left ≡ drop p c
+    pub reached : Reached c (p + d) (map kindOf st)
+    pub room : length st ≤ maxHeight
+    pub in-code : p + d ≤ length c
 
   -- what the instruction at p leads to
   module _ {i : Instr} {left : List Instr} {st : List Value} {p : ℕ} (a : At (i ∷ left) 0 st p) where
-    here : Split i left c p
+    pub here : Split i left c p
     here = split i left c p (a .rest)
 
-    there : Reached c p (map kindOf st)
+    pub there : Reached c p (map kindOf st)
     there = subst (λ n. Reached c n (map kindOf st)) (add-zero p) (a .reached)
 
     able : moveOf i (map kindOf st) ≡ illTyped → ⊥
@@ -173,7 +173,7 @@ module _ (E : Environment) (K : Kinded E) (c : List Instr) (k : Kind) (acc : Acc
           rest = here .rest;
           reached = onward there (here .inside) (w .0);
           room = w .1;
-          in-code = within (instrAt c p) (map kindOf st) (here .inside) (acc .each p (here .inside)) (w .0);
+          in-code = within true (instrAt c p) (map kindOf st) (here .inside) (acc .each p (here .inside)) (w .0);
         }
 
   skips : {i : Instr} {left : List Instr} {d : ℕ} {st : List Value} {p : ℕ} → At (i ∷ left) (suc d) st p → At left d st (suc p)
@@ -186,7 +186,7 @@ module _ (E : Environment) (K : Kinded E) (c : List Instr) (k : Kind) (acc : Acc
         in-code = omega (arith, a .in-code);
       }
 
-  place : {left : List Instr} {d : ℕ} {st : List Value} → Configuration E c left d st → (p : ℕ) × At left d st p
+  pub place : {left : List Instr} {d : ℕ} {st : List Value} → Configuration E c left d st → (p : ℕ) × At left d st p
   place first = (0, record { rest = refl; reached = start; room = omega arith; in-code = omega arith })
   place (skip C) = let a = place C in (suc (a .0), skips (a .1))
   place (step C e) = let a = place C in (suc (a .0), steps (a .1) e)

@@ -16,12 +16,13 @@ use Rattle.verifier.specs.declared.packing.Held.{Held}
 use Rattle.verifier.specs.declared.typing.Flow.{Flow}
 use Rattle.verifier.specs.declared.Verdict.{Verdict}
 use Rattle.verifier.specs.declared.Verdict.the-variants as Verdict
-use Rattle.verifier.specs.Typing.{Shape, Move, illTyped, jump, fork, moveOf, wellFormed}
+use Rattle.verifier.specs.Typing.{Shape, Move, illTyped, jump, fork, moveOf}
+use Rattle.verifier.specs.Profile.{wellFormedIn}
 use Rattle.verifier.specs.private.Shapes.{State, rejected, unreached, holds, pushNumber, numberKind, bitKinds, word, kindsOf, ArrayHolds}
 use Rattle.verifier.specs.private.Shapes.{Popped, stateAt, stateOf, Leaves, stops, goes}
 use Rattle.verifier.specs.private.Pass as Pass
 use Rattle.verifier.specs.private.Pass.{verdictOf, Skipping, Merges, Steps, stuck, strays, leaps, forks, leap-clash, fork-clash}
-use Rattle.verifier.proofs.Moves.{upto}
+use Rattle.verifier.proofs.Moves.{upto, goes-known}
 use Rattle.verifier.proofs.kinds.Standing.{in-class}
 use Rattle.verifier.proofs.Bits.{kinds-popped}
 
@@ -39,9 +40,9 @@ typed-keeps (stops e k) = k
 typed-keeps (goes e k) = k
 
 pub typed-steps : {i : Instr} {k p : ℕ} {s : Shape} {before : ℕ → State} {a : List ℕ} {f : Flow} {m : Move} → moveOf i s ≡ m → Leaves a f m
-    → Steps i k p s before (stateOf f) before
-typed-steps e (stops r k) = rw r (stuck e)
-typed-steps e (goes r k) = rw r (Pass.goes e)
+    → Steps true i k p s before (stateOf f) before
+typed-steps e (stops r h) = rw r (stuck e)
+typed-steps {i} {k} {s = s} e (goes r h) = rw r (Pass.goes (goes-known i s k e) e)
 
 pub int-moves : (w : ℕ) (s : Shape) → moveOf (pushInt w) s ≡ pushNumber 0 s
 unfolding moveOf
@@ -53,7 +54,7 @@ none-moves s = refl
 
 -- from the class c of the number n of the eight bytes, which is k
 pub steps-by : (n : ℕ) {c : Class} (k : Class) {m p : ℕ} {s : Shape} {before : ℕ → State} {x : State} {after : ℕ → State}
-    → c ≡ classOf (opcodeOf n) → c ≡ k → Steps (instrIn k n) m p s before x after → Steps (instructionOf n) m p s before x after
+    → c ≡ classOf (opcodeOf n) → c ≡ k → Steps true (instrIn k n) m p s before x after → Steps true (instructionOf n) m p s before x after
 steps-by n k e q h = rw (in-class n k e q) h
 
 -- ---- a jump over d, where m instructions follow
@@ -68,52 +69,52 @@ fork-is t d some o = rw (kinds-popped some o)
 
 module _ (d m : ℕ) {p : ℕ} {before : ℕ → State} where
   module _ {s : Shape} where
-    pub leap-strays : leb d m ≡ false → Steps (Jump d) m p s before rejected before
+    pub leap-strays : leb d m ≡ false → Steps true (Jump d) m p s before rejected before
     leap-strays e = strays e
 
     module _ {after : ℕ → State} {b : Bool} where
-      pub leap-lands : leb d m ≡ true → b ≡ true → Merges s (p + d) before b after → Steps (Jump d) m p s before unreached after
-      leap-lands e y k = leaps e (leap-is d s) (rw y at k)
+      pub leap-lands : leb d m ≡ true → b ≡ true → Merges s (p + d) before b after → Steps true (Jump d) m p s before unreached after
+      leap-lands e y k = leaps refl e (leap-is d s) (rw y at k)
 
-      pub leap-fails : b ≡ false → Merges s (p + d) before b after → Steps (Jump d) m p s before rejected after
+      pub leap-fails : b ≡ false → Merges s (p + d) before b after → Steps true (Jump d) m p s before rejected after
       leap-fails y k = leap-clash (leap-is d s) (rw y at k)
 
   -- a jump on a value, which is taken
   module _ (t : Bool) (h : Held) where
-    pub fork-short : h .height < 1 → Steps (JumpIf t d) m p (kindsOf h) before rejected before
+    pub fork-short : h .height < 1 → Steps true (JumpIf t d) m p (kindsOf h) before rejected before
     unfolding moveOf
     fork-short l = let e : h .height ≡ 0 = omega arith in rw e (stuck refl)
 
-    pub fork-strays : leb d m ≡ false → Steps (JumpIf t d) m p (kindsOf h) before rejected before
+    pub fork-strays : leb d m ≡ false → Steps true (JumpIf t d) m p (kindsOf h) before rejected before
     fork-strays e = strays e
 
     module _ {v : Held} {after : ℕ → State} {b : Bool} (some : 0 < h .height) (o : Popped h v) where
       pub fork-lands : leb d m ≡ true → b ≡ true → Merges (kindsOf v) (p + d) before b after
-          → Steps (JumpIf t d) m p (kindsOf h) before (holds (kindsOf v)) after
+          → Steps true (JumpIf t d) m p (kindsOf h) before (holds (kindsOf v)) after
       fork-lands e y k = forks e (fork-is t d some o) (rw y at k)
 
-      pub fork-fails : b ≡ false → Merges (kindsOf v) (p + d) before b after → Steps (JumpIf t d) m p (kindsOf h) before rejected after
+      pub fork-fails : b ≡ false → Merges (kindsOf v) (p + d) before b after → Steps true (JumpIf t d) m p (kindsOf h) before rejected after
       fork-fails y k = fork-clash (fork-is t d some o) (rw y at k)
 
 -- ---- places that nothing comes to
 
-module _ {code : List ℕ} {n : ℕ} {tops : List ℕ} where
-  pub skipping-none : {p : ℕ} → p ≤ n → Skipping code n tops p p
+module _ {reals : Bool} {code : List ℕ} {n : ℕ} {tops : List ℕ} where
+  pub skipping-none : {p : ℕ} → p ≤ n → Skipping reals code n tops p p
   skipping-none l = record { onward = omega arith; within = l; none = λ q f g. absurd (omega arith); each = λ q f g. absurd (omega arith) }
 
-  pub skipping-more : {p r : ℕ} → Skipping code n tops p r → r < n → getD tops r 0 ≡ 0 → wellFormed (n - suc r) (decodeAt code r) ≡ true
-      → Skipping code n tops p (r + 1)
+  pub skipping-more : {p r : ℕ} → Skipping reals code n tops p r → r < n → getD tops r 0 ≡ 0 → wellFormedIn reals (n - suc r) (decodeAt code r) ≡ true
+      → Skipping reals code n tops p (r + 1)
   skipping-more {p} {r} k l e f = record {
     onward = omega (arith, k .onward);
     within = omega arith;
     none = λ q g h. upto (λ q. p ≤ q → getD tops q 0 ≡ 0) r (λ q h g. k .none q g h) (λ _. e) q (omega arith) g;
-    each = λ q g h. upto (λ q. p ≤ q → wellFormed (n - suc q) (decodeAt code q) ≡ true) r (λ q h g. k .each q g h) (λ _. f) q (omega arith) g;
+    each = λ q g h. upto (λ q. p ≤ q → wellFormedIn reals (n - suc q) (decodeAt code q) ≡ true) r (λ q h g. k .each q g h) (λ _. f) q (omega arith) g;
   }
 
 -- the number w of an instruction says whether it stands
-pub stands-at : (code : List ℕ) (n p : ℕ) {w : ℕ} {b : Bool} → w ≡ fetched code p → b ≡ wellFormed (n - p - 1) (instructionOf w)
-    → b ≡ wellFormed (n - suc p) (decodeAt code p)
-stands-at code n p e f =
+pub stands-at : (reals : Bool) (code : List ℕ) (n p : ℕ) {w : ℕ} {b : Bool} → w ≡ fetched code p → b ≡ wellFormedIn reals (n - p - 1) (instructionOf w)
+    → b ≡ wellFormedIn reals (n - suc p) (decodeAt code p)
+stands-at reals code n p e f =
     let l : n - p - 1 ≡ n - suc p = omega arith in
     f ∙ rw (decode-fetched code p, ← e, l)
 

@@ -14,12 +14,14 @@ use Rattle.code.specs.declared.Instr.{Instr}
 use Rattle.code.specs.Instructions.{instructions}
 use Rattle.verifier.specs.declared.Verdict.{Verdict}
 use Rattle.verifier.specs.declared.Verdict.the-variants.{Accepted, Refused}
-use Rattle.verifier.specs.Typing.{Shape, Move, illTyped, next, jump, fork, moveOf, wellFormed}
-use Rattle.verifier.specs.Accepts.{MovesTo, next-place, jump-target, not-taken, taken, instrAt, Reached, start, onward, Accepts, CorrectVerdict}
-use Rattle.verifier.specs.Verdicts.{State, rejected, unreached, holds, States, sameShape, joinState, joinAt, propagate, transfer, dataflow, entryStates}
-use Rattle.verifier.specs.Verdicts.{verdictOf, verdict, VerdictLaws}
+use Rattle.verifier.specs.Typing.{Shape, Move, illTyped, next, jump, fork}
+use Rattle.verifier.specs.Accepts.{MovesTo, next-place, jump-target, not-taken, taken, instrAt, CorrectVerdict}
+use Rattle.verifier.specs.Verdicts.{State, rejected, unreached, holds, States, sameShape, joinState, joinAt, propagate, entryStates}
+use Rattle.verifier.specs.Verdicts.{verdictOf, VerdictLaws}
+use Rattle.verifier.specs.Profile.{moveIn, wellFormedIn, ReachedIn, start, onward, AcceptsIn, CorrectVerdictIn, transferIn, dataflowIn, verdictIn}
 use Rattle.verifier.specs.private.Pass.{Agrees}
 use Rattle.verifier.proofs.Moves.{upto, Split, split}
+use Rattle.verifier.proofs.Full.{full-accepts, accepts-full, full-verdict}
 use Rattle.verifier.proofs.Pass as Pass
 use Rattle.verifier.proofs.Pass.{holds-same, unheld, unfailed, unarrived, Arrives, first, from, arrives, flows, Knows, Or, passes, ahead}
 use Rattle.verifier.proofs.Pass.{verdict-sound, verdict-complete}
@@ -181,58 +183,58 @@ refusing (fork d r) = inr (λ e. let z : _≡_ {A = ℕ} 0 1 = cc in omega arith
 
 -- ---- the pass
 
-module _ (c : List Instr) where
+module _ (reals : Bool) (c : List Instr) where
   abbrev NotAccepted : Type 0
-  NotAccepted = (k : Kind) → Accepts c k → ⊥
+  NotAccepted = (k : Kind) → AcceptsIn reals c k → ⊥
 
   -- all before p is as `Accepts` asks
   record Before (p : ℕ) : Type 0 where
-    each : (q : ℕ) → q < p → wellFormed (length c - suc q) (instrAt c q) ≡ true
-    acts : (q : ℕ) (s : Shape) → q < p → Reached c q s → moveOf (instrAt c q) s ≡ illTyped → ⊥
-    one : (q : ℕ) (s r : Shape) → q < p → Reached c q s → Reached c q r → s ≡ r
+    each : (q : ℕ) → q < p → wellFormedIn reals (length c - suc q) (instrAt c q) ≡ true
+    acts : (q : ℕ) (s : Shape) → q < p → ReachedIn reals c q s → moveIn reals (instrAt c q) s ≡ illTyped → ⊥
+    one : (q : ℕ) (s r : Shape) → q < p → ReachedIn reals c q s → ReachedIn reals c q r → s ≡ r
 
   -- what is known when the pass comes to p
   data Known (p : ℕ) (f : States) : Type 0 where
     refuses : NotAccepted → ((q : ℕ) → f q ≡ rejected) → Known p f
-    knows : Before p → Represents f (Arrives c p) → Known p f
+    knows : Before p → Represents f (Arrives reals c p) → Known p f
 
-  reached : {p q : ℕ} {s : Shape} → p ≤ length c → Arrives c p q s → Reached c q s
+  reached : {p q : ℕ} {s : Shape} → p ≤ length c → Arrives reals c p q s → ReachedIn reals c q s
   reached l first = start
   reached l (from m d w) = onward d (omega arith) w
 
-  clashes : {p q : ℕ} {f : States} → p ≤ length c → Represents f (Arrives c p) → f q ≡ rejected → NotAccepted
+  clashes : {p q : ℕ} {f : States} → p ≤ length c → Represents f (Arrives reals c p) → f q ≡ rejected → NotAccepted
   clashes {p} {q} l w e k a =
       let b = w .clash q e in
       b .differ (a .one q (b .one) (b .other) (reached l (b .comes)) (reached l (b .also)))
 
-  module _ {p : ℕ} {f : States} (inside : p < length c) (stood : wellFormed (length c - suc p) (instrAt c p) ≡ true) (a : Before p)
-      (w : Represents f (Arrives c p)) where
-    finds : {s : Shape} → Reached c p s → Found s (f p)
+  module _ {p : ℕ} {f : States} (inside : p < length c) (stood : wellFormedIn reals (length c - suc p) (instrAt c p) ≡ true) (a : Before p)
+      (w : Represents f (Arrives reals c p)) where
+    finds : {s : Shape} → ReachedIn reals c p s → Found s (f p)
     finds {s} d = w .found p s (arrives d)
 
     -- the instruction at p leads to L, and to nothing else
-    further : {g : States} {L : ℕ → Shape → Type 0} → ((q : ℕ) (r : Shape) → L q r → Arrives c (suc p) q r)
-        → ((x : Shape) (q : ℕ) (r : Shape) → Reached c p x → MovesTo p (moveOf (instrAt c p) x) q r → L q r)
-        → Represents g (λ q r. Arrives c p q r ⊎ L q r) → Represents g (Arrives c (suc p))
+    further : {g : States} {L : ℕ → Shape → Type 0} → ((q : ℕ) (r : Shape) → L q r → Arrives reals c (suc p) q r)
+        → ((x : Shape) (q : ℕ) (r : Shape) → ReachedIn reals c p x → MovesTo p (moveIn reals (instrAt c p) x) q r → L q r)
+        → Represents g (λ q r. Arrives reals c p q r ⊎ L q r) → Represents g (Arrives reals c (suc p))
     further {L = L} i o v = likewise v into out
       where
-        into : (q : ℕ) (r : Shape) → Arrives c p q r ⊎ L q r → Arrives c (suc p) q r
+        into : (q : ℕ) (r : Shape) → Arrives reals c p q r ⊎ L q r → Arrives reals c (suc p) q r
         into _ _ (inl first) = first
         into _ _ (inl (from {o = n} m d u)) = from {o = n} (omega arith) d u
         into q r (inr m) = i q r m
 
-        out : (q : ℕ) (r : Shape) → Arrives c (suc p) q r → Arrives c p q r ⊎ L q r
+        out : (q : ℕ) (r : Shape) → Arrives reals c (suc p) q r → Arrives reals c p q r ⊎ L q r
         out _ _ first = inl first
         out q r (from {o = n} {s = x} m d u) =
-            upto (λ n. Reached c n x → MovesTo n (moveOf (instrAt c n) x) q r → Arrives c p q r ⊎ L q r) p
+            upto (λ n. ReachedIn reals c n x → MovesTo n (moveIn reals (instrAt c n) x) q r → Arrives reals c p q r ⊎ L q r) p
             (λ n m d u. inl (from m d u)) (λ d u. inr (o x q r d u)) n m d u
 
-    before-next : ((s : Shape) → Reached c p s → moveOf (instrAt c p) s ≡ illTyped → ⊥)
-        → ((s r : Shape) → Reached c p s → Reached c p r → s ≡ r) → Before (suc p)
+    before-next : ((s : Shape) → ReachedIn reals c p s → moveIn reals (instrAt c p) s ≡ illTyped → ⊥)
+        → ((s r : Shape) → ReachedIn reals c p s → ReachedIn reals c p r → s ≡ r) → Before (suc p)
     before-next f g = record {
-      each = upto (λ q. wellFormed (length c - suc q) (instrAt c q) ≡ true) p (a .each) stood;
-      acts = λ q s l. upto (λ q. Reached c q s → moveOf (instrAt c q) s ≡ illTyped → ⊥) p (λ q l. a .acts q s l) (f s) q l;
-      one = λ q s r l. upto (λ q. Reached c q s → Reached c q r → s ≡ r) p (λ q l. a .one q s r l) (g s r) q l;
+      each = upto (λ q. wellFormedIn reals (length c - suc q) (instrAt c q) ≡ true) p (a .each) stood;
+      acts = λ q s l. upto (λ q. ReachedIn reals c q s → moveIn reals (instrAt c q) s ≡ illTyped → ⊥) p (λ q l. a .acts q s l) (f s) q l;
+      one = λ q s r l. upto (λ q. ReachedIn reals c q s → ReachedIn reals c q r → s ≡ r) p (λ q l. a .one q s r l) (g s r) q l;
     }
 
     -- nothing comes to p
@@ -241,41 +243,43 @@ module _ (c : List Instr) where
         (before-next (λ s d. found-some (finds d) e) (λ s r d. found-some (finds d) e))
         (further {L = λ q r. ⊥} (λ q r m. absurd m) (λ x q r d u. found-some (finds d) e) (likewise w (λ q s m. inl m) out))
       where
-        out : (q : ℕ) (s : Shape) → Arrives c p q s ⊎ ⊥ → Arrives c p q s
+        out : (q : ℕ) (s : Shape) → Arrives reals c p q s ⊎ ⊥ → Arrives reals c p q s
         out q s (inl m) = m
         out q s (inr m) = absurd m
 
     -- the kinds s come to p
     module _ {s : Shape} (e : f p ≡ holds s) where
-      here : Reached c p s
+      here : ReachedIn reals c p s
       here = reached (omega arith) (w .known p s e)
 
-      only : {x : Shape} → Reached c p x → x ≡ s
+      only : {x : Shape} → ReachedIn reals c p x → x ≡ s
       only d = found-only (finds d) e
 
-      moved : (moveOf (instrAt c p) s ≡ illTyped) ⊎ (moveOf (instrAt c p) s ≡ illTyped → ⊥) → Known (suc p) (propagate p (moveOf (instrAt c p) s) f)
+      moved : (moveIn reals (instrAt c p) s ≡ illTyped) ⊎ (moveIn reals (instrAt c p) s ≡ illTyped → ⊥)
+          → Known (suc p) (propagate p (moveIn reals (instrAt c p) s) f)
       moved (inl i) = refuses (λ k a. a .acts p s here inside i) (λ q. ap (λ m. propagate p m f q) i)
       moved (inr n) = knows
-          (before-next (λ x d. subst (λ x. moveOf (instrAt c p) x ≡ illTyped → ⊥) (sym (only d)) n) (λ x r d u. only d ∙ sym (only u)))
-          (further (λ q r u. from (omega arith) here u) (λ x q r d u. subst (λ x. MovesTo p (moveOf (instrAt c p) x) q r) (only d) u)
-          (led p (moveOf (instrAt c p) s) w n))
+          (before-next (λ x d. subst (λ x. moveIn reals (instrAt c p) x ≡ illTyped → ⊥) (sym (only d)) n) (λ x r d u. only d ∙ sym (only u)))
+          (further (λ q r u. from (omega arith) here u) (λ x q r d u. subst (λ x. MovesTo p (moveIn reals (instrAt c p) x) q r) (only d) u)
+          (led p (moveIn reals (instrAt c p) s) w n))
 
-    stepped : (x : State) → f p ≡ x → Known (suc p) (transfer p (instrAt c p) x f)
+    stepped : (x : State) → f p ≡ x → Known (suc p) (transferIn reals p (instrAt c p) x f)
     stepped rejected e = refuses (clashes (omega arith) w e) (λ q. refl)
     stepped unreached e = over-it e
-    stepped (holds s) e = moved e (refusing (moveOf (instrAt c p) s))
+    stepped (holds s) e = moved e (refusing (moveIn reals (instrAt c p) s))
 
-  onto : {p : ℕ} {f : States} → p < length c → wellFormed (length c - suc p) (instrAt c p) ≡ true → Known p f → Known (suc p) (transfer p (instrAt c p) (f p) f)
+  onto : {p : ℕ} {f : States} → p < length c → wellFormedIn reals (length c - suc p) (instrAt c p) ≡ true → Known p f
+      → Known (suc p) (transferIn reals p (instrAt c p) (f p) f)
   onto {p} {f} l t (refuses n z) = rw (z p) (refuses n (λ q. refl))
   onto {p} {f} l t (knows a w) = stepped l t a w (f p) refl
 
   -- ---- the end
 
   abbrev Judged : State → Type 0
-  Judged = Or c (Knows c (length c) (λ q. unreached))
+  Judged = Or reals c (Knows reals c (length c) (λ q. unreached))
 
-  final : {f : States} → Before (length c) → Represents f (Arrives c (length c)) → (x : State) → f (length c) ≡ x → (x ≡ rejected → ⊥)
-      → Knows c (length c) (λ q. unreached) x
+  final : {f : States} → Before (length c) → Represents f (Arrives reals c (length c)) → (x : State) → f (length c) ≡ x → (x ≡ rejected → ⊥)
+      → Knows reals c (length c) (λ q. unreached) x
   final {f} a w x e n = record {
     comes = record {
       each = a .each;
@@ -288,7 +292,7 @@ module _ (c : List Instr) where
     joined = λ s i. unheld i;
   }
     where
-      last : (q : ℕ) (r : Shape) → length c ≤ q → Arrives c (length c) q r → q ≡ length c
+      last : (q : ℕ) (r : Shape) → length c ≤ q → Arrives reals c (length c) q r → q ≡ length c
       last q r l m = omega (arith, ahead (a .each) (reached (omega arith) m))
 
   ended : {f : States} → Known (length c) f → Judged (f (length c))
@@ -303,24 +307,25 @@ module _ (c : List Instr) where
   -- ---- from the first instruction to the last
 
   turn : {i : Instr} {left : List Instr} {p : ℕ} {f : States} → Split i left c p → Known p f
-      → (Known (suc p) (transfer p i (f p) f) → Judged (dataflow left (suc p) (transfer p i (f p) f)))
-      → (b : Bool) → wellFormed (length left) i ≡ b → Judged (cond b (dataflow left (suc p) (transfer p i (f p) f)) rejected)
+      → (Known (suc p) (transferIn reals p i (f p) f) → Judged (dataflowIn reals left (suc p) (transferIn reals p i (f p) f)))
+      → (b : Bool) → wellFormedIn reals (length left) i ≡ b → Judged (cond b (dataflowIn reals left (suc p) (transferIn reals p i (f p) f)) rejected)
   turn {i} {left} {p} {f} s k ih b e =
       let n : length left ≡ length c - suc p = omega (arith, ap length (s .rest), length-drop (suc p) c, s .inside) in
-      go b (ap (λ n. wellFormed n (instrAt c p)) (sym n) ∙ ap (wellFormed (length left)) (sym (s .first)) ∙ e)
+      go b (ap (λ n. wellFormedIn reals n (instrAt c p)) (sym n) ∙ ap (wellFormedIn reals (length left)) (sym (s .first)) ∙ e)
     where
-      go : (b : Bool) → wellFormed (length c - suc p) (instrAt c p) ≡ b → Judged (cond b (dataflow left (suc p) (transfer p i (f p) f)) rejected)
-      go true t = ih (subst (λ i. Known (suc p) (transfer p i (f p) f)) (sym (s .first)) (onto (s .inside) t k))
+      go : (b : Bool) → wellFormedIn reals (length c - suc p) (instrAt c p) ≡ b
+          → Judged (cond b (dataflowIn reals left (suc p) (transferIn reals p i (f p) f)) rejected)
+      go true t = ih (subst (λ i. Known (suc p) (transferIn reals p i (f p) f)) (sym (s .first)) (onto (s .inside) t k))
       go false t = Pass.refuses (λ k a. true≢false (sym (a .each p (s .inside)) ∙ t))
 
-  passed : (left : List Instr) (p : ℕ) (f : States) → left ≡ drop p c → p ≤ length c → Known p f → Judged (dataflow left p f)
-  unfolding dataflow
+  passed : (left : List Instr) (p : ℕ) (f : States) → left ≡ drop p c → p ≤ length c → Known p f → Judged (dataflowIn reals left p f)
+  unfolding dataflowIn
   passed [] p f e l k =
       let n : p ≡ length c = omega (arith, ap length e, length-drop p c) in
       rw n (ended (rw n at k))
   passed (i ∷ left) p f e l k =
       let s = split i left c p e in
-      turn s k (passed left (suc p) (transfer p i (f p) f) (s .rest) (s .inside)) (wellFormed (length left) i) refl
+      turn s k (passed left (suc p) (transferIn reals p i (f p) f) (s .rest) (s .inside)) (wellFormedIn reals (length left) i) refl
 
   begun : Known 0 entryStates
   begun = knows before-none (likewise (joined none [] 0) into out)
@@ -331,15 +336,15 @@ module _ (c : List Instr) where
       none : Represents (λ q. unreached) (λ q s. ⊥)
       none = record { known = λ q s e. unheld e; clash = λ q e. absurd (unarrived e); found = λ q s m. absurd m }
 
-      into : (q : ℕ) (s : Shape) → Added (λ q s. ⊥) [] 0 q s → Arrives c 0 q s
+      into : (q : ℕ) (s : Shape) → Added (λ q s. ⊥) [] 0 q s → Arrives reals c 0 q s
       into q s (old m) = absurd m
       into _ _ new = first
 
-      out : (q : ℕ) (s : Shape) → Arrives c 0 q s → Added (λ q s. ⊥) [] 0 q s
+      out : (q : ℕ) (s : Shape) → Arrives reals c 0 q s → Added (λ q s. ⊥) [] 0 q s
       out _ _ first = new
       out _ _ (from m d u) = absurd (omega arith)
 
-  judged : Judged (dataflow c 0 entryStates)
+  judged : Judged (dataflowIn reals c 0 entryStates)
   judged = passed c 0 entryStates refl (omega arith) begun
 
 -- ---- the laws
@@ -347,29 +352,44 @@ module _ (c : List Instr) where
 unaccepted : {X : Type 0} {k : Kind} → Refused ≡ Accepted k → X
 unaccepted e = let z : _≡_ {A = ℕ} 0 1 = cc in absurd (omega arith)
 
-sound : (c : List Instr) (k : Kind) → verdict c ≡ Accepted k → Accepts c k
-unfolding dataflow
-sound [] k e = unaccepted e
-sound (i ∷ left) k e = go (leb (length (i ∷ left)) 2048) refl e
+pub sound : (reals : Bool) (c : List Instr) (k : Kind) → verdictIn reals c ≡ Accepted k → AcceptsIn reals c k
+unfolding dataflowIn
+sound reals [] k e = unaccepted e
+sound reals (i ∷ left) k e = go (leb (length (i ∷ left)) 2048) refl e
   where
-    go : (b : Bool) → leb (length (i ∷ left)) 2048 ≡ b → cond b (verdictOf (dataflow (i ∷ left) 0 entryStates)) Refused ≡ Accepted k → Accepts (i ∷ left) k
-    go true l e = verdict-sound (omega arith) (leb-true (length (i ∷ left)) 2048 l) (judged (i ∷ left)) k e
+    go : (b : Bool) → leb (length (i ∷ left)) 2048 ≡ b → cond b (verdictOf (dataflowIn reals (i ∷ left) 0 entryStates)) Refused ≡ Accepted k
+        → AcceptsIn reals (i ∷ left) k
+    go true l e = verdict-sound (omega arith) (leb-true (length (i ∷ left)) 2048 l) (judged reals (i ∷ left)) k e
     go false l e = unaccepted e
 
-complete : (c : List Instr) (k : Kind) → Accepts c k → verdict c ≡ Accepted k
-complete c k a = rw (le-leb (length c) 2048 (a .few)) (verdict-complete (judged c) k a)
+pub complete : (reals : Bool) (c : List Instr) (k : Kind) → AcceptsIn reals c k → verdictIn reals c ≡ Accepted k
+complete reals c k a = rw (le-leb (length c) 2048 (a .few)) (verdict-complete (judged reals c) k a)
 
-determined : (code : List ℕ) (n : ℕ) (v : Verdict) → CorrectVerdict code n v → v ≡ verdict (instructions code n)
-determined code n (Accepted k) r = sym (complete (instructions code n) k (r .sound k refl))
-determined code n Refused r = go (verdict (instructions code n)) refl
+pub determined : (reals : Bool) (code : List ℕ) (n : ℕ) (v : Verdict) → CorrectVerdictIn reals code n v → v ≡ verdictIn reals (instructions code n)
+determined reals code n (Accepted k) r = sym (complete reals (instructions code n) k (r .sound k refl))
+determined reals code n Refused r = go (verdictIn reals (instructions code n)) refl
   where
-    go : (v : Verdict) → verdict (instructions code n) ≡ v → Refused ≡ verdict (instructions code n)
-    go (Accepted k) e = r .complete k (sound (instructions code n) k e) ∙ sym e
+    go : (v : Verdict) → verdictIn reals (instructions code n) ≡ v → Refused ≡ verdictIn reals (instructions code n)
+    go (Accepted k) e = r .complete k (sound reals (instructions code n) k e) ∙ sym e
     go Refused e = sym e
+
+-- ---- with reals
+
+pub correct : (code : List ℕ) (n : ℕ) (v : Verdict) → v ≡ verdictIn true (instructions code n) → CorrectVerdict code n v
+correct code n v e = record {
+  sound = λ k f. full-accepts (instructions code n) k (sound true (instructions code n) k (sym e ∙ f));
+  complete = λ k a. e ∙ complete true (instructions code n) k (accepts-full (instructions code n) k a);
+}
 
 pub verdict-laws : VerdictLaws
 verdict-laws = record {
-  exact = λ c k. (sound c k, complete c k);
+  exact = λ c k. (λ e. full-accepts c k (sound true c k (full-verdict c ∙ e)), λ a. sym (full-verdict c) ∙ complete true c k (accepts-full c k a));
   unique = λ c j k a b. let e : j ∷ [] ≡ k ∷ [] = a .one (length c) (j ∷ []) (k ∷ []) (a .ended) (b .ended) in cc;
-  determined = determined;
+  determined = λ code n v r. determined true code n v (in-full r) ∙ full-verdict (instructions code n);
 }
+  where
+    in-full : {code : List ℕ} {n : ℕ} {v : Verdict} → CorrectVerdict code n v → CorrectVerdictIn true code n v
+    in-full {code} {n} r = record {
+      sound = λ k e. accepts-full (instructions code n) k (r .sound k e);
+      complete = λ k a. r .complete k (full-accepts (instructions code n) k a);
+    }

@@ -8,6 +8,7 @@ ghost use Rattle.code.specs.declared.Class.the-variants.{PushReal, Tick, Since,
 ghost use Rattle.code.specs.Instructions.{wordOf, instructionOf};
 ghost use Rattle.code.specs.private.Classes.{instrIn};
 ghost use Rattle.verifier.specs.Typing.{wellFormed};
+ghost use Rattle.verifier.specs.Profile.{wellFormedIn};
 ghost use Rattle.verifier.specs.private.Shapes.{elementTyped, withinBank, LeavesKind, ReplacesKind, ReplacesTwo};
 use code::Class;
 use memory::numbers;
@@ -159,4 +160,17 @@ pub fn known(w: u64, left: usize) -> bool
         Class::Match => match_kind(w) < kinds::NOT_TAKEN,
         Class::Unknown => false,
     }
+}
+
+// As `known`; in the profile without reals (reals false) an instruction that reads R is none.
+pub fn known_in(w: u64, left: usize, reals: bool) -> bool
+    ensures { λ r. ⌜ r ≡ wellFormedIn reals left (instructionOf w) ⌝ }
+{
+    if !known(w, left) {
+        return false;
+    }
+    if reals {
+        return true;
+    }
+    !code::reads_real(w)
 }

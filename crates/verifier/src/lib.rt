@@ -1,15 +1,16 @@
 // The verifier: one pass over the code, with the kinds of the values held as its state.
 ghost use mathlib.Core.Path.{_≡_};
-ghost use mathlib.Core.Bool.{Bool, cond};
+ghost use mathlib.Core.Bool.{Bool, true, cond};
 ghost use Prim.Native.Nat.{ℕ, _-_, _<_, _≤_};
 ghost use mathlib.Core.List.{List};
 ghost use lib.ListN.{length, getD};
-ghost use Rattle.code.specs.declared.Instr.the-variants.{Jump, JumpIf};
+ghost use Rattle.code.specs.declared.Instr.the-variants.{Jump, JumpIf, Unknown};
 ghost use Rattle.code.specs.Instructions.{wordOf, instructionOf, instructions};
 ghost use Rattle.verifier.specs.Accepts.{CorrectVerdict};
-ghost use Rattle.verifier.specs.Verdicts.{isAccepted, verdict};
+ghost use Rattle.verifier.specs.Verdicts.{isAccepted};
+ghost use Rattle.verifier.specs.Profile.{CorrectVerdictIn, verdictIn};
 ghost use Rattle.verifier.specs.private.Shapes.{rejected, holds, kindsOf, Canonical, ArrayHolds, stateOf, tableOf, Table, Blank};
-ghost use Rattle.verifier.specs.private.Pass.{Joins, Merges, Steps, Skips, verdictOf};
+ghost use Rattle.verifier.specs.private.Pass.{Joins, Merges, Steps, Skips, admits, verdictOf};
 
 mod kinds;
 mod packing;
@@ -84,7 +85,7 @@ fn jump(
     requires { ⌜ Table (length (now tops)) (now tops) (now lows) (now highs) ⌝ }
     ensures { λ r. ⌜ ((a : List ℕ) → ArrayHolds a held → ArrayHolds a (r .held)) ⌝ }
     ensures { λ r. ⌜ Table (length (now (tops .entry))) (now (tops .exit)) (now (lows .exit)) (now (highs .exit)) ⌝ }
-    ensures { λ r. ⌜ Steps (Jump (wordOf w)) (n - next) next (kindsOf held) (tableOf (now (tops .entry)) (now (lows .entry)) (now (highs .entry)))
+    ensures { λ r. ⌜ Steps true (Jump (wordOf w)) (n - next) next (kindsOf held) (tableOf (now (tops .entry)) (now (lows .entry)) (now (highs .entry)))
         (stateOf r) (tableOf (now (tops .exit)) (now (lows .exit)) (now (highs .exit))) ⌝ }
 {
     if !kinds::stays(w, n - next) {
@@ -114,7 +115,7 @@ fn fork(
     requires { ⌜ Table (length (now tops)) (now tops) (now lows) (now highs) ⌝ }
     ensures { λ r. ⌜ ArrayHolds (now (kinds .exit)) (r .held) ⌝ }
     ensures { λ r. ⌜ Table (length (now (tops .entry))) (now (tops .exit)) (now (lows .exit)) (now (highs .exit)) ⌝ }
-    ensures { λ r. ⌜ ((t : Bool) → Steps (JumpIf t (wordOf w)) (n - next) next (kindsOf held)
+    ensures { λ r. ⌜ ((t : Bool) → Steps true (JumpIf t (wordOf w)) (n - next) next (kindsOf held)
         (tableOf (now (tops .entry)) (now (lows .entry)) (now (highs .entry))) (stateOf r)
         (tableOf (now (tops .exit)) (now (lows .exit)) (now (highs .exit)))) ⌝ }
 {
@@ -156,7 +157,7 @@ fn step(
     requires { ⌜ Table (length (now tops)) (now tops) (now lows) (now highs) ⌝ }
     ensures { λ r. ⌜ ArrayHolds (now (kinds .exit)) (r .held) ⌝ }
     ensures { λ r. ⌜ Table (length (now (tops .entry))) (now (tops .exit)) (now (lows .exit)) (now (highs .exit)) ⌝ }
-    ensures { λ r. ⌜ Steps (instructionOf w) (n - next) next (kindsOf held) (tableOf (now (tops .entry)) (now (lows .entry)) (now (highs .entry)))
+    ensures { λ r. ⌜ Steps true (instructionOf w) (n - next) next (kindsOf held) (tableOf (now (tops .entry)) (now (lows .entry)) (now (highs .entry)))
         (stateOf r) (tableOf (now (tops .exit)) (now (lows .exit)) (now (highs .exit))) ⌝ }
 {
     match code::class_of(w) {
@@ -179,9 +180,9 @@ fn step(
 
 // From a place that nothing flows into, over instructions that are known, to one that jumps come to. Where it ends at another, there is
 // none, or an instruction on the way is not known.
-fn skipped(code: &[u8], n: usize, from: usize, tops: &[u8]) -> usize
+fn skipped(code: &[u8], n: usize, from: usize, tops: &[u8], reals: bool) -> usize
     requires { ⌜ (from ≤ n) × (n < length (now tops)) ⌝ }
-    ensures { λ r. ⌜ Skips (now (code .entry)) n (now (tops .entry)) from r ⌝ }
+    ensures { λ r. ⌜ Skips reals (now (code .entry)) n (now (tops .entry)) from r ⌝ }
 {
     let mut place = from;
     while tops[place] == 0 {
@@ -189,7 +190,7 @@ fn skipped(code: &[u8], n: usize, from: usize, tops: &[u8]) -> usize
             return place;
         }
         let w = code::fetch(code, place);
-        if !kinds::known(w, n - place - 1) {
+        if !kinds::known_in(w, n - place - 1, reals) {
             return place;
         }
         place += 1;
@@ -207,11 +208,33 @@ fn ended(held: Held) -> Verdict
     Verdict::Refused
 }
 
+// In the profile without reals (reals false) an instruction does not read R, and what is held after it is integers. A jump that leads to
+// its target alone is not asked: it leaves what was held.
+fn is_admitted(w: u64, held: Held, reals: bool) -> bool
+    requires { ⌜ Canonical held ⌝ }
+    ensures { λ r. ⌜ ((instructionOf w ≡ Unknown → ⊥) → r ≡ admits reals (instructionOf w) (kindsOf held)) ⌝ }
+{
+    if reals {
+        return true;
+    }
+    if code::reads_real(w) {
+        return false;
+    }
+    packing::all_integers(held)
+}
+
 // The pass over the first n instructions, with tables that have a place for each of them and for the end.
-fn checked(code: &[u8], n: usize, tops: &mut [u8], lows: &mut [u64], highs: &mut [u64]) -> Verdict
+fn checked(
+    code: &[u8],
+    n: usize,
+    tops: &mut [u8],
+    lows: &mut [u64],
+    highs: &mut [u64],
+    reals: bool,
+) -> Verdict
     requires { ⌜ (0 < n) × (n ≤ 2048) ⌝ }
     requires { ⌜ Blank n (now tops) (now lows) (now highs) ⌝ }
-    ensures { λ r. ⌜ CorrectVerdict (now (code .entry)) n r ⌝ }
+    ensures { λ r. ⌜ CorrectVerdictIn reals (now (code .entry)) n r ⌝ }
 {
     if code.len() / 8 < n {
         return Verdict::Refused;
@@ -232,7 +255,7 @@ fn checked(code: &[u8], n: usize, tops: &mut [u8], lows: &mut [u64], highs: &mut
         }
         held = flow.held;
         if flow.reach == 1 {
-            place = skipped(code, n, place, tops);
+            place = skipped(code, n, place, tops, reals);
             if tops[place] == 0 {
                 return Verdict::Refused;
             }
@@ -240,6 +263,9 @@ fn checked(code: &[u8], n: usize, tops: &mut [u8], lows: &mut [u64], highs: &mut
             packing::refill(&mut kinds, there);
             held = there;
             continue;
+        }
+        if !is_admitted(w, held, reals) {
+            return Verdict::Refused;
         }
         if !agrees(held, place, tops, lows, highs) {
             return Verdict::Refused;
@@ -250,108 +276,115 @@ fn checked(code: &[u8], n: usize, tops: &mut [u8], lows: &mut [u64], highs: &mut
 
 // A function for each size of tables: those of a size that is not wanted have no part in the frame. Short code gets short tables, since
 // clearing long ones would take longer than the pass.
-fn within_32(code: &[u8], n: usize) -> Verdict
+fn within_32(code: &[u8], n: usize, reals: bool) -> Verdict
     requires { ⌜ (0 < n) × (n < 32) ⌝ }
-    ensures { λ r. ⌜ CorrectVerdict (now (code .entry)) n r ⌝ }
+    ensures { λ r. ⌜ CorrectVerdictIn reals (now (code .entry)) n r ⌝ }
 {
     let mut tops = [0u8; 32];
     let mut lows = [0u64; 32];
     let mut highs = [0u64; 32];
-    checked(code, n, &mut tops, &mut lows, &mut highs)
+    checked(code, n, &mut tops, &mut lows, &mut highs, reals)
 }
 
-fn within_64(code: &[u8], n: usize) -> Verdict
+fn within_64(code: &[u8], n: usize, reals: bool) -> Verdict
     requires { ⌜ (0 < n) × (n < 64) ⌝ }
-    ensures { λ r. ⌜ CorrectVerdict (now (code .entry)) n r ⌝ }
+    ensures { λ r. ⌜ CorrectVerdictIn reals (now (code .entry)) n r ⌝ }
 {
     let mut tops = [0u8; 64];
     let mut lows = [0u64; 64];
     let mut highs = [0u64; 64];
-    checked(code, n, &mut tops, &mut lows, &mut highs)
+    checked(code, n, &mut tops, &mut lows, &mut highs, reals)
 }
 
-fn within_129(code: &[u8], n: usize) -> Verdict
+fn within_129(code: &[u8], n: usize, reals: bool) -> Verdict
     requires { ⌜ (0 < n) × (n < 129) ⌝ }
-    ensures { λ r. ⌜ CorrectVerdict (now (code .entry)) n r ⌝ }
+    ensures { λ r. ⌜ CorrectVerdictIn reals (now (code .entry)) n r ⌝ }
 {
     let mut tops = [0u8; 129];
     let mut lows = [0u64; 129];
     let mut highs = [0u64; 129];
-    checked(code, n, &mut tops, &mut lows, &mut highs)
+    checked(code, n, &mut tops, &mut lows, &mut highs, reals)
 }
 
-fn within_513(code: &[u8], n: usize) -> Verdict
+fn within_513(code: &[u8], n: usize, reals: bool) -> Verdict
     requires { ⌜ (0 < n) × (n < 513) ⌝ }
-    ensures { λ r. ⌜ CorrectVerdict (now (code .entry)) n r ⌝ }
+    ensures { λ r. ⌜ CorrectVerdictIn reals (now (code .entry)) n r ⌝ }
 {
     let mut tops = [0u8; 513];
     let mut lows = [0u64; 513];
     let mut highs = [0u64; 513];
-    checked(code, n, &mut tops, &mut lows, &mut highs)
+    checked(code, n, &mut tops, &mut lows, &mut highs, reals)
 }
 
-fn within_1025(code: &[u8], n: usize) -> Verdict
+fn within_1025(code: &[u8], n: usize, reals: bool) -> Verdict
     requires { ⌜ (0 < n) × (n < 1025) ⌝ }
-    ensures { λ r. ⌜ CorrectVerdict (now (code .entry)) n r ⌝ }
+    ensures { λ r. ⌜ CorrectVerdictIn reals (now (code .entry)) n r ⌝ }
 {
     let mut tops = [0u8; 1025];
     let mut lows = [0u64; 1025];
     let mut highs = [0u64; 1025];
-    checked(code, n, &mut tops, &mut lows, &mut highs)
+    checked(code, n, &mut tops, &mut lows, &mut highs, reals)
 }
 
-fn within_2049(code: &[u8], n: usize) -> Verdict
+fn within_2049(code: &[u8], n: usize, reals: bool) -> Verdict
     requires { ⌜ (0 < n) × (n < 2049) ⌝ }
-    ensures { λ r. ⌜ CorrectVerdict (now (code .entry)) n r ⌝ }
+    ensures { λ r. ⌜ CorrectVerdictIn reals (now (code .entry)) n r ⌝ }
 {
     let mut tops = [0u8; 2049];
     let mut lows = [0u64; 2049];
     let mut highs = [0u64; 2049];
-    checked(code, n, &mut tops, &mut lows, &mut highs)
+    checked(code, n, &mut tops, &mut lows, &mut highs, reals)
 }
 
 // Under 129 instructions, in a small frame. It and `long` have two callers each, so that they are not made a part of either.
-fn short(code: &[u8], n: usize) -> Verdict
+fn short(code: &[u8], n: usize, reals: bool) -> Verdict
     requires { ⌜ n < 129 ⌝ }
-    ensures { λ r. ⌜ CorrectVerdict (now (code .entry)) n r ⌝ }
+    ensures { λ r. ⌜ CorrectVerdictIn reals (now (code .entry)) n r ⌝ }
 {
     if n == 0 {
         return Verdict::Refused;
     }
     if n < 32 {
-        return within_32(code, n);
+        return within_32(code, n, reals);
     }
     if n < 64 {
-        return within_64(code, n);
+        return within_64(code, n, reals);
     }
-    within_129(code, n)
+    within_129(code, n, reals)
 }
 
-fn long(code: &[u8], n: usize) -> Verdict
+fn long(code: &[u8], n: usize, reals: bool) -> Verdict
     requires { ⌜ 0 < n ⌝ }
-    ensures { λ r. ⌜ CorrectVerdict (now (code .entry)) n r ⌝ }
+    ensures { λ r. ⌜ CorrectVerdictIn reals (now (code .entry)) n r ⌝ }
 {
     if n < 513 {
-        return within_513(code, n);
+        return within_513(code, n, reals);
     }
     if n < 1025 {
-        return within_1025(code, n);
+        return within_1025(code, n, reals);
     }
     if n < 2049 {
-        return within_2049(code, n);
+        return within_2049(code, n, reals);
     }
     Verdict::Refused
 }
 
 // The first n instructions of the code.
+pub fn check_in(code: &[u8], n: usize, reals: bool) -> Verdict
+    ensures { λ r. ⌜ r ≡ verdictIn reals (instructions (now (code .entry)) n) ⌝ }
+{
+    if n < 129 {
+        short(code, n, reals)
+    } else {
+        long(code, n, reals)
+    }
+}
+
+// The check of the full box.
 pub fn check(code: &[u8], n: usize) -> Verdict
     ensures { λ r. ⌜ CorrectVerdict (now (code .entry)) n r ⌝ }
 {
-    if n < 129 {
-        short(code, n)
-    } else {
-        long(code, n)
-    }
+    check_in(code, n, true)
 }
 
 fn is_accepted(verdict: Verdict) -> bool
@@ -364,12 +397,12 @@ fn is_accepted(verdict: Verdict) -> bool
 }
 
 // The same for a caller that does not ask for the kind.
-pub fn accepts(code: &[u8], n: usize) -> bool
-    ensures { λ r. ⌜ r ≡ isAccepted (verdict (instructions (now (code .entry)) n)) ⌝ }
+pub fn accepts_in(code: &[u8], n: usize, reals: bool) -> bool
+    ensures { λ r. ⌜ r ≡ isAccepted (verdictIn reals (instructions (now (code .entry)) n)) ⌝ }
 {
     if n < 129 {
-        is_accepted(short(code, n))
+        is_accepted(short(code, n, reals))
     } else {
-        is_accepted(long(code, n))
+        is_accepted(long(code, n, reals))
     }
 }

@@ -15,8 +15,8 @@ abbrev μ-loop : tie.MeasureT-loop
 loop-holds : tie.Need-loop-holds Inv-loop μ-loop
 loop-holds c = tt
 
-piece-end-requires : tie.Need-piece-end-requires Inv-loop μ-loop
-piece-end-requires c κs = omega arith
+find-requires : tie.Need-find-requires Inv-loop μ-loop
+find-requires c κs = omega arith
 
 sub-run-line : tie.Need-sub-run-line Inv-loop μ-loop
 sub-run-line c = search needs
@@ -49,7 +49,7 @@ every-line-spec =
     Inv-loop
     μ-loop
     loop-holds
-    piece-end-requires
+    find-requires
     sub-run-line
     part-run-line-start
     part-run-line-end

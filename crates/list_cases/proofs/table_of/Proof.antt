@@ -15,8 +15,8 @@ abbrev μ-loop : tie.MeasureT-loop
 loop-holds : tie.Need-loop-holds Inv-loop μ-loop
 loop-holds c = tt
 
-piece-end-requires : tie.Need-piece-end-requires Inv-loop μ-loop
-piece-end-requires c κs = omega arith
+find-requires : tie.Need-find-requires Inv-loop μ-loop
+find-requires c κs = omega arith
 
 push-requires : tie.Need-push-requires Inv-loop μ-loop
 push-requires c κs = tt
@@ -46,7 +46,7 @@ table-of-spec =
     Inv-loop
     μ-loop
     loop-holds
-    piece-end-requires
+    find-requires
     push-requires
     sub-push
     push-requires-2

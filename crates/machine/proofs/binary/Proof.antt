@@ -16,8 +16,8 @@ returns c = λ E.
     let a = c .before .before .args in
     let k = numberOf (a .w) in
     let d = wordOf (a .w) in
-    c .stuck-step .ensures ∙ stuck-anyway E (a .h) (a .left) (a .v) (ofBinary (binaryOf k)) d (zero-binary (binaryOf k) d) (short-binary E (a .h)
-    (a .left) (a .v) (binaryOf k) (c .before .if1 .taken))
+    c .stuck-step .ensures ∙ stuck-anyway (a .reals) E (a .h) (a .left) (a .v) (ofBinary (binaryOf k)) d (zero-binary (binaryOf k) d)
+    (short-binary (a .reals) E (a .h) (a .left) (a .v) (binaryOf k) (c .before .if1 .taken))
 
 word-of-requires : tie.Need-word-of-requires
 word-of-requires c κs = search needs
@@ -30,14 +30,14 @@ returns-2 c = λ E.
     let a = c .before .before .before .before .args in
     let k = numberOf (a .w) in
     let d = wordOf (a .w) in
-    c .stuck-step2 .ensures ∙ spoilt E (a .h) (a .left) (a .v) (ofBinary (binaryOf k)) d (zero-binary (binaryOf k) d)
+    c .stuck-step2 .ensures ∙ spoilt (a .reals) E (a .h) (a .left) (a .v) (ofBinary (binaryOf k)) d (zero-binary (binaryOf k) d)
     (c .before .before .word-of .ensures) (c .before .if2 .taken)
 
 number-of-requires : tie.Need-number-of-requires
 number-of-requires c κs = search needs
 
-binary-requires : tie.Need-binary-requires
-binary-requires c κs = search needs
+binary-in-requires : tie.Need-binary-in-requires
+binary-in-requires c κs = search needs
 
 outcome-step-requires : tie.Need-outcome-step-requires
 outcome-step-requires c κs = search needs
@@ -47,9 +47,10 @@ returns-3 c = λ E.
     let a = c .before .before .before .before .before .before .args in
     let k = numberOf (a .w) in
     let d = wordOf (a .w) in
-    unspoilt E (a .h) (a .left) (a .v) (ofBinary (binaryOf k)) d (c .before .before .before .before .word-of .ensures) (c .before .before .before .if2 .left)
-    (binary-made E (a .h) (a .left) (a .v) (binaryOf k) (c .before .before .before .before .before .if1 .left)
-    (rw (c .before .before .number-of .ensures) at (c .before .binary .ensures)) (c .outcome-step .ensures))
+    unspoilt (a .reals) E (a .h) (a .left) (a .v) (ofBinary (binaryOf k)) d (c .before .before .before .before .word-of .ensures)
+    (c .before .before .before .if2 .left)
+    (binary-made (a .reals) E (a .h) (a .left) (a .v) (binaryOf k) (c .before .before .before .before .before .if1 .left)
+    (rw (c .before .before .number-of .ensures) at (c .before .binary-in .ensures)) (c .outcome-step .ensures))
 
 pub binary-spec : {M : Type 1} → statement M
 binary-spec =
@@ -61,6 +62,6 @@ binary-spec =
     stuck-step-requires-2
     returns-2
     number-of-requires
-    binary-requires
+    binary-in-requires
     outcome-step-requires
     returns-3)

@@ -1,7 +1,10 @@
 -- `jump` meets its contract.
 use borrow.Author.Needs.{needs}
-use mathlib.Core.Path.{ap, _∙_}
+use mathlib.Core.Path.{refl, ap, _∙_}
+use Rattle.code.specs.declared.Instr.the-variants.{Jump}
+use Rattle.code.specs.Instructions.{wordOf}
 use Rattle.machine.specs.private.Steps.{skipStep}
+use Rattle.machine.proofs.Performs.{free}
 use Rattle.machine.proofs.jump.Statement.{statement}
 use Rattle.machine.proofs.jump.Tie as tie
 
@@ -12,7 +15,9 @@ skip-step-requires : tie.Need-skip-step-requires
 skip-step-requires c κs = search needs
 
 returns : tie.Need-returns
-returns c = λ E l r. c .skip-step .ensures ∙ ap (skipStep (c .before .before .args .h)) (c .before .word-of .ensures)
+returns c = λ b E l r.
+    let a = c .before .before .args in
+    c .skip-step .ensures ∙ ap (skipStep (a .h)) (c .before .word-of .ensures) ∙ free b E (a .h) l r (Jump (wordOf (a .w))) refl
 
 pub jump-spec : {M : Type 1} → statement M
 jump-spec = tie.close (tie.spec word-of-requires skip-step-requires returns)

@@ -19,8 +19,9 @@ returns c = λ t l.
     let a = c .before .before .before .args in
     let k = numberOf (a .w) in
     let d = wordOf (a .w) in
-    c .stuck-step .ensures ∙ stuck-anyway (memoryAt t (now (a .image))) (a .h) l (a .v) (indexed (bankNumbered k)) d (zero-indexed (bankNumbered k) d)
-    (short-indexed (memoryAt t (now (a .image))) (a .h) l (a .v) (bankNumbered k) (c .before .if1 .taken))
+    c .stuck-step .ensures
+    ∙ stuck-anyway (a .reals) (memoryAt t (now (a .image))) (a .h) l (a .v) (indexed (bankNumbered k)) d (zero-indexed (bankNumbered k) d)
+    (short-indexed (a .reals) (memoryAt t (now (a .image))) (a .h) l (a .v) (bankNumbered k) (c .before .if1 .taken))
 
 word-of-requires : tie.Need-word-of-requires
 word-of-requires c κs = search needs
@@ -33,7 +34,7 @@ returns-2 c = λ t l.
     let a = c .before .before .before .before .before .args in
     let k = numberOf (a .w) in
     let d = wordOf (a .w) in
-    c .stuck-step2 .ensures ∙ spoilt (memoryAt t (now (a .image))) (a .h) l (a .v) (indexed (bankNumbered k)) d (zero-indexed (bankNumbered k) d)
+    c .stuck-step2 .ensures ∙ spoilt (a .reals) (memoryAt t (now (a .image))) (a .h) l (a .v) (indexed (bankNumbered k)) d (zero-indexed (bankNumbered k) d)
     (c .before .before .word-of .ensures) (c .before .if2 .taken)
 
 number-of-requires : tie.Need-number-of-requires
@@ -45,8 +46,8 @@ bank-numbered-requires c κs = search needs
 enum-known-b : tie.Need-enum-known-b
 enum-known-b c = search needs
 
-read-indexed-requires : tie.Need-read-indexed-requires
-read-indexed-requires c κs = search needs
+read-indexed-in-requires : tie.Need-read-indexed-in-requires
+read-indexed-in-requires c κs = search needs
 
 outcome-step-requires : tie.Need-outcome-step-requires
 outcome-step-requires c κs = search needs
@@ -64,11 +65,11 @@ returns-3 c = λ t l.
     let d = wordOf (a .w) in
     let is = sym (rw (c .before .before .before .before .before .before .number-of .ensures) at
     (c .before .before .before .before .before .bank-numbered .ensures)) ∙ c .before .before .before .b .given .1 in
-    unspoilt (memoryAt t (now (a .image))) (a .h) l (a .v) (indexed (bankNumbered k)) d
+    unspoilt (a .reals) (memoryAt t (now (a .image))) (a .h) l (a .v) (indexed (bankNumbered k)) d
     (c .before .before .before .before .before .before .before .before .word-of .ensures)
     (c .before .before .before .before .before .before .before .if2 .left)
-    (indexed-made (memoryAt t (now (a .image))) (a .h) l (a .v) k (c .before .before .before .b .given .0 .0) is
-    (c .before .before .before .before .before .before .before .before .before .if1 .left) (c .before .read-indexed .ensures) (c .outcome-step .ensures))
+    (indexed-made (a .reals) (memoryAt t (now (a .image))) (a .h) l (a .v) k (c .before .before .before .b .given .0 .0) is
+    (c .before .before .before .before .before .before .before .before .before .if1 .left) (c .before .read-indexed-in .ensures) (c .outcome-step .ensures))
 
 returns-4 : tie.Need-returns-4
 returns-4 c = λ t l.
@@ -77,8 +78,9 @@ returns-4 c = λ t l.
     let d = wordOf (a .w) in
     let is = sym (rw (c .before .before .before .before .number-of .ensures) at
     (c .before .before .before .bank-numbered .ensures)) ∙ c .before .enum-told .given .1 in
-    c .stuck-step3 .ensures ∙ stuck-anyway (memoryAt t (now (a .image))) (a .h) l (a .v) (indexed (bankNumbered k)) d (zero-indexed (bankNumbered k) d)
-    (unknown-made (memoryAt t (now (a .image))) (a .h) l (a .v) (indexed (bankNumbered k) 0) (ap (λ (u : BankOf). indexed u 0) is))
+    c .stuck-step3 .ensures
+    ∙ stuck-anyway (a .reals) (memoryAt t (now (a .image))) (a .h) l (a .v) (indexed (bankNumbered k)) d (zero-indexed (bankNumbered k) d)
+    (unknown-made (a .reals) (memoryAt t (now (a .image))) (a .h) l (a .v) (indexed (bankNumbered k) 0) (ap (λ (u : BankOf). indexed u 0) is))
 
 pub load-indexed-spec : {M : Type 1} → statement M
 load-indexed-spec =
@@ -92,7 +94,7 @@ load-indexed-spec =
     number-of-requires
     bank-numbered-requires
     enum-known-b
-    read-indexed-requires
+    read-indexed-in-requires
     outcome-step-requires
     enum-told
     stuck-step-requires-3

@@ -4,7 +4,7 @@ use mathlib.Core.Path.{sym, _∙_, subst}
 use denote.Ref.{now}
 use lib.Dec.{T}
 use Rattle.memory.specs.Environment.{memoryAt}
-use Rattle.totals.specs.Totals.{matchOver}
+use Rattle.totals.specs.private.Admitted.{matchIn}
 use Rattle.code.specs.Instructions.{wordOf}
 use Rattle.machine.proofs.Visits.{within, past, nowhere}
 use Rattle.machine.proofs.match_over.Statement.{statement}
@@ -31,8 +31,8 @@ enum-known-b c = search needs
 is-good-requires : tie.Need-is-good-requires
 is-good-requires c κs = search needs
 
-matching-requires : tie.Need-matching-requires
-matching-requires c κs = subst T (sym (sym (c .before .is-good .ensures) ∙ c .if1 .taken)) tt
+matching-in-requires : tie.Need-matching-in-requires
+matching-in-requires c κs = subst T (sym (sym (c .before .is-good .ensures) ∙ c .if1 .taken)) tt
 
 returns : tie.Need-returns
 returns c = λ t.
@@ -47,9 +47,9 @@ returns c = λ t.
     let start = at-word-of .before .before in
     let a = start .args in
     let E = memoryAt t (now (a .image)) in
-    within (matchOver E (a .o) (a .v)) (wordOf (a .w)) (at-word-of .word-of .ensures) (at-range-bank .range-bank .ensures)
+    within (matchIn (a .reals) E (a .o) (a .v)) (wordOf (a .w)) (at-word-of .word-of .ensures) (at-range-bank .range-bank .ensures)
     (sym (at-range-first .range-first .ensures)) (sym (at-range-count .range-count .ensures))
-    (sym (at-bank-numbered .bank-numbered .ensures) ∙ at-b .b .given .1) (at-is-good .is-good .ensures) (at-if1 .if1 .taken) (c .matching .ensures t)
+    (sym (at-bank-numbered .bank-numbered .ensures) ∙ at-b .b .given .1) (at-is-good .is-good .ensures) (at-if1 .if1 .taken) (c .matching-in .ensures t)
 
 no-visit-requires : tie.Need-no-visit-requires
 no-visit-requires c κs = search needs
@@ -73,7 +73,7 @@ returns-2 c = λ t.
     let start = at-word-of .before .before in
     let a = start .args in
     let E = memoryAt t (now (a .image)) in
-    c .no-visit .ensures ∙ past (matchOver E (a .o) (a .v)) (wordOf (a .w)) (at-word-of .word-of .ensures) (at-range-bank .range-bank .ensures)
+    c .no-visit .ensures ∙ past (matchIn (a .reals) E (a .o) (a .v)) (wordOf (a .w)) (at-word-of .word-of .ensures) (at-range-bank .range-bank .ensures)
     (sym (at-range-first .range-first .ensures)) (sym (at-range-count .range-count .ensures))
     (sym (at-bank-numbered .bank-numbered .ensures) ∙ at-b .b .given .1)
     (at-is-good .is-good .ensures) (at-if1 .if1 .left)
@@ -87,7 +87,7 @@ returns-3 c = λ t.
     let start = at-word-of .before .before in
     let a = start .args in
     let E = memoryAt t (now (a .image)) in
-    c .no-visit2 .ensures ∙ nowhere (matchOver E (a .o) (a .v)) (wordOf (a .w)) (at-word-of .word-of .ensures) (at-range-bank .range-bank .ensures)
+    c .no-visit2 .ensures ∙ nowhere (matchIn (a .reals) E (a .o) (a .v)) (wordOf (a .w)) (at-word-of .word-of .ensures) (at-range-bank .range-bank .ensures)
     (sym (at-bank-numbered .bank-numbered .ensures) ∙ at-enum-told .enum-told .given .1)
 
 pub match-over-spec : {M : Type 1} → statement M
@@ -101,7 +101,7 @@ match-over-spec =
     bank-numbered-requires
     enum-known-b
     is-good-requires
-    matching-requires
+    matching-in-requires
     returns
     no-visit-requires
     enum-told

@@ -4,7 +4,7 @@ use mathlib.Core.Path.{sym, _∙_, subst}
 use denote.Ref.{now}
 use lib.Dec.{T}
 use Rattle.memory.specs.Environment.{memoryAt}
-use Rattle.totals.specs.Totals.{totalOver}
+use Rattle.totals.specs.private.Admitted.{totalIn}
 use Rattle.code.specs.Instructions.{wordOf}
 use Rattle.machine.proofs.Visits.{within, past, nowhere}
 use Rattle.machine.proofs.total_over.Statement.{statement}
@@ -31,8 +31,8 @@ enum-known-b c = search needs
 is-good-requires : tie.Need-is-good-requires
 is-good-requires c κs = search needs
 
-total-requires : tie.Need-total-requires
-total-requires c κs = subst T (sym (sym (c .before .is-good .ensures) ∙ c .if1 .taken)) tt
+total-in-requires : tie.Need-total-in-requires
+total-in-requires c κs = subst T (sym (sym (c .before .is-good .ensures) ∙ c .if1 .taken)) tt
 
 returns : tie.Need-returns
 returns c = λ t.
@@ -47,9 +47,9 @@ returns c = λ t.
     let start = at-word-of .before .before in
     let a = start .args in
     let E = memoryAt t (now (a .image)) in
-    within (totalOver E (a .o)) (wordOf (a .w)) (at-word-of .word-of .ensures) (at-range-bank .range-bank .ensures)
+    within (totalIn (a .reals) E (a .o)) (wordOf (a .w)) (at-word-of .word-of .ensures) (at-range-bank .range-bank .ensures)
     (sym (at-range-first .range-first .ensures)) (sym (at-range-count .range-count .ensures))
-    (sym (at-bank-numbered .bank-numbered .ensures) ∙ at-b .b .given .1) (at-is-good .is-good .ensures) (at-if1 .if1 .taken) (c .total .ensures t)
+    (sym (at-bank-numbered .bank-numbered .ensures) ∙ at-b .b .given .1) (at-is-good .is-good .ensures) (at-if1 .if1 .taken) (c .total-in .ensures t)
 
 no-visit-requires : tie.Need-no-visit-requires
 no-visit-requires c κs = search needs
@@ -73,7 +73,7 @@ returns-2 c = λ t.
     let start = at-word-of .before .before in
     let a = start .args in
     let E = memoryAt t (now (a .image)) in
-    c .no-visit .ensures ∙ past (totalOver E (a .o)) (wordOf (a .w)) (at-word-of .word-of .ensures) (at-range-bank .range-bank .ensures)
+    c .no-visit .ensures ∙ past (totalIn (a .reals) E (a .o)) (wordOf (a .w)) (at-word-of .word-of .ensures) (at-range-bank .range-bank .ensures)
     (sym (at-range-first .range-first .ensures)) (sym (at-range-count .range-count .ensures))
     (sym (at-bank-numbered .bank-numbered .ensures) ∙ at-b .b .given .1)
     (at-is-good .is-good .ensures) (at-if1 .if1 .left)
@@ -87,7 +87,7 @@ returns-3 c = λ t.
     let start = at-word-of .before .before in
     let a = start .args in
     let E = memoryAt t (now (a .image)) in
-    c .no-visit2 .ensures ∙ nowhere (totalOver E (a .o)) (wordOf (a .w)) (at-word-of .word-of .ensures) (at-range-bank .range-bank .ensures)
+    c .no-visit2 .ensures ∙ nowhere (totalIn (a .reals) E (a .o)) (wordOf (a .w)) (at-word-of .word-of .ensures) (at-range-bank .range-bank .ensures)
     (sym (at-bank-numbered .bank-numbered .ensures) ∙ at-enum-told .enum-told .given .1)
 
 pub total-over-spec : {M : Type 1} → statement M
@@ -101,7 +101,7 @@ total-over-spec =
     bank-numbered-requires
     enum-known-b
     is-good-requires
-    total-requires
+    total-in-requires
     returns
     no-visit-requires
     enum-told

@@ -17,8 +17,8 @@ returns c = λ E l.
     let a = c .before .before .args in
     let k = numberOf (a .w) in
     let d = wordOf (a .w) in
-    c .stuck-step .ensures ∙ stuck-anyway E (a .h) l (a .v) (ofUnary (unaryOf k)) d (zero-unary (unaryOf k) d) (short-unary E (a .h) l (a .v) (unaryOf k)
-    (c .before .if1 .taken))
+    c .stuck-step .ensures ∙ stuck-anyway (a .reals) E (a .h) l (a .v) (ofUnary (unaryOf k)) d (zero-unary (unaryOf k) d)
+    (short-unary (a .reals) E (a .h) l (a .v) (unaryOf k) (c .before .if1 .taken))
 
 word-of-requires : tie.Need-word-of-requires
 word-of-requires c κs = search needs
@@ -31,7 +31,7 @@ returns-2 c = λ E l.
     let a = c .before .before .before .before .args in
     let k = numberOf (a .w) in
     let d = wordOf (a .w) in
-    c .stuck-step2 .ensures ∙ spoilt E (a .h) l (a .v) (ofUnary (unaryOf k)) d (zero-unary (unaryOf k) d) (c .before .before .word-of .ensures)
+    c .stuck-step2 .ensures ∙ spoilt (a .reals) E (a .h) l (a .v) (ofUnary (unaryOf k)) d (zero-unary (unaryOf k) d) (c .before .before .word-of .ensures)
     (c .before .if2 .taken)
 
 number-of-requires : tie.Need-number-of-requires
@@ -43,8 +43,8 @@ unary-of-requires c κs = search needs
 enum-known-o : tie.Need-enum-known-o
 enum-known-o c = search needs
 
-unary-requires : tie.Need-unary-requires
-unary-requires c κs = search needs
+unary-in-requires : tie.Need-unary-in-requires
+unary-in-requires c κs = search needs
 
 outcome-step-requires : tie.Need-outcome-step-requires
 outcome-step-requires c κs = search needs
@@ -62,10 +62,10 @@ returns-3 c = λ E l.
     let d = wordOf (a .w) in
     let is = sym (rw (c .before .before .before .before .before .before .number-of .ensures) at
     (c .before .before .before .before .before .unary-of .ensures)) ∙ c .before .before .before .o .given .1 in
-    unspoilt E (a .h) l (a .v) (ofUnary (unaryOf k)) d (c .before .before .before .before .before .before .before .before .word-of .ensures)
+    unspoilt (a .reals) E (a .h) l (a .v) (ofUnary (unaryOf k)) d (c .before .before .before .before .before .before .before .before .word-of .ensures)
     (c .before .before .before .before .before .before .before .if2 .left)
-    (unary-made E (a .h) l (a .v) k (c .before .before .before .o .given .0 .0) is
-    (c .before .before .before .before .before .before .before .before .before .if1 .left) (c .before .unary .ensures) (c .outcome-step .ensures))
+    (unary-made (a .reals) E (a .h) l (a .v) k (c .before .before .before .o .given .0 .0) is
+    (c .before .before .before .before .before .before .before .before .before .if1 .left) (c .before .unary-in .ensures) (c .outcome-step .ensures))
 
 returns-4 : tie.Need-returns-4
 returns-4 c = λ E l.
@@ -74,8 +74,8 @@ returns-4 c = λ E l.
     let d = wordOf (a .w) in
     let is = sym (rw (c .before .before .before .before .number-of .ensures) at
     (c .before .before .before .unary-of .ensures)) ∙ c .before .enum-told .given .1 in
-    c .stuck-step3 .ensures ∙ stuck-anyway E (a .h) l (a .v) (ofUnary (unaryOf k)) d (zero-unary (unaryOf k) d)
-    (unknown-made E (a .h) l (a .v) (ofUnary (unaryOf k) 0) (ap (λ (u : UnaryOf). ofUnary u 0) is))
+    c .stuck-step3 .ensures ∙ stuck-anyway (a .reals) E (a .h) l (a .v) (ofUnary (unaryOf k)) d (zero-unary (unaryOf k) d)
+    (unknown-made (a .reals) E (a .h) l (a .v) (ofUnary (unaryOf k) 0) (ap (λ (u : UnaryOf). ofUnary u 0) is))
 
 pub unary-spec : {M : Type 1} → statement M
 unary-spec =
@@ -89,7 +89,7 @@ unary-spec =
     number-of-requires
     unary-of-requires
     enum-known-o
-    unary-requires
+    unary-in-requires
     outcome-step-requires
     enum-told
     stuck-step-requires-3

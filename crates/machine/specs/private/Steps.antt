@@ -1,8 +1,8 @@
 -- How the code works out `act` on an array of which the first h values are held. For the contracts of the private functions; a reader believes Machine alone.
 use mathlib.Core.Path.{_≡_}
-use mathlib.Core.Bool.{Bool, cond, Bool·beq}
+use mathlib.Core.Bool.{Bool, false, not, _||_, cond, Bool·beq}
 use mathlib.Core.List.{List}
-use Prim.Native.Nat.{ℕ, _+_, _-_}
+use Prim.Native.Nat.{ℕ, zero, suc, _+_, _-_}
 use lib.Dec.{eqb, ltb}
 use lib.IntN.{pos}
 use Rattle.values.specs.declared.Value.{Value}
@@ -13,6 +13,7 @@ use Rattle.values.specs.declared.Outcome.{Outcome}
 use Rattle.values.specs.declared.Outcome.the-variants as Outcome
 use Rattle.values.specs.Patterns.{signedOf}
 use Rattle.operators.specs.Operators.{unaryRule, sinceRule, binaryRule, truthRule}
+use Rattle.operators.specs.Reals.{realValue}
 use Rattle.memory.specs.declared.Bank.{Bank}
 use Rattle.memory.specs.Layout.{layoutOf}
 use Rattle.memory.specs.Environment.{Environment, indexedCell, memoryAt}
@@ -25,9 +26,11 @@ use Rattle.totals.specs.declared.tables.TotalOf.the-variants as TotalOf
 use Rattle.totals.specs.declared.tables.MatchOf.{MatchOf}
 use Rattle.totals.specs.declared.tables.MatchOf.the-variants as MatchOf
 use Rattle.totals.specs.Totals.{totalOver, matchOver, goodRange}
+use Rattle.totals.specs.private.Admitted.{noVisit, totalIn, matchIn}
 use Rattle.code.specs.declared.Instr.{Instr}
 use Rattle.code.specs.declared.Instr.the-variants.{PushInt, PushReal, Load, LoadIndexed, Unary, Binary, Jump, JumpIf, Tick, Since, Total, Match, Unknown}
 use Rattle.code.specs.Instructions.{rangeBank, rangeFirst, rangeCount}
+use Rattle.code.specs.Reals.{readsReal, makesReal, operandCount}
 use Rattle.machine.specs.declared.Ended.{Ended}
 use Rattle.machine.specs.declared.Ended.the-variants.{Done, Stopped, Stuck}
 use Rattle.machine.specs.declared.Ran.{Ran}
@@ -90,35 +93,46 @@ stepOf E (Total o b i n) h l r = outcomeStep h (totalOver E o b i n .result)
 stepOf E (Match o b i n) h l r = givenStep h 1 (matchOver E o r b i n .result)
 stepOf E Unknown h l r = stuckStep
 
+-- ---- with reals, or in the profile without them
+-- a real among the n values that are taken, at most two, of which l and r are the last
+abbrev pub realTaken : ℕ → Value → Value → Bool
+realTaken zero l r = false
+realTaken (suc zero) l r = realValue r
+realTaken (suc (suc n)) l r = realValue l || realValue r
+
+-- something real has a part in it
+abbrev pub realPart : Instr → Value → Value → Bool
+realPart i l r = readsReal i || (makesReal i || realTaken (operandCount i) l r)
+
+-- without reals such an instruction is stuck
+abbrev pub stepIn : Bool → Environment → Instr → ℕ → Value → Value → Step
+stepIn reals E i h l r = cond (reals || not (realPart i l r)) (stepOf E i h l r) stuckStep
+
 -- x is the step of an instruction that takes no value, wherever it is run; that takes the last value, r; that takes the two last
-abbrev pub IsStep : Instr → ℕ → Step → Type 0
-IsStep i h x = (E : Environment) (l r : Value) → x ≡ stepOf E i h l r
+abbrev pub IsStep : Bool → Instr → ℕ → Step → Type 0
+IsStep reals i h x = (E : Environment) (l r : Value) → x ≡ stepIn reals E i h l r
 
-abbrev pub IsStepOn : Instr → ℕ → Value → Step → Type 0
-IsStepOn i h r x = (E : Environment) (l : Value) → x ≡ stepOf E i h l r
+abbrev pub IsStepOn : Bool → Instr → ℕ → Value → Step → Type 0
+IsStepOn reals i h r x = (E : Environment) (l : Value) → x ≡ stepIn reals E i h l r
 
-abbrev pub IsStepOnBoth : Instr → ℕ → Value → Value → Step → Type 0
-IsStepOnBoth i h l r x = (E : Environment) → x ≡ stepOf E i h l r
+abbrev pub IsStepOnBoth : Bool → Instr → ℕ → Value → Value → Step → Type 0
+IsStepOnBoth reals i h l r x = (E : Environment) → x ≡ stepIn reals E i h l r
 
 -- the same in the memory m at any tick, for the two that read it
-abbrev pub IsLoad : List ℕ → Instr → ℕ → Step → Type 0
-IsLoad m i h x = (t : ℕ) (l r : Value) → x ≡ stepOf (memoryAt t m) i h l r
+abbrev pub IsLoad : Bool → List ℕ → Instr → ℕ → Step → Type 0
+IsLoad reals m i h x = (t : ℕ) (l r : Value) → x ≡ stepIn reals (memoryAt t m) i h l r
 
-abbrev pub IsLoadOn : List ℕ → Instr → ℕ → Value → Step → Type 0
-IsLoadOn m i h r x = (t : ℕ) (l : Value) → x ≡ stepOf (memoryAt t m) i h l r
+abbrev pub IsLoadOn : Bool → List ℕ → Instr → ℕ → Value → Step → Type 0
+IsLoadOn reals m i h r x = (t : ℕ) (l : Value) → x ≡ stepIn reals (memoryAt t m) i h l r
 
--- the same at the tick t in any memory, for the two that see it
+-- the same at the tick t in any memory, with reals or without, for the two that see it
 abbrev pub IsTick : ℕ → Instr → ℕ → Step → Type 0
-IsTick t i h x = (m : List ℕ) (l r : Value) → x ≡ stepOf (memoryAt t m) i h l r
+IsTick t i h x = (reals : Bool) (m : List ℕ) (l r : Value) → x ≡ stepIn reals (memoryAt t m) i h l r
 
 abbrev pub IsTickOn : ℕ → Instr → ℕ → Value → Step → Type 0
-IsTickOn t i h r x = (m : List ℕ) (l : Value) → x ≡ stepOf (memoryAt t m) i h l r
+IsTickOn t i h r x = (reals : Bool) (m : List ℕ) (l : Value) → x ≡ stepIn reals (memoryAt t m) i h l r
 
--- ---- what going over a range comes to
--- where there is no range, no operator or no value to compare with: no cell is begun, and the outcome makes a step that is stuck
-abbrev pub noVisit : Visited
-noVisit = record { result = Outcome.WrongKind; cells = 0 }
-
+-- ---- what going over a range comes to: where there is no range, no operator or no value to compare with, no visit
 abbrev pub bankVisit : (Bank → ℕ → ℕ → Visited) → BankOf → ℕ → ℕ → Visited
 bankVisit f (BankOf.Is b) i n = cond (goodRange b i n) (f b i n) noVisit
 bankVisit f BankOf.Nothing i n = noVisit
@@ -127,13 +141,13 @@ bankVisit f BankOf.Nothing i n = noVisit
 abbrev pub wordVisit : (Bank → ℕ → ℕ → Visited) → ℕ → Visited
 wordVisit f w = bankVisit f (bankNumbered (rangeBank w)) (rangeFirst w) (rangeCount w)
 
-abbrev pub totalVisit : Environment → TotalOf → ℕ → Visited
-totalVisit E (TotalOf.Is o) w = wordVisit (totalOver E o) w
-totalVisit E TotalOf.Nothing w = noVisit
+abbrev pub totalVisit : Bool → Environment → TotalOf → ℕ → Visited
+totalVisit reals E (TotalOf.Is o) w = wordVisit (totalIn reals E o) w
+totalVisit reals E TotalOf.Nothing w = noVisit
 
-abbrev pub matchVisit : Environment → MatchOf → Value → ℕ → Visited
-matchVisit E (MatchOf.Is o) v w = wordVisit (matchOver E o v) w
-matchVisit E MatchOf.Nothing v w = noVisit
+abbrev pub matchVisit : Bool → Environment → MatchOf → Value → ℕ → Visited
+matchVisit reals E (MatchOf.Is o) v w = wordVisit (matchIn reals E o v) w
+matchVisit reals E MatchOf.Nothing v w = noVisit
 
 -- with the last of h values
 abbrev pub onLast : ℕ → Visited → Visited

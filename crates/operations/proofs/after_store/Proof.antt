@@ -14,7 +14,9 @@ returns : tie.Need-returns
 returns c = rw (c .enum-told .given .1) refl
 
 returns-2 : tie.Need-returns-2
-returns-2 c = rw (c .before .s .given .1) refl
+returns-2 c =
+    let s = c .before .before .before in
+    rw (c .before .s .given .1) refl
 
 pub after-store-spec : {M : Type 1} → statement M
 after-store-spec = tie.close (tie.spec enum-told enum-known-s returns returns-2)

@@ -1,5 +1,6 @@
 -- `arrived` meets its contract: an element of the bank, or a fault of the index.
 use mathlib.Core.Path.{refl, sym, _∙_}
+use Rattle.operations.proofs.Runs.{storable-index}
 use Rattle.operations.proofs.Following.{stores}
 use borrow.Author.Needs.{needs}
 use Rattle.operations.proofs.arrived.Statement.{statement}
@@ -8,14 +9,14 @@ use Rattle.operations.proofs.arrived.Tie as tie
 enum-known-end : tie.Need-enum-known-end
 enum-known-end c = search needs
 
-position-requires : tie.Need-position-requires
-position-requires c κs = search needs
+position-in-requires : tie.Need-position-in-requires
+position-in-requires c κs = search needs
 
 enum-known-i : tie.Need-enum-known-i
 enum-known-i c = search needs
 
-store-requires : tie.Need-store-requires
-store-requires c κs = search needs
+store-in-requires : tie.Need-store-in-requires
+store-in-requires c κs = c .before .before .before .before .before .before .before .before .before .pre .1
 
 after-store-requires : tie.Need-after-store-requires
 after-store-requires c κs = search needs
@@ -39,27 +40,26 @@ same-length : tie.Need-same-length
 same-length c = search needs
 
 returns : tie.Need-returns
-returns c = rw (
-  c .before .before .before .before .before .before .before .before .before .before .end .given .1,
-  sym (c .before .before .before .before .before .before .before .before .position .ensures)
-      ∙ c .before .before .before .before .before .before .i .given .1,
-)
-    (stores (c .before .before .before .before .before .before .before .before .before .before .before .before .before .args .memory .now)
-    (c .before .before .before .before .before .before .before .before .before .before .before .before .before .args .bank)
-    (c .before .before .before .before .before .before .i .given .0 .0)
-    (c .before .before .before .before .before .before .before .before .before .before .before .before .before .args .v)
-    (c .before .before .before .before .before .before .before .before .before .before .before .before .before .args .count)
-    (c .before .before .before .store .ensures) (c .after-store .ensures))
+returns c =
+    let s = c .before .before .before .before .before .before .before .before .before .before .before .before .before in
+    let at-end = c .before .before .before .before .before .before .before .before .before .before .end in
+    let at-i = c .before .before .before .before .before .before .i in
+    let at = c .before .before .before .before .before .before .before .before .position-in .ensures
+    (storable-index (s .args .reals) (s .args .bank) (at-end .given .0 .0) (s .pre .0 (at-end .given .0 .0) (at-end .given .1))) in
+    rw (at-end .given .1, sym at ∙ at-i .given .1)
+    (stores (s .args .memory .now) (s .args .bank) (at-i .given .0 .0) (s .args .v) (s .args .count) (c .before .before .before .store-in .ensures)
+    (c .after-store .ensures))
 
 same-length-2 : tie.Need-same-length-2
 same-length-2 c = search needs
 
 returns-2 : tie.Need-returns-2
-returns-2 c = rw (
-  c .before .before .before .before .before .before .before .before .before .end .given .1,
-  sym (c .before .before .before .before .before .before .before .position .ensures) ∙ c .before .before .before .before .before .f .given .1,
-)
-    (c .before .before .flagged .ensures)
+returns-2 c =
+    let s = c .before .before .before .before .before .before .before .before .before .before .before .before in
+    let at-end = c .before .before .before .before .before .before .before .before .before .end in
+    let at = c .before .before .before .before .before .before .before .position-in .ensures
+    (storable-index (s .args .reals) (s .args .bank) (at-end .given .0 .0) (s .pre .0 (at-end .given .0 .0) (at-end .given .1))) in
+    rw (at-end .given .1, sym at ∙ c .before .before .before .before .before .f .given .1) (c .before .before .flagged .ensures)
 
 same-length-3 : tie.Need-same-length-3
 same-length-3 c = search needs
@@ -75,9 +75,9 @@ arrived-spec =
     tie.close
     (tie.spec
     enum-known-end
-    position-requires
+    position-in-requires
     enum-known-i
-    store-requires
+    store-in-requires
     after-store-requires
     enum-known-f
     flagged-requires

@@ -1,23 +1,17 @@
--- `check` meets its contract: the verdict is right.
-use Rattle.operations.proofs.Verdicts.{checked}
+-- `check` meets its contract: with reals it is the full box's.
+use mathlib.Core.Path.{_∙_}
+use Rattle.operations.proofs.Full.{full-check}
 use borrow.Author.Needs.{needs}
 use Rattle.operations.proofs.check.Statement.{statement}
 use Rattle.operations.proofs.check.Tie as tie
 
-check-requires : tie.Need-check-requires
-check-requires c κs = search needs
-
-enum-told : tie.Need-enum-told
-enum-told c = search needs
-
-enum-told-2 : tie.Need-enum-told-2
-enum-told-2 c = search needs
+check-in-requires : tie.Need-check-in-requires
+check-in-requires c κs = search needs
 
 returns : tie.Need-returns
-returns c = checked (c .before .before .check .ensures) (c .enum-told .given .1)
-
-returns-2 : tie.Need-returns-2
-returns-2 c = checked (c .before .before .check .ensures) (c .enum-told2 .given .1)
+returns c =
+    let s = c .before .before in
+    c .check-in .ensures ∙ full-check (s .args .code .now) (s .args .n)
 
 pub check-spec : {M : Type 1} → statement M
-check-spec = tie.close (tie.spec check-requires enum-told enum-told-2 returns returns-2)
+check-spec = tie.close (tie.spec check-in-requires returns)

@@ -1,7 +1,8 @@
 -- `finish` meets its contract, by the end of the run and the element.
 use mathlib.Core.Path.{refl}
 use native.Mathlib.Omega.{arith}
-use Rattle.operations.proofs.Following.{few-index, given-finite, stores, to-cell, by-index}
+use Rattle.operations.proofs.Runs.{given-finite}
+use Rattle.operations.proofs.Following.{few-index, stores, to-cell, by-index}
 use borrow.Author.Needs.{needs}
 use Rattle.operations.proofs.finish.Statement.{statement}
 use Rattle.operations.proofs.finish.Tie as tie
@@ -12,8 +13,10 @@ enum-known-end c = search needs
 enum-known-element : tie.Need-enum-known-element
 enum-known-element c = search needs
 
-store-requires : tie.Need-store-requires
-store-requires c κs = search needs
+store-in-requires : tie.Need-store-in-requires
+store-in-requires c κs =
+    let at-end = c .before .before .before .before .before .end in
+    c .before .before .before .before .before .before .before .before .before .pre .3 (at-end .given .0 .0) (at-end .given .1)
 
 after-store-requires : tie.Need-after-store-requires
 after-store-requires c κs = search needs
@@ -22,12 +25,14 @@ enum-known-element-2 : tie.Need-enum-known-element-2
 enum-known-element-2 c = search needs
 
 to-element-requires : tie.Need-to-element-requires
-to-element-requires c κs = (
-  few-index (c .before .before .before .before .before .before .before .before .before .pre .0)
-      (c .before .before .element2 .given .1),
-  omega (arith, c .before .before .before .before .before .before .before .before .before .pre .1),
-  given-finite (c .before .before .before .before .before .before .before .before .before .pre .2) (c .before .before .before .before .before .end .given .1),
-)
+to-element-requires c κs =
+    let s = c .before .before .before .before .before .before .before .before .before in
+    let at-end = c .before .before .before .before .before .end in (
+      few-index (s .pre .0) (c .before .before .element2 .given .1),
+      omega (arith, s .pre .1),
+      given-finite (s .pre .2) (at-end .given .1),
+      s .pre .3 (at-end .given .0 .0) (at-end .given .1),
+    )
 
 enum-known-end-2 : tie.Need-enum-known-end-2
 enum-known-end-2 c = search needs
@@ -42,37 +47,27 @@ same-length : tie.Need-same-length
 same-length c = search needs
 
 returns : tie.Need-returns
-returns c = rw (c .before .before .before .before .before .before .before .before .before .end .given .1)
-    (to-cell (c .before .before .before .before .before .before .before .before .before .before .before .before .before .args .tick)
-    (c .before .before .before .before .before .before .before .before .before .before .before .before .before .args .index .now)
-    (c .before .before .before .before .before .before .before .before .before .before .before .before .before .args .memory .now)
-    (c .before .before .before .before .before .before .before .before .before .before .before .before .before .args .bank)
-    (c .before .before .before .before .before .before .before .before .before .before .before .before .before .args .element)
-    (c .before .before .before .before .before .before .before .before .before .end .given .0 .0)
-    (c .before .before .before .before .before .before .before .before .before .before .before .before .before .args .ran .count)
-    (given-finite (c .before .before .before .before .before .before .before .before .before .before .before .before .before .pre .2)
-    (c .before .before .before .before .before .before .before .before .before .end .given .1))
-    (c .before .before .before .before .before .before .element .given .1)
-    (stores (c .before .before .before .before .before .before .before .before .before .before .before .before .before .args .memory .now)
-    (c .before .before .before .before .before .before .before .before .before .before .before .before .before .args .bank)
-    (c .before .before .before .before .before .before .element .given .0 .0)
-    (c .before .before .before .before .before .before .before .before .before .end .given .0 .0)
-    (c .before .before .before .before .before .before .before .before .before .before .before .before .before .args .ran .count)
-    (c .before .before .before .store .ensures) (c .after-store .ensures)))
+returns c =
+    let s = c .before .before .before .before .before .before .before .before .before .before .before .before .before in
+    let at-end = c .before .before .before .before .before .before .before .before .before .end in
+    let at-element = c .before .before .before .before .before .before .element in
+    rw (at-end .given .1)
+    (to-cell (s .args .reals) (s .args .tick) (s .args .index .now) (s .args .memory .now) (s .args .bank) (s .args .element) (at-end .given .0 .0)
+    (s .args .ran .count) (given-finite (s .pre .2) (at-end .given .1)) (at-element .given .1)
+    (stores (s .args .memory .now) (s .args .bank) (at-element .given .0 .0) (at-end .given .0 .0) (s .args .ran .count)
+    (c .before .before .before .store-in .ensures)
+    (c .after-store .ensures)))
 
 same-length-2 : tie.Need-same-length-2
 same-length-2 c = search needs
 
 returns-2 : tie.Need-returns-2
-returns-2 c = rw (c .before .before .before .before .before .before .before .before .end .given .1)
-    (by-index (c .before .before .before .before .before .before .before .before .before .before .before .before .args .tick)
-    (c .before .before .before .before .before .before .before .before .before .before .before .before .args .index .now)
-    (c .before .before .before .before .before .before .before .before .before .before .before .before .args .memory .now)
-    (c .before .before .before .before .before .before .before .before .before .before .before .before .args .bank)
-    (c .before .before .before .before .before .before .before .before .before .before .before .before .args .element)
-    (c .before .before .before .before .before .before .before .before .end .given .0 .0)
-    (c .before .before .before .before .before .before .before .before .before .before .before .before .args .ran .count)
-    (c .before .before .before .before .before .element2 .given .1) (c .before .before .to-element .ensures))
+returns-2 c =
+    let s = c .before .before .before .before .before .before .before .before .before .before .before .before in
+    let at-end = c .before .before .before .before .before .before .before .before .end in
+    rw (at-end .given .1)
+    (by-index (s .args .reals) (s .args .tick) (s .args .index .now) (s .args .memory .now) (s .args .bank) (s .args .element) (at-end .given .0 .0)
+    (s .args .ran .count) (c .before .before .before .before .before .element2 .given .1) (c .before .before .to-element .ensures))
 
 same-length-3 : tie.Need-same-length-3
 same-length-3 c = search needs
@@ -89,7 +84,7 @@ finish-spec =
     (tie.spec
     enum-known-end
     enum-known-element
-    store-requires
+    store-in-requires
     after-store-requires
     enum-known-element-2
     to-element-requires

@@ -6,7 +6,7 @@ use mir.ValLaws.{toZ-ofZ}
 use Rattle.values.specs.declared.Value.the-variants.{Int}
 use Rattle.values.proofs.patterns.Exponents.{no-nan}
 use Rattle.memory.specs.Store.{isFinite}
-use Rattle.operations.proofs.Giving.{integer, real}
+use Rattle.operations.proofs.Halves.{integer, real}
 use borrow.Author.Needs.{needs}
 use Rattle.operations.proofs.given.Statement.{statement}
 use Rattle.operations.proofs.given.Tie as tie
@@ -16,16 +16,22 @@ from-pattern-requires c κs = search needs
 
 returns : tie.Need-returns
 returns c =
-    let z = c .from-pattern .result in
+    let s = c .before .before in
+    let at-from-pattern = c .from-pattern in
+    let z = at-from-pattern .result in
     let F : SFits w32 z = search needs in
-    ap Int (toZ-ofZ w32 z F) ∙ ap Int (c .from-pattern .ensures) ∙ sym
+    ap Int (toZ-ofZ w32 z F) ∙ ap Int (at-from-pattern .ensures) ∙ sym
     (integer (c .before .before .args .kind) (c .before .before .args .bits) (c .before .if1 .taken))
 
 float-from-bits-t5 : tie.Need-float-from-bits-t5
-float-from-bits-t5 c = no-nan (c .before .args .bits) (ap isFinite (sym (real (c .before .args .kind) (c .before .args .bits) (c .if1 .left))) ∙ c .before .pre)
+float-from-bits-t5 c =
+    let s = c .before in
+    no-nan (c .before .args .bits) (ap isFinite (sym (real (c .before .args .kind) (c .before .args .bits) (c .if1 .left))) ∙ c .before .pre)
 
 returns-2 : tie.Need-returns-2
-returns-2 c = sym (real (c .before .args .kind) (c .before .args .bits) (c .if1 .left))
+returns-2 c =
+    let s = c .before in
+    sym (real (c .before .args .kind) (c .before .args .bits) (c .if1 .left))
 
 pub given-spec : {M : Type 1} → statement M
 given-spec = tie.close (tie.spec from-pattern-requires returns float-from-bits-t5 returns-2)

@@ -9,14 +9,14 @@ enum-told c = search needs
 enum-known-element : tie.Need-enum-known-element
 enum-known-element c = search needs
 
-accepts-requires : tie.Need-accepts-requires
-accepts-requires c κs = search needs
+accepts-in-requires : tie.Need-accepts-in-requires
+accepts-in-requires c κs = search needs
 
 returns : tie.Need-returns
 returns c = search needs
 
 returns-2 : tie.Need-returns-2
-returns-2 c = rw (c .before .before .element .given .1) (c .accepts .ensures)
+returns-2 c = rw (c .before .before .element .given .1) (c .accepts-in .ensures)
 
 pub index-passes-spec : {M : Type 1} → statement M
-index-passes-spec = tie.close (tie.spec enum-told enum-known-element accepts-requires returns returns-2)
+index-passes-spec = tie.close (tie.spec enum-told enum-known-element accepts-in-requires returns returns-2)

@@ -11,8 +11,8 @@ use Rattle.operators.proofs.index.Tie as tie
 enum-known-v : tie.Need-enum-known-v
 enum-known-v c = search needs
 
-element-below-requires : tie.Need-element-below-requires
-element-below-requires c κs = search needs
+index-requires : tie.Need-index-requires
+index-requires c κs = search needs
 
 enum-known-v-2 : tie.Need-enum-known-v-2
 enum-known-v-2 c = search needs
@@ -33,7 +33,7 @@ returns-2 : tie.Need-returns-2
 returns-2 c =
     let z = c .before .before .v .given in
     let F : SFits w32 (z .0 .0) = search needs in
-    rw (z .1) (on-int (elementBelow _) F (c .element-below .ensures))
+    rw (z .1) (on-int (elementBelow _) F (c .index .ensures))
 
 returns-3 : tie.Need-returns-3
 returns-3 c =
@@ -46,7 +46,7 @@ index-spec =
     tie.close
     (tie.spec
     enum-known-v
-    element-below-requires
+    index-requires
     enum-known-v-2
     returns
     truncate-requires

@@ -1,26 +1,14 @@
--- `verifier::check` meets its contract: short code or long.
-use native.Mathlib.Omega.{arith}
+-- `verifier::check` meets its contract: the check with reals.
 use borrow.Author.Needs.{needs}
+use Rattle.verifier.proofs.Verdicts.{correct}
 use Rattle.verifier.proofs.check.Statement.{statement}
 use Rattle.verifier.proofs.check.Tie as tie
 
-short-requires : tie.Need-short-requires
-short-requires c κs = search needs
-
-long-requires : tie.Need-long-requires
-long-requires c κs = omega arith
+check-in-requires : tie.Need-check-in-requires
+check-in-requires c κs = search needs
 
 returns : tie.Need-returns
-returns c = search needs
-
-returns-2 : tie.Need-returns-2
-returns-2 c = search needs
+returns c = correct _ _ _ (c .check-in .ensures)
 
 pub check-spec : {M : Type 1} → statement M
-check-spec =
-    tie.close
-    (tie.spec
-    short-requires
-    long-requires
-    returns
-    returns-2)
+check-spec = tie.close (tie.spec check-in-requires returns)

@@ -1,6 +1,6 @@
 -- Which instructions are known: those that act on two integers, apart from jumps.
 use mathlib.Core.Path.{_≡_, refl, sym, ap, _∙_}
-use mathlib.Core.Bool.{Bool, true, false, cond}
+use mathlib.Core.Bool.{Bool, true, false, not, cond}
 use mathlib.Core.List.{[], _∷_}
 use Prim.Native.Nat.{ℕ}
 use native.Mathlib.Omega.{arith}
@@ -15,10 +15,13 @@ use Rattle.code.specs.declared.Instr.{Instr}
 use Rattle.code.specs.declared.Instr.the-variants.{PushInt, PushReal, Load, LoadIndexed, Unary, Binary, Jump, JumpIf, Tick, Since, Total, Match, Unknown}
 use Rattle.code.specs.declared.Class.{Class}
 use Rattle.code.specs.Instructions.{opcodeOf, instructionOf}
+use Rattle.code.specs.Reals.{readsReal}
 use Rattle.code.specs.private.Classes.{classOf, instrIn}
 use Rattle.code.proofs.Page.{number-class}
 use Rattle.verifier.specs.Typing.{Shape, illTyped, next, moveOf, wellFormed}
+use Rattle.verifier.specs.Profile.{wellFormedIn}
 use Rattle.verifier.specs.private.Shapes.{LeavesKind, ReplacesKind, ReplacesTwo}
+use Rattle.verifier.proofs.Moves.{unknown-not}
 
 abbrev two : Shape
 two = Int ∷ (Int ∷ [])
@@ -84,3 +87,19 @@ module _ (n : ℕ) {c : Class} (k : Class) (e : c ≡ classOf (opcodeOf n)) (q :
 
   pub known-by : (m : ℕ) {r : Bool} → r ≡ wellFormed m (instrIn k n) → r ≡ wellFormed m (instructionOf n)
   known-by m h = h ∙ ap (wellFormed m) (sym in-class)
+
+-- ---- with reals or without, where the code finds b of an instruction
+
+module _ (reals : Bool) (m : ℕ) (i : Instr) {b : Bool} (e : b ≡ wellFormed m i) where
+  pub never-known : b ≡ false → false ≡ wellFormedIn reals m i
+  never-known f = by reals
+    where
+      by : (t : Bool) → false ≡ wellFormedIn t m i
+      by true = sym f ∙ e
+      by false = rw (sym e ∙ f)
+
+  pub known-with : reals ≡ true → b ≡ true → true ≡ wellFormedIn reals m i
+  known-with r f = rw r (sym f ∙ e)
+
+  pub known-without : {x : Bool} → reals ≡ false → b ≡ true → ((i ≡ Unknown → ⊥) → x ≡ readsReal i) → not x ≡ wellFormedIn reals m i
+  known-without r f says = rw (r, sym e ∙ f) (ap not (says (unknown-not m i (sym e ∙ f))))

@@ -24,7 +24,7 @@ returns-3 : tie.Need-returns-3
 returns-3 c = search needs
 
 returns-4 : tie.Need-returns-4
-returns-4 c = too-many _ _ (omega arith)
+returns-4 c = too-many _ _ _ (omega arith)
 
 pub long-spec : {M : Type 1} → statement M
 long-spec =

@@ -6,7 +6,7 @@ use Rattle.verifier.proofs.short.Statement.{statement}
 use Rattle.verifier.proofs.short.Tie as tie
 
 returns : tie.Need-returns
-returns c = too-few _ _ (c .if1 .taken)
+returns c = too-few _ _ _ (c .if1 .taken)
 
 within-32-requires : tie.Need-within-32-requires
 within-32-requires c κs = (omega arith, omega arith)

@@ -10,10 +10,10 @@ use Rattle.verifier.proofs.skipped.Statement.{statement}
 use Rattle.verifier.proofs.skipped.Tie as tie
 
 abbrev Inv-loop : tie.InvT-loop
-Inv-loop code n from tops place₀ place = Skipping code n tops from place
+Inv-loop code n from tops reals place₀ place = Skipping reals code n tops from place
 
 abbrev μ-loop : tie.MeasureT-loop
-μ-loop code n from tops place₀ place = n - place
+μ-loop code n from tops reals place₀ place = n - place
 
 loop-holds : tie.Need-loop-holds Inv-loop μ-loop
 loop-holds c = skipping-none (c .before .before .pre .0)
@@ -27,21 +27,22 @@ returns c = record { way = c .before .before .before .loop .inv; last = λ e l. 
 fetch-requires : tie.Need-fetch-requires Inv-loop μ-loop
 fetch-requires c κs = search needs
 
-sub-known : tie.Need-sub-known Inv-loop μ-loop
-sub-known c = omega arith
+sub-known-in : tie.Need-sub-known-in Inv-loop μ-loop
+sub-known-in c = omega arith
 
-sub-known-2 : tie.Need-sub-known-2 Inv-loop μ-loop
-sub-known-2 c = omega arith
+sub-known-in-2 : tie.Need-sub-known-in-2 Inv-loop μ-loop
+sub-known-in-2 c = omega arith
 
-known-requires : tie.Need-known-requires Inv-loop μ-loop
-known-requires c κs = search needs
+known-in-requires : tie.Need-known-in-requires Inv-loop μ-loop
+known-in-requires c κs = search needs
 
 returns-2 : tie.Need-returns-2 Inv-loop μ-loop
 returns-2 c =
+    let start = c .before .before .before .before .before .before .before .before .before in
     record {
       way = c .before .before .before .before .before .before .loop .inv;
-      last =
-          λ e l. sym (stands-at _ _ _ (c .before .before .fetch .ensures) (c .before .known .ensures)) ∙ not-true _ (c .if3 .taken);
+      last = λ e l. sym (stands-at (start .args .reals) _ (start .args .n) _ (c .before .before .fetch .ensures) (c .before .known-in .ensures))
+          ∙ not-true _ (c .if3 .taken);
     }
 
 add-place : tie.Need-add-place Inv-loop μ-loop
@@ -52,8 +53,9 @@ loop-less c = omega arith
 
 loop-again : tie.Need-loop-again Inv-loop μ-loop
 loop-again c =
+    let start = c .before .before .before .before .before .before .before .before .before in
     skipping-more (c .before .before .before .before .before .before .loop .inv) (omega arith) (c .before .before .before .before .if1 .taken)
-    (sym (stands-at _ _ _ (c .before .before .fetch .ensures) (c .before .known .ensures)) ∙ not-false _ (c .if3 .left))
+    (sym (stands-at (start .args .reals) _ (start .args .n) _ (c .before .before .fetch .ensures) (c .before .known-in .ensures)) ∙ not-false _ (c .if3 .left))
 
 returns-3 : tie.Need-returns-3 Inv-loop μ-loop
 returns-3 c = record { way = c .before .before .loop .inv; last = λ e l. absurd (c .if1 .left e) }
@@ -68,9 +70,9 @@ skipped-spec =
     shared-slice-read-if1
     returns
     fetch-requires
-    sub-known
-    sub-known-2
-    known-requires
+    sub-known-in
+    sub-known-in-2
+    known-in-requires
     returns-2
     add-place
     loop-less

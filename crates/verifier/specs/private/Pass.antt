@@ -1,12 +1,15 @@
 -- What a step of the pass does to what it knows, whatever the arrays: for the contracts of private functions.
 use mathlib.Core.Path.{_≡_}
-use mathlib.Core.Bool.{Bool, true, false}
-use mathlib.Core.List.{List, [], _∷_}
+use mathlib.Core.Bool.{Bool, true, false, not, _&&_}
+use mathlib.Core.List.{List}
 use Prim.Native.Nat.{ℕ, suc, _+_, _-_, _≤_, _<_}
 use lib.ListN.{getD}
 use Rattle.code.specs.declared.Instr.{Instr}
 use Rattle.code.specs.Instructions.{decodeAt}
-use Rattle.verifier.specs.Typing.{Shape, illTyped, next, jump, fork, moveOf, wellFormed}
+use Rattle.code.specs.Reals.{readsReal}
+use Rattle.code.specs.declared.Instr.the-variants.{Jump}
+use Rattle.verifier.specs.Typing.{Shape, illTyped, next, jump, fork}
+use Rattle.verifier.specs.Profile.{allInt, moveIn, wellFormedIn}
 pub use Rattle.verifier.specs.Verdicts.{verdictOf}
 use Rattle.verifier.specs.private.Shapes.{State, rejected, unreached, holds}
 
@@ -28,25 +31,32 @@ pub data Merges (s : Shape) (t : ℕ) (before : ℕ → State) : Bool → (ℕ �
   clashes : {x : Shape} → before t ≡ holds x → (s ≡ x → ⊥) → Merges s t before false before
 
 -- from the kinds s held at a place to what flows from it into the next, p, where k instructions follow
-pub data Steps (i : Instr) (k p : ℕ) (s : Shape) (before : ℕ → State) : State → (ℕ → State) → Type 0 where
-  stuck : moveOf i s ≡ illTyped → Steps i k p s before rejected before
-  strays : wellFormed k i ≡ false → Steps i k p s before rejected before
-  goes : {r : Shape} → moveOf i s ≡ next r → Steps i k p s before (holds r) before
-  leaps : {r : Shape} {d : ℕ} {after : ℕ → State} → wellFormed k i ≡ true → moveOf i s ≡ jump d r → Merges r (p + d) before true after
-      → Steps i k p s before unreached after
-  forks : {r : Shape} {d : ℕ} {after : ℕ → State} → wellFormed k i ≡ true → moveOf i s ≡ fork d r → Merges r (p + d) before true after
-      → Steps i k p s before (holds r) after
-  leap-clash : {r : Shape} {d : ℕ} {after : ℕ → State} → moveOf i s ≡ jump d r → Merges r (p + d) before false after → Steps i k p s before rejected after
-  fork-clash : {r : Shape} {d : ℕ} {after : ℕ → State} → moveOf i s ≡ fork d r → Merges r (p + d) before false after → Steps i k p s before rejected after
+pub data Steps (reals : Bool) (i : Instr) (k p : ℕ) (s : Shape) (before : ℕ → State) : State → (ℕ → State) → Type 0 where
+  stuck : moveIn reals i s ≡ illTyped → Steps reals i k p s before rejected before
+  strays : wellFormedIn reals k i ≡ false → Steps reals i k p s before rejected before
+  goes : {r : Shape} → wellFormedIn reals k i ≡ true → moveIn reals i s ≡ next r → Steps reals i k p s before (holds r) before
+  leaps : {d : ℕ} {after : ℕ → State} → i ≡ Jump d → wellFormedIn reals k i ≡ true → moveIn reals i s ≡ jump d s → Merges s (p + d) before true after
+      → Steps reals i k p s before unreached after
+  forks : {r : Shape} {d : ℕ} {after : ℕ → State} → wellFormedIn reals k i ≡ true → moveIn reals i s ≡ fork d r → Merges r (p + d) before true after
+      → Steps reals i k p s before (holds r) after
+  leap-clash : {r : Shape} {d : ℕ} {after : ℕ → State} → moveIn reals i s ≡ jump d r → Merges r (p + d) before false after
+      → Steps reals i k p s before rejected after
+  fork-clash : {r : Shape} {d : ℕ} {after : ℕ → State} → moveIn reals i s ≡ fork d r → Merges r (p + d) before false after
+      → Steps reals i k p s before rejected after
+
+-- an instruction that is known, and leaves the kinds s: in the profile it does not read R, and they are integers
+abbrev pub admits : Bool → Instr → Shape → Bool
+admits true i s = true
+admits false i s = not (readsReal i) && allInt s
 
 -- from a place p that nothing flows into to r: jumps come to none between them, and each instruction is known
-pub record Skipping (code : List ℕ) (n : ℕ) (tops : List ℕ) (p r : ℕ) : Type 0 where
+pub record Skipping (reals : Bool) (code : List ℕ) (n : ℕ) (tops : List ℕ) (p r : ℕ) : Type 0 where
   pub onward : p ≤ r
   pub within : r ≤ n
   pub none : (q : ℕ) → p ≤ q → q < r → getD tops q 0 ≡ 0
-  pub each : (q : ℕ) → p ≤ q → q < r → wellFormed (n - suc q) (decodeAt code q) ≡ true
+  pub each : (q : ℕ) → p ≤ q → q < r → wellFormedIn reals (n - suc q) (decodeAt code q) ≡ true
 
 -- and r has a jump, or is the end, or its instruction is not known
-pub record Skips (code : List ℕ) (n : ℕ) (tops : List ℕ) (p r : ℕ) : Type 0 where
-  pub way : Skipping code n tops p r
-  pub last : getD tops r 0 ≡ 0 → r < n → wellFormed (n - suc r) (decodeAt code r) ≡ false
+pub record Skips (reals : Bool) (code : List ℕ) (n : ℕ) (tops : List ℕ) (p r : ℕ) : Type 0 where
+  pub way : Skipping reals code n tops p r
+  pub last : getD tops r 0 ≡ 0 → r < n → wellFormedIn reals (n - suc r) (decodeAt code r) ≡ false

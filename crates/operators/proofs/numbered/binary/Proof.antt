@@ -22,8 +22,8 @@ enum-known-a c = search needs
 enum-known-b : tie.Need-enum-known-b
 enum-known-b c = search needs
 
-of-integers-requires : tie.Need-of-integers-requires
-of-integers-requires c κs = search needs
+binary-requires : tie.Need-binary-requires
+binary-requires c κs = search needs
 
 returns-2 : tie.Need-returns-2
 returns-2 c =
@@ -31,7 +31,7 @@ returns-2 c =
     let b = c .before .before .b .given in
     let F : SFits w32 (a .0 .0) = search needs in
     let G : SFits w32 (b .0 .0) = search needs in
-    rw (a .1, b .1) (rw (toZ-ofZ w32 (a .0 .0) F, toZ-ofZ w32 (b .0 .0) G) at (c .of-integers .ensures))
+    rw (a .1, b .1) (rw (toZ-ofZ w32 (a .0 .0) F, toZ-ofZ w32 (b .0 .0) G) at (c .binary .ensures))
 
 enum-told : tie.Need-enum-told
 enum-told c = search needs
@@ -66,7 +66,7 @@ binary-spec =
     returns
     enum-known-a
     enum-known-b
-    of-integers-requires
+    binary-requires
     returns-2
     enum-told
     enum-told-2

@@ -1,0 +1,3 @@
+-- What other crates may cite; below it, the laws that lead there.
+pub mod Theorems
+mod Compiled
