@@ -6,6 +6,9 @@ set -u
 cd "$(dirname "$0")/.." || exit 1
 . controller/tools.sh
 only=" ${*:-$(target_names | tr '\n' ' ')} "
+for name in $only; do
+    target_names | grep -qx "$name" || { echo "no target is named $name; there are: $(target_names | paste -s -d ' ')" >&2; exit 2; }
+done
 failed=0
 
 fail() {
@@ -57,7 +60,10 @@ make_and_test() {
 test_board() {
     have "$(target_tool "$2" cross) $(target_tool "$2" board)" "the board's tests on $2 are" || return
     sh controller/board/firmware.sh "$2" "$1" "$3" || fail "examples/$3.c on $2"
-    [ "$1" = formula_c ] || return
+    if [ "$1" != formula_c ]; then
+        sh controller/board/replay.sh "$2" "$1" || fail "the calls of $1 on $2"
+        return
+    fi
     sh controller/board/test.sh "$2" || fail "tests on $2"
     sh controller/count/count.sh "$2" || fail "counting on $2"
 }
@@ -67,7 +73,7 @@ test_web() {
     wc -c "$out/web/formula.wasm"
     have node "the test of formula.wasm is" || return
     calls=
-    [ ! -s "$out/calls/calls.bin" ] || calls=$out/calls/calls.bin
+    [ ! -s "$out/calls/formula_c.bin" ] || calls=$out/calls/formula_c.bin
     # shellcheck disable=SC2086
     node controller/web/test.mjs "$PWD/$out/web" crates/vector_cases/stdin crates/vector_cases/stdout $calls || fail "formula.wasm"
 }
@@ -85,5 +91,8 @@ while read -r library target numbers firmware; do
     make_and_test "$library" "$target" "$numbers" "$firmware" < /dev/null
 done < "$out/archives"
 ! chosen m4f || test_controls
-[ "$failed" -ne 0 ] || echo "all targets as on x86-64"
+if [ "$failed" -eq 0 ]; then
+    echo "as on x86-64:$only"
+    [ "$left_out" -eq 0 ] || echo "but not all was tested: see what is missing, above"
+fi
 exit "$failed"

@@ -12,17 +12,18 @@ kit_tool() {
     echo "$out/bin/$1"
 }
 
-# $1: tools, $2: what is left out without them
+# $1: tools, $2: what is left out without them; left_out then says so to whoever asks at the end
+left_out=0
 have() {
     for tool in $1; do
-        command -v "$tool" > /dev/null || { echo "$tool is missing: $2 left out"; return 1; }
+        command -v "$tool" > /dev/null || { echo "$tool is missing: $2 left out"; left_out=1; return 1; }
     done
 }
 
-# Writes what header.awk makes of include/formula.h for the functions of an archive. $1: what, $2: the archive
+# Writes what header.awk makes of the headers for the functions of an archive. $1: what, $2: the archive
 from_header() {
     names=$("$(kit_tool llvm-nm)" --defined-only "$2" 2> /dev/null | awk 'NF == 3 && $2 == "T" { print $3 }' | tr '\n' ' ')
-    awk -v write="$1" -v defined="$names" -f controller/header/header.awk include/formula.h
+    awk -v write="$1" -v defined="$names" -f controller/header/header.awk include/formula.h include/formula_int.h
 }
 
 target_names() {

@@ -1,8 +1,9 @@
 /* Formulas of the dosing controller: compile, check and run them. docs/LANGUAGE.md has the language, docs/ANSWERS.md the answers.
  *
- * Linking. `sh include/build.sh` makes two archives for x86-64. libformula_c.a wants -lm, for fmodf;
+ * Linking. `sh include/build.sh` makes two archives of these functions for x86-64. libformula_c.a wants -lm, for fmodf;
  * libformula_bare.a has formula_remainder in its place and wants no library. Beside that they call memset and memcpy alone.
  * `sh controller/run.sh` makes archives for 32-bit controllers, of the same functions: lengths have 64 bits there too (docs/CONTROLLER.md).
+ * formula_int.h has the operations without real numbers, for machines that have none.
  *
  * Buffers. Each is lent for the call only. One passed as const is never written. No pointer may be null, also where its length
  * is 0, and no two buffers of a call may overlap, the report included. Byte buffers
@@ -83,7 +84,8 @@ enum formula_answer {
     FORMULA_OVERFLOW_FAULT = 12,
     FORMULA_RANGE_FAULT = 13,
     FORMULA_INDEX_FAULT = 14,
-    FORMULA_BAD_CODE = 15
+    FORMULA_BAD_CODE = 15,
+    FORMULA_NO_REALS = 19 /* of formula_int.h alone */
 };
 
 enum formula_kind {
@@ -103,7 +105,7 @@ enum formula_bank {
 
 struct formula_report {
     uint32_t answer;  /* one of enum formula_answer */
-    uint32_t place;   /* answers 4 to 9: the byte of the expression that it is about; else 0, and 0 for formatting's own 3, 8 and 10 */
+    uint32_t place;   /* answers 4 to 9 and 19: the byte of the expression that it is about; else 0, and 0 for formatting's own 3, 8 and 10 */
     uint32_t kind;    /* one of enum formula_kind: the value's. 0 on a refusal or fault, and for compiling and checking */
     uint32_t bits;    /* the value's 32-bit pattern, before the store; 0 where kind is 0 for want of a value */
     uint32_t count;   /* compiling: instructions written; formatting: bytes written; running: instructions begun and cells visited, the index's included; else 0 */

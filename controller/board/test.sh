@@ -1,6 +1,6 @@
 #!/bin/sh
 # Tests an archive on its emulated board: sh controller/board/test.sh TARGET [ARCHIVE.a]
-# The gate's vectors, examples/recipe.c, and the calls that record.sh recorded, if it did. MORE names another file to link.
+# The gate's vectors, examples/recipe.c, and the recorded calls. MORE names another file to link.
 set -eu
 cd "$(dirname "$0")/../.."
 . controller/tools.sh
@@ -26,13 +26,5 @@ prints() {
 prints "the gate's vectors" crates/vector_cases/stdout controller/board/vectors.c crates/vector_cases/stdin
 prints examples/recipe.c examples/recipe.expected examples/recipe.c
 
-if [ -s "$out/calls/calls.bin" ]; then
-    from_header replay "$archive" > "$work/operations.inc"
-    CFLAGS="-I $work ${CFLAGS:-}" sh controller/board/build.sh "$target" "$work/replay.elf" "$archive" "controller/calls/replay.c ${MORE:-}" \
-        "$out/calls/calls.bin"
-    sh controller/board/emulate.sh "$target" "$work/replay.elf" > "$work/replayed" || failed=1
-    sed "s/^/$target: /" "$work/replayed"
-else
-    echo "$target: no calls of x86-64 to replay"
-fi
+sh controller/board/replay.sh "$target" formula_c "$archive" || failed=1
 exit $failed

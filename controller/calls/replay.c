@@ -7,7 +7,7 @@
 #include <string.h>
 
 #include "checksum.h"
-#include "formula.h"
+#include "formula_int.h"
 
 #define PARTS 12
 #define GUARD 16u

@@ -1,4 +1,5 @@
-# Reads include/formula.h, so that nothing here lists its operations a second time: awk -v write=WHAT -v defined=NAMES -f header.awk include/formula.h
+# Reads the headers, so that nothing here lists their operations a second time: awk -v write=WHAT -v defined=NAMES -f header.awk include/formula.h
+# include/formula_int.h
 # Only the functions that an archive defines are written: NAMES has them.
 #   names    the functions, one a line
 #   record   functions of these names in C, each of which notes its call for record.c and makes it

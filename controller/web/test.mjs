@@ -104,6 +104,13 @@ function testMethods() {
   const again = new Uint8Array(MEMORY_BYTES);
   same("pack", formulas.pack(old, again), 0);
   same("pack, bytes", Buffer.compare(again, memory), 0);
+  const text = new Uint8Array(65536), shown = (length) => Buffer.from(text.subarray(0, length)).toString("latin1");
+  const saved = formulas.format("1+2*3", text);
+  same("format", [saved.answer, shown(saved.count)], [0, "1 + (2 * 3)"]);
+  formulas.compile("D2 + 7", code);
+  const listed = formulas.listing(code, 3, text);
+  same("listing", [listed.answer, shown(listed.length)], [0, "0 LOAD D2\n1 PUSH_INT 7\n2 +\n"]);
+  same("words", shown(formulas.words(11, text)), "divided by zero");
   same("a buffer that is missing", thrown(() => formulas.compile("1")), "TypeError");
 }
 

@@ -65,7 +65,7 @@ fn stored(fill: u8, element: usize) -> Result<(), String> {
     let (target, index) = (Lent::new(format!("C{element}").as_bytes(), 0), Lent::new(&[], 0));
     for value in 0..2 {
         let mut memory = Lent::new(&[fill; PACKED_BYTES], 0);
-        let report = library::store((0, value), &mut memory, &target, Code { lent: &index, instructions: 0 }, 0);
+        let report = library::FULL.store((0, value), &mut memory, &target, Code { lent: &index, instructions: 0 }, 0);
         let mut expected = unpack(&[fill; PACKED_BYTES]);
         expected[64 + element] = value as u8;
         holds(report.answer == 0 && memory.content() == pack(&expected), &format!("C{element} = {value} among {fill}"))?;
@@ -80,7 +80,7 @@ fn read(fill: u8, element: usize) -> Result<(), String> {
         old[start + element] ^= 1;
         let (target, text) = (Lent::new(b"D0", 0), Lent::new(format!("{bank}{element}").as_bytes(), 0));
         let (mut memory, mut code, mut index) = (Lent::new(&pack(&old), 0), Lent::new(&[0; CODE_BYTES], 0), Lent::new(&[0; CODE_BYTES], 0));
-        let report = library::compile_and_run(&target, &text, &mut memory, [&mut code, &mut index], 0);
+        let report = library::FULL.compile_and_run(&target, &text, &mut memory, [&mut code, &mut index], 0);
         holds(report.answer == 0 && report.bits == u32::from(old[start + element]), &format!("{bank}{element} among {fill}"))?;
     }
     Ok(())

@@ -3,12 +3,13 @@
 //! In a block ```cells a line `R1 = 2.5` says what a cell holds in the examples that follow, and `tick = 704` their tick, which
 //! is 0 before. In any other block a line with an arrow is an example: `EXPR -> 64` (an integer), `EXPR -> 3.5` (a real),
 //! `EXPR -> V0 = 0` (the cell after the store), `EXPR -> answer 12` or `EXPR -> answer 7 at 4` (the place). Before the result a
-//! target can stand, as in `EXPR -> D[V2]: D6 = 0`.
+//! target can stand, as in `EXPR -> D[V2]: D6 = 0`. A block ```profile has examples in the profile without reals.
 
-use crate::library::{self, Lent};
+use crate::library::{self, Lent, Library};
 use crate::reference::memory::{cell_name, pack, unpack, Bank};
 use crate::reference::operations::{compile_and_run, walk, Report};
-use crate::reference::program::{output, read_input};
+use crate::reference::profile;
+use crate::reference::program::{output, read_input, Operation};
 use crate::reference::text::{tokens, Function, Placed, Token};
 
 #[derive(Default)]
@@ -36,7 +37,8 @@ impl Examples {
                 (None, Some(name)) => block = Some(name),
                 (Some(_), Some(_)) => block = None,
                 (Some("cells"), None) => self.add_cell(line).ok_or(format!("no cell: {line}"))?,
-                (Some(_), None) => self.try_one(line)?,
+                (Some("profile"), None) => self.try_one(line, [profile::compile_and_run, through_integer_library])?,
+                (Some(_), None) => self.try_one(line, [compile_and_run, through_full_library])?,
                 (None, None) => {}
             }
         }
@@ -57,12 +59,12 @@ impl Examples {
         Some(())
     }
 
-    fn try_one(&mut self, line: &str) -> Result<(), String> {
+    fn try_one(&mut self, line: &str, operations: [Operation; 2]) -> Result<(), String> {
         let Some((expr, result)) = line.rsplit_once(" -> ") else { return Ok(()) };
         let stated = stated(result).ok_or(format!("no result: {line}"))?;
         let cells = self.cells_of(&[expr, &stated.target]);
         let case = format!("{cells}target={}\nexpr={expr}\n", stated.target);
-        for operation in [compile_and_run, through_library] {
+        for operation in operations {
             let given = output(read_input(case.as_bytes()), operation, self.tick);
             if given != stated.output {
                 return Err(format!("{line}\nexpected\n{}got\n{given}", stated.output));
@@ -91,10 +93,18 @@ impl Examples {
     }
 }
 
-fn through_library(target: &[u8], expr: &[u8], memory: &mut [u8], codes: [&mut [u8]; 2], tick: u32) -> Report {
+fn through_full_library(target: &[u8], expr: &[u8], memory: &mut [u8], codes: [&mut [u8]; 2], tick: u32) -> Report {
+    through(&library::FULL, target, expr, memory, codes, tick)
+}
+
+fn through_integer_library(target: &[u8], expr: &[u8], memory: &mut [u8], codes: [&mut [u8]; 2], tick: u32) -> Report {
+    through(&library::INTEGERS, target, expr, memory, codes, tick)
+}
+
+fn through(library: &Library, target: &[u8], expr: &[u8], memory: &mut [u8], codes: [&mut [u8]; 2], tick: u32) -> Report {
     let (mut lent_memory, [mut code, mut index_code]) = (Lent::new(&pack(memory), 0), codes.map(|code| Lent::new(code, 0)));
     let (target, expr) = (Lent::new(target, 0), Lent::new(expr, 0));
-    let report = library::compile_and_run(&target, &expr, &mut lent_memory, [&mut code, &mut index_code], tick);
+    let report = library.compile_and_run(&target, &expr, &mut lent_memory, [&mut code, &mut index_code], tick);
     memory.copy_from_slice(&unpack(lent_memory.content()));
     report
 }

@@ -95,7 +95,7 @@ fn again(expr: &[u8], saved: &[u8]) -> Result<(), String> {
     }
     let codes = [expr, saved].map(|text| {
         let mut code = Lent::new(&vec![0; CODE_BYTES], 0);
-        (library::compile(&Lent::new(text, 0), &mut code), code)
+        (library::FULL.compile(&Lent::new(text, 0), &mut code), code)
     });
     if codes[0].0 != codes[1].0 || codes[0].1.content() != codes[1].1.content() {
         return Err(format!("saved as {} it is other code", saved.escape_ascii()));

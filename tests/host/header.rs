@@ -1,4 +1,5 @@
-//! include/formula.h in Rust: the operations of the archive formula_c. Lengths have 64 bits there, as they have on this machine.
+//! include/formula.h and include/formula_int.h in Rust: the operations of the archives formula_c and formula_int_c. Lengths have 64 bits there, as they have
+//! on this machine.
 
 use crate::reference::operations::{Answers, Report};
 
@@ -97,4 +98,31 @@ extern "C" {
         code: *const u8, code_len: usize, instructions: usize, index_code: *const u8, index_len: usize,
         index_instructions: usize, list: *mut u16, list_len: usize,
     ) -> u32;
+}
+
+#[rustfmt::skip]
+#[link(name = "formula_int_c", kind = "static")]
+extern "C" {
+    pub fn formula_int_compile(expr: *const u8, expr_len: usize, code: *mut u8, code_len: usize, report: *mut Report);
+    pub fn formula_int_check(code: *const u8, code_len: usize, instructions: usize, report: *mut Report);
+    pub fn formula_int_run(
+        code: *const u8, code_len: usize, instructions: usize, memory: *mut u8, memory_len: usize,
+        target: *const u8, target_len: usize, index_code: *const u8, index_len: usize, index_instructions: usize, tick: u32,
+        report: *mut Report,
+    );
+    pub fn formula_int_compile_and_run(
+        target: *const u8, target_len: usize, expr: *const u8, expr_len: usize, memory: *mut u8, memory_len: usize,
+        code: *mut u8, code_len: usize, index_code: *mut u8, index_len: usize, tick: u32, report: *mut Report,
+    );
+    pub fn formula_int_evaluate(
+        code: *const u8, code_len: usize, instructions: usize, memory: *const u8, memory_len: usize, tick: u32,
+        report: *mut Report,
+    );
+    pub fn formula_int_store(
+        kind: u32, bits: u32, memory: *mut u8, memory_len: usize, target: *const u8, target_len: usize,
+        index_code: *const u8, index_len: usize, index_instructions: usize, tick: u32, report: *mut Report,
+    );
+    pub fn formula_int_compile_target(
+        target: *const u8, target_len: usize, index_code: *mut u8, index_len: usize, report: *mut Report,
+    );
 }

@@ -44,28 +44,42 @@ impl Lent {
 // What a report holds before the call: every word must be written.
 const UNWRITTEN: Report = Report { answer: 77, place: 77, kind: 77, bits: 77, count: 77, bank: 77, element: 77 };
 
-// Each call lends what the header asks for: readable or writable bytes of the given length that do not overlap.
+type Bytes = *const u8;
+type Writable = *mut u8;
+type Filled = *mut Report;
 
-pub fn compile(expr: &Lent, code: &mut Lent) -> Report {
-    let mut report = UNWRITTEN;
-    let (expr, (code, code_len)) = (expr.lend(), code.lend_to_write());
-    unsafe { formula_compile(expr.0, expr.1, code, code_len, &mut report) };
-    report
+/// The operations that both libraries have.
+pub struct Library {
+    compile: unsafe extern "C" fn(Bytes, usize, Writable, usize, Filled),
+    check: unsafe extern "C" fn(Bytes, usize, usize, Filled),
+    run: unsafe extern "C" fn(Bytes, usize, usize, Writable, usize, Bytes, usize, Bytes, usize, usize, u32, Filled),
+    compile_and_run: unsafe extern "C" fn(Bytes, usize, Bytes, usize, Writable, usize, Writable, usize, Writable, usize, u32, Filled),
+    compile_target: unsafe extern "C" fn(Bytes, usize, Writable, usize, Filled),
+    evaluate: unsafe extern "C" fn(Bytes, usize, usize, Bytes, usize, u32, Filled),
+    store: unsafe extern "C" fn(u32, u32, Writable, usize, Bytes, usize, Bytes, usize, usize, u32, Filled),
 }
 
-pub fn format(expr: &Lent, out: &mut Lent) -> Report {
-    let mut report = UNWRITTEN;
-    let (expr, (out, out_len)) = (expr.lend(), out.lend_to_write());
-    unsafe { formula_format(expr.0, expr.1, out, out_len, &mut report) };
-    report
-}
+/// That of include/formula.h.
+pub const FULL: Library = Library {
+    compile: formula_compile,
+    check: formula_check,
+    run: formula_run,
+    compile_and_run: formula_compile_and_run,
+    compile_target: formula_compile_target,
+    evaluate: formula_evaluate,
+    store: formula_store,
+};
 
-pub fn check(code: &Lent, instructions: usize) -> Report {
-    let mut report = UNWRITTEN;
-    let code = code.lend();
-    unsafe { formula_check(code.0, code.1, instructions, &mut report) };
-    report
-}
+/// That of include/formula_int.h, without reals.
+pub const INTEGERS: Library = Library {
+    compile: formula_int_compile,
+    check: formula_int_check,
+    run: formula_int_run,
+    compile_and_run: formula_int_compile_and_run,
+    compile_target: formula_int_compile_target,
+    evaluate: formula_int_evaluate,
+    store: formula_int_store,
+};
 
 /// Code that is lent to be run.
 pub struct Code<'a> {
@@ -73,57 +87,82 @@ pub struct Code<'a> {
     pub instructions: usize,
 }
 
-#[rustfmt::skip]
-pub fn run(code: Code, memory: &mut Lent, target: &Lent, index_code: Code, tick: u32) -> Report {
-    let mut report = UNWRITTEN;
-    let (instructions, index_instructions) = (code.instructions, index_code.instructions);
-    let (code, target, index, memory) = (code.lent.lend(), target.lend(), index_code.lent.lend(), memory.lend_to_write());
-    unsafe {
-        formula_run(
-            code.0, code.1, instructions, memory.0, memory.1, target.0, target.1, index.0, index.1, index_instructions, tick,
-            &mut report,
-        );
+// Each call lends what the header asks for: readable or writable bytes of the given length that do not overlap.
+
+impl Library {
+    pub fn compile(&self, expr: &Lent, code: &mut Lent) -> Report {
+        let mut report = UNWRITTEN;
+        let (expr, (code, code_len)) = (expr.lend(), code.lend_to_write());
+        unsafe { (self.compile)(expr.0, expr.1, code, code_len, &mut report) };
+        report
     }
-    report
-}
 
-#[rustfmt::skip]
-pub fn compile_and_run(target: &Lent, expr: &Lent, memory: &mut Lent, codes: [&mut Lent; 2], tick: u32) -> Report {
-    let mut report = UNWRITTEN;
-    let (target, expr) = (target.lend(), expr.lend());
-    let (memory, [code, index]) = (memory.lend_to_write(), codes.map(Lent::lend_to_write));
-    unsafe {
-        formula_compile_and_run(
-            target.0, target.1, expr.0, expr.1, memory.0, memory.1, code.0, code.1, index.0, index.1, tick, &mut report,
-        );
+    pub fn check(&self, code: &Lent, instructions: usize) -> Report {
+        let mut report = UNWRITTEN;
+        let code = code.lend();
+        unsafe { (self.check)(code.0, code.1, instructions, &mut report) };
+        report
     }
-    report
-}
 
-pub fn compile_target(target: &Lent, index_code: &mut Lent) -> Report {
-    let mut report = UNWRITTEN;
-    let (target, index) = (target.lend(), index_code.lend_to_write());
-    unsafe { formula_compile_target(target.0, target.1, index.0, index.1, &mut report) };
-    report
-}
-
-pub fn evaluate(code: Code, memory: &Lent, tick: u32) -> Report {
-    let mut report = UNWRITTEN;
-    let (instructions, code, memory) = (code.instructions, code.lent.lend(), memory.lend());
-    unsafe { formula_evaluate(code.0, code.1, instructions, memory.0, memory.1, tick, &mut report) };
-    report
-}
-
-/// The kind is any number, the bits any pattern.
-#[rustfmt::skip]
-pub fn store((kind, bits): (u32, u32), memory: &mut Lent, target: &Lent, index_code: Code, tick: u32) -> Report {
-    let mut report = UNWRITTEN;
-    let (target, index, memory) = (target.lend(), index_code.lent.lend(), memory.lend_to_write());
-    unsafe {
-        formula_store(
-            kind, bits, memory.0, memory.1, target.0, target.1, index.0, index.1, index_code.instructions, tick, &mut report,
-        );
+    #[rustfmt::skip]
+    pub fn run(&self, code: Code, memory: &mut Lent, target: &Lent, index_code: Code, tick: u32) -> Report {
+        let mut report = UNWRITTEN;
+        let (instructions, index_instructions) = (code.instructions, index_code.instructions);
+        let (code, target, index, memory) = (code.lent.lend(), target.lend(), index_code.lent.lend(), memory.lend_to_write());
+        unsafe {
+            (self.run)(
+                code.0, code.1, instructions, memory.0, memory.1, target.0, target.1, index.0, index.1, index_instructions, tick,
+                &mut report,
+            );
+        }
+        report
     }
+
+    #[rustfmt::skip]
+    pub fn compile_and_run(&self, target: &Lent, expr: &Lent, memory: &mut Lent, codes: [&mut Lent; 2], tick: u32) -> Report {
+        let mut report = UNWRITTEN;
+        let (target, expr) = (target.lend(), expr.lend());
+        let (memory, [code, index]) = (memory.lend_to_write(), codes.map(Lent::lend_to_write));
+        unsafe {
+            (self.compile_and_run)(
+                target.0, target.1, expr.0, expr.1, memory.0, memory.1, code.0, code.1, index.0, index.1, tick, &mut report,
+            );
+        }
+        report
+    }
+
+    pub fn compile_target(&self, target: &Lent, index_code: &mut Lent) -> Report {
+        let mut report = UNWRITTEN;
+        let (target, index) = (target.lend(), index_code.lend_to_write());
+        unsafe { (self.compile_target)(target.0, target.1, index.0, index.1, &mut report) };
+        report
+    }
+
+    pub fn evaluate(&self, code: Code, memory: &Lent, tick: u32) -> Report {
+        let mut report = UNWRITTEN;
+        let (instructions, code, memory) = (code.instructions, code.lent.lend(), memory.lend());
+        unsafe { (self.evaluate)(code.0, code.1, instructions, memory.0, memory.1, tick, &mut report) };
+        report
+    }
+
+    /// The kind is any number, the bits any pattern.
+    #[rustfmt::skip]
+    pub fn store(&self, (kind, bits): (u32, u32), memory: &mut Lent, target: &Lent, index_code: Code, tick: u32) -> Report {
+        let mut report = UNWRITTEN;
+        let (target, index, memory) = (target.lend(), index_code.lent.lend(), memory.lend_to_write());
+        unsafe {
+            (self.store)(
+                kind, bits, memory.0, memory.1, target.0, target.1, index.0, index.1, index_code.instructions, tick, &mut report,
+            );
+        }
+        report
+    }
+}
+
+pub fn format(expr: &Lent, out: &mut Lent) -> Report {
+    let mut report = UNWRITTEN;
+    let (expr, (out, out_len)) = (expr.lend(), out.lend_to_write());
+    unsafe { formula_format(expr.0, expr.1, out, out_len, &mut report) };
     report
 }
 

@@ -170,7 +170,7 @@ fn sets((target, expr): &Formula) -> Sets {
     let mut sets = Sets { reads: [false; CELLS], writes: [false; CELLS] };
     let lend = |bytes: &[u8]| Lent::new(bytes, 0);
     let (mut code, mut index) = (lend(&[0; CODE_BYTES]), lend(&[0; CODE_BYTES]));
-    let (compiled, found) = (library::compile(&lend(expr), &mut code), library::compile_target(&lend(target), &mut index));
+    let (compiled, found) = (library::FULL.compile(&lend(expr), &mut code), library::FULL.compile_target(&lend(target), &mut index));
     if compiled.answer != 0 || found.answer != 0 {
         return sets;
     }
@@ -214,7 +214,7 @@ fn in_turn(formulas: [&Formula; 2], state: &State, tick: u32) -> ([Report; 2], V
     let lend = |bytes: &[u8]| Lent::new(bytes, 0);
     let (mut memory, mut code, mut index_code) = (lend(&lent(&state.memory)), lend(&state.code), lend(&state.index_code));
     let reports = formulas.map(|(target, expr)| {
-        library::compile_and_run(&lend(target), &lend(expr), &mut memory, [&mut code, &mut index_code], tick)
+        library::FULL.compile_and_run(&lend(target), &lend(expr), &mut memory, [&mut code, &mut index_code], tick)
     });
     (reports, memory.content().to_vec())
 }

@@ -9,6 +9,7 @@
 //!   host lists [NUMBER [SEED]]    lists of formulas, and pairs of them in both orders
 //!   host replay [NUMBER [SEED]]   nights replayed in calls
 //!   host formats [NUMBER [SEED]]  formulas saved, read again and saved again
+//!   host profile [CASES [SEED [FIRST]]] random cases and the stored ones in the profile without reals, by both libraries
 //!   host examples DOCUMENT...     the examples of the documents
 
 mod cards;
@@ -20,6 +21,7 @@ mod header;
 mod library;
 mod lists;
 mod literals;
+mod profiles;
 mod random;
 mod reads;
 mod reference;
@@ -60,6 +62,7 @@ fn main() {
         ["lists", ref numbers @ ..] => random_lists(numbers),
         ["replay", ref numbers @ ..] => random_replay(numbers),
         ["formats", ref numbers @ ..] => random_formats(numbers),
+        ["profile", ref numbers @ ..] => random_profile(numbers),
         _ => random_cases(&words),
     };
     if let Err(difference) = result {
@@ -109,6 +112,10 @@ fn random_replay(words: &[&str]) -> Result<(), String> {
 
 fn random_formats(words: &[&str]) -> Result<(), String> {
     formats::try_formats(argument(words, 0, DEFAULT_FORMULAS)?, argument(words, 1, clock())?)
+}
+
+fn random_profile(words: &[&str]) -> Result<(), String> {
+    profiles::try_profile(argument(words, 0, DEFAULT_CASES)?, argument(words, 1, clock())?, argument(words, 2, 0)?)
 }
 
 fn random_cases(words: &[&str]) -> Result<(), String> {

@@ -117,7 +117,7 @@ fn formula(random: &mut Random) -> Result<Option<usize>, String> {
         return Err(format!("{}\n{:?}\n{:?}", shown(), runs[0].0, runs[1].0));
     }
     let evaluated = [&memory, &other].map(|memory| {
-        library::evaluate(Code { lent: &Lent::new(&code.0, 0), instructions: code.1 }, &Lent::new(&lent(memory), 0), tick)
+        library::FULL.evaluate(Code { lent: &Lent::new(&code.0, 0), instructions: code.1 }, &Lent::new(&lent(memory), 0), tick)
     });
     if evaluated[0] != evaluated[1] {
         return Err(format!("{}\nevaluated {:?}\n{:?}", shown(), evaluated[0], evaluated[1]));
@@ -132,8 +132,8 @@ type Coded = (Vec<u8>, usize);
 // The code of a formula and of its target's index by the library, and the cells of the trees; nothing if either is refused.
 fn listed(target: &[u8], expr: &[u8]) -> Result<Option<(Coded, Coded, Cells)>, String> {
     let (mut code, mut index) = (Lent::new(&[0; CODE_BYTES], 0), Lent::new(&[0; CODE_BYTES], 0));
-    let first = library::compile(&Lent::new(expr, 0), &mut code);
-    let second = library::compile_target(&Lent::new(target, 0), &mut index);
+    let first = library::FULL.compile(&Lent::new(expr, 0), &mut code);
+    let second = library::FULL.compile_target(&Lent::new(target, 0), &mut index);
     if first.answer != 0 || second.answer != 0 {
         return Ok(None);
     }
@@ -147,7 +147,7 @@ fn listed(target: &[u8], expr: &[u8]) -> Result<Option<(Coded, Coded, Cells)>, S
 fn ran(target: &[u8], expr: &[u8], memory: &[u8], tick: u32) -> (Report, Vec<u8>) {
     let (mut code, mut index) = (Lent::new(&[0; CODE_BYTES], 0), Lent::new(&[0; CODE_BYTES], 0));
     let mut memory = Lent::new(&lent(memory), 0);
-    let report = library::compile_and_run(&Lent::new(target, 0), &Lent::new(expr, 0), &mut memory, [&mut code, &mut index], tick);
+    let report = library::FULL.compile_and_run(&Lent::new(target, 0), &Lent::new(expr, 0), &mut memory, [&mut code, &mut index], tick);
     (report, unpack(memory.content()))
 }
 
@@ -176,7 +176,7 @@ fn few_cells(random: &mut Random) -> Result<(), String> {
         return Err(format!("{expr} lists {listed:?}"));
     }
     let value = |memory: &[u8]| {
-        library::evaluate(Code { lent: &Lent::new(&code.0, 0), instructions: code.1 }, &Lent::new(&lent(memory), 0), 0)
+        library::FULL.evaluate(Code { lent: &Lent::new(&code.0, 0), instructions: code.1 }, &Lent::new(&lent(memory), 0), 0)
     };
     let memory = vec![0; MEMORY_BYTES];
     for number in &cells {

@@ -8,6 +8,7 @@ mod formats;
 mod lists;
 mod literals;
 mod memory;
+mod profiles;
 mod reads;
 mod replay;
 mod replies;
@@ -67,6 +68,7 @@ fn all() -> Result<Vec<Expected>, String> {
     let (lists_in, lists_out) = lists::files();
     let (replay_in, replay_out) = replay::files();
     let (formats_in, formats_out) = formats::files();
+    let (profiles_in, profiles_out) = profiles::files()?;
     Ok(vec![
         ("value_cases/stdout", values::lines().into()),
         ("literal_cases/stdout", literals::lines().into()),
@@ -83,6 +85,8 @@ fn all() -> Result<Vec<Expected>, String> {
         ("listing_cases/stdout", listings_out.into()),
         ("list_cases/stdin", lists_in),
         ("list_cases/stdout", lists_out.into()),
+        ("profile_cases/stdin", profiles_in.into()),
+        ("profile_cases/stdout", profiles_out.into()),
         ("vector_cases/stdout", replies::of_list("vector_cases/stdin")?.into()),
         ("formula/stdout", replies::of_one("formula/stdin")?.into()),
         ("cards/stdout", replies::of_cards("cards/stdin")?.into()),

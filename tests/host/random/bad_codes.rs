@@ -4,8 +4,8 @@ use super::codes::{bytes_of, range};
 use super::Random;
 use crate::reference::code::*;
 use crate::reference::memory::BANKS;
-use crate::reference::operators::{binary_kind, unary_kind, BINARIES, UNARIES};
-use crate::reference::totals::{MATCHINGS, TESTS, TOTALS};
+use crate::reference::operators::{binary_kind, unary_kind, BINARIES};
+use crate::reference::totals::{MATCHINGS, TESTS};
 use crate::reference::value::{Kind, Value};
 
 /// Code of one operator on values pushed: the cheapest way to try many operands. Few are of a wrong kind.
@@ -21,21 +21,21 @@ pub fn one_operator(random: &mut Random) -> Vec<u8> {
 fn one_total(random: &mut Random) -> Vec<Instruction> {
     let (operand, range) = (operand(random, true), range(random));
     if random.one_in(2) {
-        vec![Instruction::Total(*random.pick(&TOTALS), range)]
+        vec![Instruction::Total(random.total(), range)]
     } else {
         vec![operand, Instruction::Match(*random.pick(&MATCHINGS), *random.pick(&TESTS), range)]
     }
 }
 
 fn one_unary(random: &mut Random) -> Vec<Instruction> {
-    let op = *random.pick(&UNARIES);
+    let op = random.unary();
     let (_, takes_real) = unary_kind(op, Kind::Real);
     let operand = match random.below(2) {
-        0 if takes_real => Instruction::Push(Value::Real(random.neighbour())),
+        0 if takes_real && random.reals => Instruction::Push(Value::Real(random.neighbour())),
         _ => operand(random, takes_real),
     };
     let operator = match random.below(18) {
-        0 | 1 => Instruction::LoadIndexed(*random.pick(&BANKS)),
+        0 | 1 => Instruction::LoadIndexed(random.bank()),
         2 => return vec![self::operand(random, false), Instruction::Since],
         _ => Instruction::Unary(op),
     };
@@ -55,10 +55,10 @@ fn one_binary(random: &mut Random) -> Vec<Instruction> {
     let (left, right) = match random.below(16) {
         // Exponents and shift counts that are not refused, and zero divisors.
         0..=3 => (left, integer(random.below(33) as i32)),
-        4 => (left, Instruction::Push(*random.pick(&[Value::Int(0), Value::Real(0.0), Value::Real(-0.0)]))),
+        4 if random.reals => (left, Instruction::Push(*random.pick(&[Value::Int(0), Value::Real(0.0), Value::Real(-0.0)]))),
         5 | 6 => (integer(*random.pick(&LEFT_ENDS)), integer(*random.pick(&RIGHT_ENDS))),
         // An integer and the real next to it.
-        7 if right_real => {
+        7 if right_real && random.reals => {
             let i = random.integer();
             (integer(i), Instruction::Push(Value::Real(i as f32)))
         }
@@ -68,7 +68,7 @@ fn one_binary(random: &mut Random) -> Vec<Instruction> {
 }
 
 fn operand(random: &mut Random, real: bool) -> Instruction {
-    let real = if random.one_in(30) { !real } else { real && random.one_in(2) };
+    let real = random.reals && if random.one_in(30) { !real } else { real && random.one_in(2) };
     Instruction::Push(if real { Value::Real(random.real()) } else { Value::Int(random.integer()) })
 }
 

@@ -4,7 +4,7 @@ use super::images::memory;
 use super::{bad_codes, codes, formulas, texts, Random};
 use crate::reference::check::check as check_code;
 use crate::reference::code::{at, Instruction, INSTRUCTION_BYTES};
-use crate::reference::memory::{BANKS, FLAGS, MEMORY_BYTES, PACKED_BYTES};
+use crate::reference::memory::{FLAGS, MEMORY_BYTES, PACKED_BYTES};
 use crate::reference::operations::{compile, compile_target, CODE_BYTES};
 use crate::reference::text::{tokens, Function, Token};
 
@@ -120,6 +120,7 @@ fn value(random: &mut Random) -> (u32, u32) {
     const ODD: [u32; 6] = [0x7F80_0000, 0xFF80_0000, 0x7FC0_0000, 0x7F80_0001, 0xFFFF_FFFF, 0x7149_F2CA];
     match random.below(6) {
         0 | 1 => (0, random.integer() as u32),
+        2..=4 if !random.reals => (0, random.integer() as u32),
         2 | 3 => (1, random.real().to_bits()),
         4 => (1, *random.pick(&ODD)),
         _ => (*random.pick(&[0, 1, 2, 77, u32::MAX]), random.word()),
@@ -136,12 +137,15 @@ fn large_buffer(random: &mut Random) -> Vec<u8> {
     buffer(random, length)
 }
 
-// All operations on a text and a target, check and run only if the text is accepted.
 fn text_case(random: &mut Random, text: fn(&mut Random) -> Vec<u8>) -> Vec<Request> {
     let expr = text(random);
     let memory = memory(random);
     let (code, index_code) = (large_buffer(random), large_buffer(random));
-    let base = Request { expr, memory, code, index_code, ..request(random, Compile) };
+    on_text(Request { expr, memory, code, index_code, ..request(random, Compile) })
+}
+
+/// All operations on a text and a target, check and run only if the text is accepted.
+pub fn on_text(base: Request) -> Vec<Request> {
     let both = Request { operation: CompileAndRun, ..base.clone() };
     let target = Request { operation: CompileTarget, ..base.clone() };
     let code = compiled(&base.expr);
@@ -181,7 +185,7 @@ fn with_index_code(random: &mut Random, request: Request) -> Request {
         _ => compiled(&formulas::index(random)),
     };
     let index_instructions = number(random, index_code.len() / INSTRUCTION_BYTES);
-    let target = if random.one_in(4) { request.target } else { vec![random.pick(&BANKS).letter()] };
+    let target = if random.one_in(4) { request.target } else { vec![random.bank().letter()] };
     Request { target, index_code, index_instructions, ..request }
 }
 
@@ -263,7 +267,7 @@ const BAD_TARGETS: [&str; 43] = [
 
 /// A target, good or not.
 pub fn target(random: &mut Random) -> Vec<u8> {
-    let letter = random.pick(&BANKS[1..]).letter();
+    let letter = random.pick(&random.banks()[1..]).letter();
     match random.below(16) {
         0 => bad_target(random),
         1 => {
@@ -277,7 +281,7 @@ pub fn target(random: &mut Random) -> Vec<u8> {
 
 /// A cell, or a bank with an index. Few have operands of the wrong kind or a ninth bracket open.
 pub fn good_target(random: &mut Random) -> Vec<u8> {
-    let bank = *random.pick(&BANKS[1..]);
+    let bank = *random.pick(&random.banks()[1..]);
     match random.below(3) {
         0 => indexed_target(bank.letter(), &formulas::index(random)),
         _ => format!("{}{}", bank.letter() as char, random.below(bank.cells())).into_bytes(),

@@ -2,9 +2,8 @@
 
 use super::Random;
 use crate::reference::code::{encode, Instruction, HEIGHT_LIMIT, INSTRUCTION_LIMIT};
-use crate::reference::memory::BANKS;
 use crate::reference::operators::{binary_kind, since_kind, unary_kind, BINARIES, UNARIES};
-use crate::reference::totals::{matching_kind, total_kind, Range, MATCHINGS, TESTS, TOTALS};
+use crate::reference::totals::{matching_kind, total_kind, Range, MATCHINGS, TESTS};
 use crate::reference::value::{Kind, Value};
 
 pub fn bytes_of(code: &[Instruction]) -> Vec<u8> {
@@ -13,7 +12,7 @@ pub fn bytes_of(code: &[Instruction]) -> Vec<u8> {
 
 /// Any good range; a short one more often.
 pub fn range(random: &mut Random) -> Range {
-    let bank = *random.pick(&BANKS);
+    let bank = random.bank();
     let first = [0, random.below(bank.cells()), bank.cells() - 1][random.below(3)];
     let left = bank.cells() - first;
     let count = [1, 1 + random.below(left.min(8)), 1 + random.below(left), left][random.below(4)];
@@ -169,11 +168,11 @@ impl Builder<'_> {
         let instruction = match self.random.below(10) {
             0 | 1 => Instruction::Push(Value::Int(self.random.below(9) as i32)),
             2 | 3 => Instruction::Push(Value::Int(self.random.integer())),
-            4 | 5 => Instruction::Push(Value::Real(self.random.real())),
+            4 | 5 if self.random.reals => Instruction::Push(Value::Real(self.random.real())),
             6 => Instruction::Tick,
-            7 => Instruction::Total(*self.random.pick(&TOTALS), range(self.random)),
+            7 => Instruction::Total(self.random.total(), range(self.random)),
             _ => {
-                let bank = *self.random.pick(&BANKS);
+                let bank = self.random.bank();
                 Instruction::Load(bank, self.random.below(bank.cells()))
             }
         };
@@ -201,7 +200,7 @@ impl Builder<'_> {
 
     // Most often with an index of its own that lies within the bank.
     fn indexed(&mut self) {
-        let bank = *self.random.pick(&BANKS);
+        let bank = self.random.bank();
         if !self.random.one_in(6) {
             let index = self.random.below(bank.cells()) as i32;
             self.code.push(Instruction::Push(Value::Int(index)));
@@ -213,13 +212,13 @@ impl Builder<'_> {
 
     // SINCE and the tests of cells stand among the operators of one value.
     fn unary(&mut self) {
-        let op = self.random.below(UNARIES.len() + 2);
+        let (op, choice) = (self.random.unary(), self.random.below(UNARIES.len() + 2));
         let (matching, test, range) = (*self.random.pick(&MATCHINGS), *self.random.pick(&TESTS), range(self.random));
         let operand = self.held.last_mut().unwrap();
-        let (instruction, kinds) = match UNARIES.get(op) {
-            Some(op) => (Instruction::Unary(*op), unary_kind(*op, *operand)),
-            None if op == UNARIES.len() => (Instruction::Since, since_kind(*operand)),
-            None => (Instruction::Match(matching, test, range), (matching_kind(matching, range.bank), true)),
+        let (instruction, kinds) = match choice {
+            0 => (Instruction::Since, since_kind(*operand)),
+            1 => (Instruction::Match(matching, test, range), (matching_kind(matching, range.bank), true)),
+            _ => (Instruction::Unary(op), unary_kind(op, *operand)),
         };
         if let (kind, true) = kinds {
             *operand = kind;

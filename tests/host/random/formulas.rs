@@ -74,7 +74,8 @@ pub fn index(random: &mut Random) -> Vec<u8> {
     let most = *random.pick(&[1, 1, 2, 6]);
     let mut operands = 1 + random.below(most);
     if operands == 1 && random.one_in(2) {
-        let text = random.pick(&["0", "63", "64", "255", "256", "1.9", "-0.0", "V0", "X1 ", " D2", "V1 + 2", "-1", "D0"]);
+        let integers = ["0", "63", "64", "255", "256", "V0", "X1 ", " D2", "V1 + 2", "-1", "D0"];
+        let text = if random.reals && random.one_in(6) { random.pick(&["1.9", "-0.0"]) } else { random.pick(&integers) };
         return text.as_bytes().to_vec();
     }
     let brackets = if random.one_in(20) { 8 } else { 7 };
@@ -92,7 +93,7 @@ pub fn index(random: &mut Random) -> Vec<u8> {
 
 impl Writer<'_> {
     fn either(&mut self) -> Kind {
-        *self.random.pick(&[Kind::Int, Kind::Real])
+        self.random.kind()
     }
 
     fn blank(&mut self) {
@@ -263,10 +264,12 @@ impl Writer<'_> {
     }
 
     fn range_call(&mut self, kind: Kind, operands: usize) {
-        let bank = *self.random.pick(&BANKS);
+        let bank = self.random.bank();
+        let counts = kind == Kind::Int && self.random.one_in(3);
         let name = match (kind, bank.kind()) {
             (Kind::Real, Kind::Int) => "AVGR".to_string(),
             (Kind::Int, Kind::Real) => format!("COUNTIF{}", self.random.pick(&TESTS)),
+            _ if counts => format!("COUNTIF{}", self.random.pick(&TESTS)),
             _ if self.random.one_in(2) => self.random.pick(&["SUMR", "MAXR", "MINR"]).to_string(),
             _ => format!("SUMIF{}", self.random.pick(&TESTS)),
         };

@@ -8,7 +8,16 @@ pub mod formulas;
 pub mod images;
 pub mod texts;
 
-pub struct Random(u64);
+use crate::reference::memory::{Bank, BANKS};
+use crate::reference::operators::{unary_kind, Unary, UNARIES};
+use crate::reference::totals::{Total, TOTALS};
+use crate::reference::value::Kind;
+
+pub struct Random {
+    state: u64,
+    /// Whether formulas and codes may have reals.
+    pub reals: bool,
+}
 
 fn mix(mut z: u64) -> u64 {
     z = (z ^ (z >> 30)).wrapping_mul(0xBF58476D1CE4E5B9);
@@ -18,12 +27,12 @@ fn mix(mut z: u64) -> u64 {
 
 impl Random {
     pub fn new(seed: u64, case: u64) -> Random {
-        Random(mix(mix(seed) ^ case))
+        Random { state: mix(mix(seed) ^ case), reals: true }
     }
 
     pub fn next(&mut self) -> u64 {
-        self.0 = self.0.wrapping_add(0x9E3779B97F4A7C15);
-        mix(self.0)
+        self.state = self.state.wrapping_add(0x9E3779B97F4A7C15);
+        mix(self.state)
     }
 
     pub fn word(&mut self) -> u32 {
@@ -56,6 +65,45 @@ impl Random {
         for chunk in bytes.chunks_mut(8) {
             let random = self.next().to_le_bytes();
             chunk.copy_from_slice(&random[..chunk.len()]);
+        }
+    }
+
+    /// Those that formulas and codes may name: R, the last, only with reals.
+    pub fn banks(&self) -> &'static [Bank] {
+        if self.reals {
+            &BANKS
+        } else {
+            &BANKS[..Bank::R as usize]
+        }
+    }
+
+    pub fn bank(&mut self) -> Bank {
+        *self.pick(self.banks())
+    }
+
+    pub fn kind(&mut self) -> Kind {
+        match self.below(2) {
+            0 if self.reals => Kind::Real,
+            _ => Kind::Int,
+        }
+    }
+
+    /// One that gives no real, without reals.
+    pub fn unary(&mut self) -> Unary {
+        loop {
+            let op = *self.pick(&UNARIES);
+            if self.reals || unary_kind(op, Kind::Int).0 == Kind::Int {
+                return op;
+            }
+        }
+    }
+
+    pub fn total(&mut self) -> Total {
+        loop {
+            let op = *self.pick(&TOTALS);
+            if self.reals || op != Total::Average {
+                return op;
+            }
         }
     }
 

@@ -2,12 +2,36 @@
 
 use super::code::Instruction::{self, *};
 use super::code::{at, HEIGHT_LIMIT, INSTRUCTION_LIMIT};
+use super::memory::Bank;
 use super::operators::{binary_kind, since_kind, unary_kind};
 use super::totals::{matching_kind, total_kind};
 use super::value::Kind;
 
 /// The kind of the one value at the end, if the check accepts so many instructions.
 pub fn check(bytes: &[u8], number: usize) -> Option<Kind> {
+    accepted(bytes, number).map(|accepted| accepted.kind)
+}
+
+/// Whether the check of the profile without reals accepts them: no real is ever held, and no instruction, reached or not, reads R.
+pub fn check_integers(bytes: &[u8], number: usize) -> bool {
+    accepted(bytes, number).is_some_and(|accepted| !accepted.held_real && !accepted.reads_r)
+}
+
+struct Accepted {
+    kind: Kind,
+    held_real: bool,
+    reads_r: bool,
+}
+
+fn reads_r(instruction: &Instruction) -> bool {
+    match instruction {
+        Load(bank, _) | LoadIndexed(bank) => *bank == Bank::R,
+        Total(_, range) | Match(_, _, range) => range.bank == Bank::R,
+        _ => false,
+    }
+}
+
+fn accepted(bytes: &[u8], number: usize) -> Option<Accepted> {
     if number == 0 || number > INSTRUCTION_LIMIT {
         return None;
     }
@@ -16,8 +40,9 @@ pub fn check(bytes: &[u8], number: usize) -> Option<Kind> {
     if !(0..code.len()).all(inside) {
         return None;
     }
-    match kinds_at_end(&code)?[..] {
-        [kind] => Some(kind),
+    let mut held_real = false;
+    match kinds_at_end(&code, &mut held_real)?[..] {
+        [kind] => Some(Accepted { kind, held_real, reads_r: code.iter().any(reads_r) }),
         _ => None,
     }
 }
@@ -30,14 +55,15 @@ fn jump_target(code: &[Instruction], at: usize) -> Option<usize> {
 }
 
 // Goes through the code once: jumps go forward, so a place's kinds are known before it is met. `coming` has
-// the kinds with which a jump arrives at a place.
-fn kinds_at_end(code: &[Instruction]) -> Option<Vec<Kind>> {
+// the kinds with which a jump arrives at a place; `held_real` becomes true where one of them is real.
+fn kinds_at_end(code: &[Instruction], held_real: &mut bool) -> Option<Vec<Kind>> {
     let mut coming: Vec<Option<Vec<Kind>>> = vec![None; code.len() + 1];
     let mut held = Some(Vec::new());
     for at in 0..code.len() {
         held = meet(held, coming[at].take())?;
         let Some(kinds) = &mut held else { continue };
         step(code[at], kinds)?;
+        *held_real |= kinds.contains(&Kind::Real);
         if let Some(target) = jump_target(code, at) {
             coming[target] = meet(Some(kinds.clone()), coming[target].take())?;
         }

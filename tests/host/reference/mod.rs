@@ -12,6 +12,7 @@ pub mod machine;
 pub mod memory;
 pub mod operations;
 pub mod operators;
+pub mod profile;
 pub mod program;
 pub mod replay;
 pub mod salvage;
