@@ -103,7 +103,8 @@ not-refused {n = n} {a = a} {p = p} e q = let l : Done n ≡ Refused a p = e ∙
 
 module _ {j : Judgement} {o o′ : List ℕ} where
   module _ {n most : ℕ} (x : Judged j o o′ (Done n)) where
-    pub copied : n ≤ most → most ≤ length o → (code : List ℕ) {code′ : List ℕ} → code′ ≡ sets code 0 (wordBytes (take n o′)) → Fitted most code j (Done n) code′
+    pub copied : n ≤ most → most ≤ length o → (code : List ℕ) {code′ : List ℕ} → code′ ≡ sets code 0 (wordBytes (take n o′)) → Fitted most code j
+        (Done n) code′
     copied few room code {code′} e = (x .answer, go j refl)
       where
         go : (i : Judgement) → j ≡ i → code′ ≡ fittedBytes most code j
@@ -126,7 +127,8 @@ module _ {j : Judgement} {o o′ : List ℕ} where
   not-written most code {a} {p} x = (x .answer, go j refl)
     where
       go : (i : Judgement) → j ≡ i → code ≡ fittedBytes most code j
-      go (accepted t) q = let l : Refused a p ≡ codedAnswer (accepted t) = x .answer ∙ ap codedAnswer q in let z : _≡_ {A = ℕ} 0 1 = cc in absurd (omega arith)
+      go (accepted t) q = let l : Refused a p ≡ codedAnswer (accepted t) = x .answer ∙ ap codedAnswer q in let z : _≡_ {A = ℕ} 0 1 = cc in absurd
+          (omega arith)
       go (refused b r) q = rw q refl
 
 -- ---- an answer of at most so many instructions has its code in the buffer, any other has changed nothing

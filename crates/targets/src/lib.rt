@@ -7,7 +7,7 @@ ghost use Rattle.text.specs.Targets.{storedBank, indexedTarget, targetOf};
 ghost use Rattle.profile_text.specs.Targets.{takenTarget, targetIn, bankIn};
 ghost use Rattle.targets.specs.declared.Element.the-variants.{Is};
 ghost use Rattle.targets.specs.declared.Found.the-variants.{In};
-ghost use Rattle.targets.specs.Found.{enclosedBank, foundOf, foundToRun, takenFound, runTargetIn, indexBytes};
+ghost use Rattle.targets.specs.Found.{enclosedBank, foundOf, takenFound, runTargetIn, indexBytes};
 use compiler::Coded;
 use memory::Bank;
 use memory::names;
@@ -114,14 +114,6 @@ fn judge_indexed(target: &[u8], reals: bool) -> Found
 }
 
 // The same, and the index's code goes into the buffer; that of a plain cell keeps what it held.
-pub fn compile(target: &[u8], code: &mut [u8]) -> Found
-    requires { ⌜ 16384 ≤ length (now code) ⌝ }
-    ensures { λ r. ⌜ r ≡ foundOf (targetOf (now (target .entry))) ⌝ }
-    ensures { λ r. ⌜ now (code .exit) ≡ indexBytes (now (code .entry)) (targetOf (now (target .entry))) ⌝ }
-{
-    compile_in(target, code, true)
-}
-
 pub fn compile_in(target: &[u8], code: &mut [u8], reals: bool) -> Found
     requires { ⌜ 16384 ≤ length (now code) ⌝ }
     ensures { λ r. ⌜ r ≡ foundOf (targetIn reals (now (target .entry))) ⌝ }
@@ -149,12 +141,6 @@ fn compile_indexed(target: &[u8], code: &mut [u8], reals: bool) -> Found
 }
 
 // The target of a run, which is given the index as code: a cell, or a bank letter alone whose element k instructions give.
-pub fn to_run(target: &[u8], k: usize) -> Found
-    ensures { λ r. ⌜ r ≡ foundToRun k (now (target .entry)) ⌝ }
-{
-    to_run_in(target, k, true)
-}
-
 pub fn to_run_in(target: &[u8], k: usize, reals: bool) -> Found
     ensures { λ r. ⌜ r ≡ runTargetIn reals k (now (target .entry)) ⌝ }
 {

@@ -16,7 +16,8 @@ same-length : tie.Need-same-length
 same-length c = search needs
 
 returns : tie.Need-returns
-returns c = rw (← c .before .before .before .before .before .class-of .ensures, eq-eqb _ 1 (c .before .before .before .before .if1 .taken)) (c .before .before .pushed .ensures)
+returns c = rw (← c .before .before .before .before .before .class-of .ensures, eq-eqb _ 1 (c .before .before .before .before .if1 .taken))
+    (c .before .before .pushed .ensures)
 
 pushed-requires-2 : tie.Need-pushed-requires-2
 pushed-requires-2 c κs = search needs
@@ -25,7 +26,12 @@ same-length-2 : tie.Need-same-length-2
 same-length-2 c = search needs
 
 returns-2 : tie.Need-returns-2
-returns-2 c = rw (← c .before .before .before .before .before .before .class-of .ensures, ne-eqb _ 1 (c .before .before .before .before .before .if1 .left), eq-eqb _ 2 (c .before .before .before .before .if2 .taken)) (c .before .before .pushed2 .ensures)
+returns-2 c = rw (
+  ← c .before .before .before .before .before .before .class-of .ensures,
+  ne-eqb _ 1
+      (c .before .before .before .before .before .if1 .left),
+  eq-eqb _ 2 (c .before .before .before .before .if2 .taken),
+) (c .before .before .pushed2 .ensures)
 
 operand-of-requires : tie.Need-operand-of-requires
 operand-of-requires c κs = search needs
@@ -51,7 +57,8 @@ same-length-3 c = search needs
 returns-3 : tie.Need-returns-3
 returns-3 c =
     let s = c .before .before .before .before .before .before .before .before .before .before in
-    let k = bank-kind (wordOperand (s .args .w)) (s .pre .0) (c .before .before .before .before .before .operand-of .ensures) (c .before .before .before .bank-kind .ensures) in
+    let k = bank-kind (wordOperand (s .args .w)) (s .pre .0) (c .before .before .before .before .before .operand-of .ensures)
+    (c .before .before .before .bank-kind .ensures) in
     rw (
       ← c .before .before .before .before .before .before .before .before .class-of .ensures,
       ne-eqb _ 1 (c .before .before .before .before .before .before .before .if1 .left),

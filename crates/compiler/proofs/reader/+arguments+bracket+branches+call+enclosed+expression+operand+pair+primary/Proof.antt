@@ -947,7 +947,8 @@ expression-is-done-requires : (t : ℕ) → expression-lts.Need-is-done-requires
     (expression-at t) expression.Post expression-Inv-loop expression-μ-loop
 expression-is-done-requires t c κs = search needs
 
-expression-same-length : (t : ℕ) → expression-lts.Need-same-length (expression-calls t) (expression-at t) expression.Post expression-Inv-loop expression-μ-loop
+expression-same-length : (t : ℕ) → expression-lts.Need-same-length (expression-calls t) (expression-at t) expression.Post expression-Inv-loop
+    expression-μ-loop
 expression-same-length t c = search needs
 
 expression-returns : (t : ℕ) → expression-lts.Need-returns (expression-calls t) (expression-at t) expression.Post expression-Inv-loop expression-μ-loop
@@ -1273,22 +1274,27 @@ expression-joined-requires-2 : (t : ℕ) → expression-lts.Need-joined-requires
 expression-joined-requires-2 t c κs =
     let s = c .before .before .before .before .before .before .before .before .before .before .before .before .before .before .before .before .before
     .before .before .before .before .before .before .before .before .before .before in
-    let l = c .before .before .before .before .before .before .before .before .before .before .before .before .before .before .before .before .before .before .loop in
+    let l = c .before .before .before .before .before .before .before .before .before .before .before .before .before .before .before .before .before
+    .before .loop in
     let h = l .inv .2 _ (c .before .before .before .before .before .before .before .before .before .before .before .before .before .before .before .before
     .before .before .before .before .before .before .before .operand .ensures) in
     let x = loop-operator (s .args .room) (s .args .level) (l .left) h (s .pre .1 .tokens)
-    (c .before .before .before .before .before .before .before .before .before .before .before .before .before .before .before .before .before .next-of .ensures
+    (c .before .before .before .before .before .before .before .before .before .before .before .before .before .before .before .before .before .next-of
+    .ensures
     .0) (c .before .before .before .before .before .before .before .before .before .before .before .before .before .before .before .before .word-at .ensures)
     (c .before .before .before .before .before .before .before .before .before .before .before .before .before .before .before .group-in .ensures)
     (c .before .before .before .before .before .before .before .before .before .before .before .before .before .before .if2 .left) in
-    let n = c .before .before .before .before .before .before .before .before .before .before .before .before .before .before .before .before .before .next-of
+    let n = c .before .before .before .before .before .before .before .before .before .before .before .before .before .before .before .before .before
+    .next-of
     .ensures .0 in
     let p = ap₂ _+_ (c .before .before .before .before .before .before .before .before .before .before .before .before .end-of .ensures .0)
     (c .before .before .before .before .before .before .before .before .before .before .reserve .ensures
     ∙ ap reserved (c .before .before .before .before .before .before .before .before .before .before .before .operand-of .ensures)) in
-    let b = reached (c .before .before .before .before .before .before .expression .result) (met (c .before .before .before .is-done2 .ensures) (c .before .before .if5 .left))
+    let b = reached (c .before .before .before .before .before .before .expression .result) (met (c .before .before .before .is-done2 .ensures)
+    (c .before .before .if5 .left))
     (c .before .before .before .before .before .before .expression .ensures .span) in
-    let e = c .before .word-at2 .ensures ∙ sym (c .before .before .before .before .before .before .before .before .before .before .before .before .before .before .before .before .word-at .ensures) in
+    let e = c .before .word-at2 .ensures ∙ sym (c .before .before .before .before .before .before .before .before .before .before .before .before .before
+    .before .before .before .word-at .ensures) in
     rw e (
       x .few,
       omega (arith, b .rises),
@@ -1304,7 +1310,8 @@ expression-joined-requires-2 t c κs =
       ),
     )
 
-expression-loop-less-2 : (t : ℕ) → expression-lts.Need-loop-less-2 (expression-calls t) (expression-at t) expression.Post expression-Inv-loop expression-μ-loop
+expression-loop-less-2 : (t : ℕ) → expression-lts.Need-loop-less-2 (expression-calls t) (expression-at t) expression.Post expression-Inv-loop
+    expression-μ-loop
 expression-loop-less-2 t c =
     let s = c .before .before .before .before .before .before .before .before .before .before .before .before .before .before .before .before .before
     .before .before .before .before .before .before .before .before .before .before .before .before .before in
@@ -1333,22 +1340,29 @@ expression-loop-again-2 t c =
     .before .before .before .before .before .before .before .before .before .before .before .before .before in
     let l = c .before .before .before .before .before .before .before .before .before .before .before .before .before .before .before .before .before
     .before .before .before .before .loop in
-    let p = ap₂ _+_ (c .before .before .before .before .before .before .before .before .before .before .before .before .before .before .before .end-of .ensures .0)
+    let p = ap₂ _+_ (c .before .before .before .before .before .before .before .before .before .before .before .before .before .before .before .end-of
+    .ensures .0)
     (c .before .before .before .before .before .before .before .before .before .before .before .before .before .reserve .ensures
-    ∙ ap reserved (c .before .before .before .before .before .before .before .before .before .before .before .before .before .before .operand-of .ensures)) in
+    ∙ ap reserved (c .before .before .before .before .before .before .before .before .before .before .before .before .before .before .operand-of .ensures))
+    in
     let d = met (c .before .before .before .before .before .before .is-done2 .ensures) (c .before .before .before .before .before .if5 .left) in
-    let e = c .before .before .before .before .word-at2 .ensures ∙ sym (c .before .before .before .before .before .before .before .before .before .before .before .before .before .before .before .before .before .before .before .word-at .ensures) in (
+    let e = c .before .before .before .before .word-at2 .ensures ∙ sym (c .before .before .before .before .before .before .before .before .before .before
+    .before .before .before .before .before .before .before .before .before .word-at .ensures) in (
       c .before .before .joined2 .kept .0 ∙ c .before .before .before .before .before .before .before .before .before .expression .kept .1 .0 ∙ l .inv .0,
       ap isDone (c .before .before .joined2 .ensures .0),
       λ o y. loop-joined (s .args .room) (s .args .level) (l .left) (l .inv .2 o y) (s .pre .1 .tokens)
           (c .before .before .before .before .before .before .before .before .before .before .before .before .before .before .before .before .before .before
-          .before .before .next-of .ensures .0) (c .before .before .before .before .before .before .before .before .before .before .before .before .before .before
-          .before .before .before .before .before .word-at .ensures) (c .before .before .before .before .before .before .before .before .before .before .before
+          .before .before .next-of .ensures .0) (c .before .before .before .before .before .before .before .before .before .before .before .before .before
+          .before
+          .before .before .before .before .before .word-at .ensures) (c .before .before .before .before .before .before .before .before .before .before
+          .before
           .before .before .before .before .before .before .before .group-in .ensures)
-          (c .before .before .before .before .before .before .before .before .before .before .before .before .before .before .before .before .before .if2 .left)
+          (c .before .before .before .before .before .before .before .before .before .before .before .before .before .before .before .before .before .if2
+          .left)
           (c .before .before .before .before .before .before .before .before .before .before .before .before .before .before .before .before .if3 .left) p
           (c .before .before .before .before .before .before .before .before .before .expression .result) (c .before .before .joined2 .result)
-          (c .before .before .before .before .before .before .before .before .before .expression .ensures) d (rw e at (c .before .before .joined2 .ensures .0))
+          (c .before .before .before .before .before .before .before .before .before .expression .ensures) d (rw e at
+          (c .before .before .joined2 .ensures .0))
           (rw e at (c .before .before .joined2 .ensures .1)),
     )
 
@@ -1494,7 +1508,8 @@ pair-operand-of-requires t c κs = search needs
 
 pair-paired-requires : (t : ℕ) → pair-lts.Need-paired-requires (pair-calls t) (pair-at t) pair.Post
 pair-paired-requires t c κs =
-    let s = c .before .before .before .before .before .before .before .before .before .before .before .before .before .before .before .before .before .before in
+    let s = c .before .before .before .before .before .before .before .before .before .before .before .before .before .before .before .before .before
+    .before in
     let b = reached (c .before .before .before .before .before .before .before .before .before .before .before .before .before .before .enclosed .result)
     (met (c .before .before .before .before .before .before .before .before .before .before .before .is-done .ensures)
     (c .before .before .before .before .before .before .before .before .before .before .if1 .left))
