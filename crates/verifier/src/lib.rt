@@ -276,6 +276,16 @@ fn checked(
 
 // A function for each size of tables: those of a size that is not wanted have no part in the frame. Short code gets short tables, since
 // clearing long ones would take longer than the pass.
+fn within_16(code: &[u8], n: usize, reals: bool) -> Verdict
+    requires { ⌜ (0 < n) × (n < 16) ⌝ }
+    ensures { λ r. ⌜ CorrectVerdictIn reals (now (code .entry)) n r ⌝ }
+{
+    let mut tops = [0u8; 16];
+    let mut lows = [0u64; 16];
+    let mut highs = [0u64; 16];
+    checked(code, n, &mut tops, &mut lows, &mut highs, reals)
+}
+
 fn within_32(code: &[u8], n: usize, reals: bool) -> Verdict
     requires { ⌜ (0 < n) × (n < 32) ⌝ }
     ensures { λ r. ⌜ CorrectVerdictIn reals (now (code .entry)) n r ⌝ }
@@ -303,6 +313,16 @@ fn within_129(code: &[u8], n: usize, reals: bool) -> Verdict
     let mut tops = [0u8; 129];
     let mut lows = [0u64; 129];
     let mut highs = [0u64; 129];
+    checked(code, n, &mut tops, &mut lows, &mut highs, reals)
+}
+
+fn within_257(code: &[u8], n: usize, reals: bool) -> Verdict
+    requires { ⌜ (0 < n) × (n < 257) ⌝ }
+    ensures { λ r. ⌜ CorrectVerdictIn reals (now (code .entry)) n r ⌝ }
+{
+    let mut tops = [0u8; 257];
+    let mut lows = [0u64; 257];
+    let mut highs = [0u64; 257];
     checked(code, n, &mut tops, &mut lows, &mut highs, reals)
 }
 
@@ -336,13 +356,17 @@ fn within_2049(code: &[u8], n: usize, reals: bool) -> Verdict
     checked(code, n, &mut tops, &mut lows, &mut highs, reals)
 }
 
-// Under 129 instructions, in a small frame. It and `long` have two callers each, so that they are not made a part of either.
+// Under 129 instructions, in a small frame. It and `long` have two callers each and four sizes of tables, so that they are not made a part
+// of either caller, up to an inline threshold of 500.
 fn short(code: &[u8], n: usize, reals: bool) -> Verdict
     requires { ⌜ n < 129 ⌝ }
     ensures { λ r. ⌜ CorrectVerdictIn reals (now (code .entry)) n r ⌝ }
 {
     if n == 0 {
         return Verdict::Refused;
+    }
+    if n < 16 {
+        return within_16(code, n, reals);
     }
     if n < 32 {
         return within_32(code, n, reals);
@@ -357,6 +381,9 @@ fn long(code: &[u8], n: usize, reals: bool) -> Verdict
     requires { ⌜ 0 < n ⌝ }
     ensures { λ r. ⌜ CorrectVerdictIn reals (now (code .entry)) n r ⌝ }
 {
+    if n < 257 {
+        return within_257(code, n, reals);
+    }
     if n < 513 {
         return within_513(code, n, reals);
     }
