@@ -30,20 +30,18 @@ use Rattle.code.specs.Instructions.{loadIndexed, applySince, rangeBank, rangeFi
 use Rattle.code.specs.private.Classes.{numberOf, ofBank, ofUnary, ofBinary, ofMatch, instrIn}
 use Rattle.verifier.specs.declared.packing.Held.{Held}
 use Rattle.verifier.specs.declared.typing.Flow.{Flow}
-use Rattle.verifier.specs.Typing.{Shape, Move, illTyped, moveOf}
+use Rattle.verifier.specs.Typing.{Shape, Move, illTyped, next, moveOf}
 use Rattle.verifier.specs.private.Shapes.{
   numberKind,
   leaving,
   pushNumber,
   ReplacesKind,
   ReplacesTwo,
-  kindBelow,
   bitKinds,
   word,
   kindsOf,
   none,
   Canonical,
-  HoldsLast,
   ArrayHolds,
   Pushed,
   Popped,
@@ -65,8 +63,11 @@ real-number {n} e = rw (ne-eqb n 0 e)
 
 -- ---- the kinds kept
 
+likewise : {a : List ℕ} {f : Flow} {m m′ : Move} → m ≡ m′ → Leaves a f m′ → Leaves a f m
+likewise {a} {f} e = subst (Leaves a f) (sym e)
+
 pub keeps-none : {a : List ℕ} → length a ≡ 128 → ArrayHolds a none
-keeps-none e = record { whole = e; canonical = record { low = omega arith; few = omega arith }; is = λ i m l. absurd (omega arith) }
+keeps-none e = record { whole = e; canonical = record { low = omega arith; few = omega arith }; last = λ l. absurd (omega arith) }
 
 -- without the last
 abbrev halved : Held → Held
@@ -79,62 +80,37 @@ halves w = record { height = refl; bits = zero-add (word w / 2) }
 top : (w : Held) → 0 < w .height → kindsOf w ≡ numberKind (word w % 2) ∷ below w
 top w l = let e : w .height ≡ suc (w .height - 1) = omega arith in ap (λ h. bitKinds h (word w)) e
 
--- one fewer
-pub keeps-popped : {a : List ℕ} {w r : Held} → ArrayHolds a w → 0 < w .height → Popped w r → HoldsLast 1 a r
-keeps-popped {a} {w} {r} k l p = record { whole = k .whole; canonical = neat-popped l p (k .canonical); is = at }
-  where
-    at : (i : ℕ) → i < 1 → i < r .height → numberKind (getD a (r .height - suc i) 0) ≡ kindBelow (kindsOf r) i
-    at i m g =
-        let e : r .height - suc i ≡ w .height - suc (suc i) = omega (arith, p .height) in
-        ap (λ j. numberKind (getD a j 0)) e ∙ k .is (suc i) (omega arith) (omega (arith, p .height)) ∙ ap (λ s. kindBelow s (suc i)) (kinds-popped l p)
-
 module _ {a : List ℕ} {w : Held} (k : ArrayHolds a w) where
   -- the last value's kind, and those below
   last : 0 < w .height → kindsOf w ≡ numberKind (getD a (w .height - 1) 0) ∷ below w
-  last l =
-      let e : kindsOf w ≡ numberKind (word w % 2) ∷ below w = top w l in
-      let t : numberKind (getD a (w .height - 1) 0) ≡ numberKind (word w % 2) = k .is 0 (omega arith) l ∙ ap (λ s. kindBelow s 0) e in
-      e ∙ ap (λ j. j ∷ below w) (sym t)
+  last l = top w l ∙ ap (λ j. j ∷ below w) (sym (k .last l))
 
-  -- and that of the one below it
-  next-last : {v : Held} → 1 < w .height → Popped w v → kindsOf v ≡ numberKind (getD a (w .height - 2) 0) ∷ below v
-  next-last {v} l p =
-      let e : kindsOf v ≡ numberKind (word v % 2) ∷ below v = top v (omega (arith, p .height)) in
-      let d : kindsOf w ≡ numberKind (word w % 2) ∷ (numberKind (word v % 2) ∷ below v) = kinds-popped (omega arith) p
-      ∙ ap (λ s. numberKind (word w % 2) ∷ s) e in
-      let t : numberKind (getD a (w .height - 2) 0) ≡ numberKind (word v % 2) = k .is 1 (omega arith) l ∙ ap (λ s. kindBelow s 1) d in
-      e ∙ ap (λ j. j ∷ below v) (sym t)
+-- and that of the one below it
+next-last : {w v : Held} → 1 < w .height → Popped w v → below w ≡ numberKind (word w / 2 % 2) ∷ below v
+next-last {w} {v} l p =
+    let e : w .height - 1 ≡ suc (v .height - 1) = omega (arith, p .height) in
+    ap (λ h. bitKinds h (word w / 2)) e ∙ ap (λ x. numberKind (word w / 2 % 2) ∷ bitKinds (v .height - 1) (x / 2)) (sym (p .bits))
 
 -- ---- a push, and a value in the place of the last
 
-module _ {a : List ℕ} {w : Held} {n : ℕ} (k : ArrayHolds a w) where
-  keeps-pushed : {r : Held} → n < 2 → w .height < 128 → Pushed n w r → ArrayHolds (set a (w .height) n) r
-  keeps-pushed {r} b l p = record {
-    whole = length-set a (w .height) n ∙ k .whole;
-    canonical = neat-pushed b p (k .canonical) l;
-    is = at;
-  }
-    where
-      at : (i : ℕ) → i < 2 → i < r .height → numberKind (getD (set a (w .height) n) (r .height - suc i) 0) ≡ kindBelow (kindsOf r) i
-      at zero m g =
-          let e : r .height - 1 ≡ w .height = omega (arith, p .height) in
-          ap (λ j. numberKind (getD (set a (w .height) n) j 0)) e ∙ ap (λ x. numberKind x) (getD-set-same a (w .height) n 0 (omega (arith, k .whole)))
-          ∙ sym (ap (λ s. kindBelow s 0) (kinds-pushed b p))
-      at (suc i) m g =
-          let e : r .height - suc (suc i) ≡ w .height - suc i = omega (arith, p .height) in
-          let o : w .height - suc i ≡ w .height → ⊥ = λ q. omega (arith, p .height) in
-          ap (λ j. numberKind (getD (set a (w .height) n) j 0)) e ∙ ap (λ x. numberKind x) (getD-set-other a (w .height) (w .height - suc i) n 0 o)
-          ∙ k .is i (omega arith) (omega (arith, p .height))
-          ∙ sym (ap (λ s. kindBelow s (suc i)) (kinds-pushed b p))
+-- the lowest bit
+lowest-bit : {n x : ℕ} (v : ℕ) → n < 2 → x ≡ n + 2 * v → n ≡ x % 2
+lowest-bit v b e = omega arith
 
+-- the value in the place p is the last
+lasts : (a : List ℕ) (p n : ℕ) (r : Held) → p < length a → r .height - 1 ≡ p → n ≡ word r % 2
+    → numberKind (getD (set a p n) (r .height - 1) 0) ≡ numberKind (word r % 2)
+lasts a p n r l e o = ap (λ j. numberKind (getD (set a p n) j 0)) e ∙ ap (λ x. numberKind x) (getD-set-same a p n 0 l ∙ o)
+
+module _ (a : List ℕ) {w : Held} {n : ℕ} (e : length a ≡ 128) (k : Canonical w) (b : n < 2) where
   -- the bits as after a pop and a push
-  keeps-replaced : {r : Held} → n < 2 → 0 < w .height → Replaced n w r → (kindsOf r ≡ numberKind n ∷ below w) × ArrayHolds (set a (w .height - 1) n) r
-  keeps-replaced {r} b l p = (
-    now,
+  keeps-replaced : {r : Held} → 0 < w .height → Replaced n w r → (kindsOf r ≡ numberKind n ∷ below w) × ArrayHolds (set a (w .height - 1) n) r
+  keeps-replaced {r} l p = (
+    kinds-pushed b u ∙ ap (λ x. numberKind n ∷ bitKinds (w .height - 1) x) (q .bits),
     record {
-      whole = length-set a (w .height - 1) n ∙ k .whole;
-      canonical = neat-pushed b u (neat-popped l q (k .canonical)) (omega (arith, k .canonical .low));
-      is = at;
+      whole = length-set a (w .height - 1) n ∙ e;
+      canonical = neat-pushed b u (neat-popped l q k) (omega (arith, k .low));
+      last = λ g. lasts a (w .height - 1) n r (omega (arith, k .low)) (ap (λ h. h - 1) (p .height)) (lowest-bit (word w / 2) b (p .bits));
     },
   )
     where
@@ -144,20 +120,16 @@ module _ {a : List ℕ} {w : Held} {n : ℕ} (k : ArrayHolds a w) where
       u : Pushed n (halved w) r
       u = record { height = omega (arith, p .height); bits = p .bits ∙ ap (λ x. n + 2 * x) (sym (q .bits)) }
 
-      now : kindsOf r ≡ numberKind n ∷ below w
-      now = kinds-pushed b u ∙ ap (λ x. numberKind n ∷ bitKinds (w .height - 1) x) (q .bits)
+  pub places : {r : Held} → 0 < w .height → Replaced n w r → Leaves (set a (w .height - 1) n) (record { reach = 2; held = r }) (next (numberKind n ∷ below w))
+  places {r} l p = let f = keeps-replaced l p in rw (← f .0) (goes refl (f .1))
 
-      at : (i : ℕ) → i < 2 → i < r .height → numberKind (getD (set a (w .height - 1) n) (r .height - suc i) 0) ≡ kindBelow (kindsOf r) i
-      at zero m g =
-          let e : r .height - 1 ≡ w .height - 1 = ap (λ h. h - 1) (p .height) in
-          ap (λ j. numberKind (getD (set a (w .height - 1) n) j 0)) e ∙ ap (λ x. numberKind x)
-          (getD-set-same a (w .height - 1) n 0 (omega (arith, k .whole, k .canonical .low))) ∙ sym (ap (λ s. kindBelow s 0) now)
-      at (suc i) m g =
-          let e : r .height - suc (suc i) ≡ w .height - suc (suc i) = ap (λ h. h - suc (suc i)) (p .height) in
-          let o : w .height - suc (suc i) ≡ w .height - 1 → ⊥ = λ d. omega (arith, p .height) in
-          ap (λ j. numberKind (getD (set a (w .height - 1) n) j 0)) e ∙ ap (λ x. numberKind x)
-          (getD-set-other a (w .height - 1) (w .height - suc (suc i)) n 0 o)
-          ∙ k .is (suc i) m (omega (arith, p .height)) ∙ ap (λ s. kindBelow s (suc i)) (top w l) ∙ sym (ap (λ s. kindBelow s (suc i)) now)
+module _ {a : List ℕ} {w : Held} {n : ℕ} (k : ArrayHolds a w) where
+  keeps-pushed : {r : Held} → n < 2 → w .height < 128 → Pushed n w r → ArrayHolds (set a (w .height) n) r
+  keeps-pushed {r} b l p = record {
+    whole = length-set a (w .height) n ∙ k .whole;
+    canonical = neat-pushed b p (k .canonical) l;
+    last = λ g. lasts a (w .height) n r (omega (arith, k .whole)) (omega (arith, p .height)) (lowest-bit (word w) b (p .bits));
+  }
 
   pub pushes : {r : Held} → n < 2 → w .height < 128 → Pushed n w r → Leaves (set a (w .height) n) (record { reach = 2; held = r }) (pushNumber n (kindsOf w))
   pushes b l p = rw (lt-ltb n 2 b, bits-length (w .height) (word w), lt-ltb (w .height) 128 l, ← kinds-pushed b p) (goes refl (keeps-pushed b l p))
@@ -171,71 +143,46 @@ module _ {a : List ℕ} {w : Held} {n : ℕ} (k : ArrayHolds a w) where
   pub unplaced : (s : Shape) → 2 ≤ n → Leaves a (record { reach = 0; held = w }) (leaving n s)
   unplaced s b = rw (le-ltb n 2 b) (stops refl k)
 
-  pub places : {r : Held} → n < 2 → 0 < w .height → Replaced n w r → Leaves (set a (w .height - 1) n) (record { reach = 2; held = r }) (leaving n (below w))
-  places {r} b l p = let e = keeps-replaced b l p in rw (lt-ltb n 2 b, ← e .0) (goes refl (e .1))
+pub placed : {n : ℕ} {b : List ℕ} {f : Flow} (s : Shape) → n < 2 → Leaves b f (next (numberKind n ∷ s)) → Leaves b f (leaving n s)
+placed {n} s b = likewise (ap (λ t. cond t (next (numberKind n ∷ s)) illTyped) (lt-ltb n 2 b))
 
--- ---- the last two brought from the bits, or the one below the last
+-- ---- the last brought from the bits
 
 module _ (a : List ℕ) (w : Held) (e : length a ≡ 128) (k : Canonical w) where
-  pub refills-none : w .height ≡ 0 → ArrayHolds a w
-  refills-none z = record { whole = e; canonical = k; is = λ i m g. absurd (omega arith) }
+  pub uncovers-none : w .height ≡ 0 → ArrayHolds a w
+  uncovers-none z = record { whole = e; canonical = k; last = λ l. absurd (omega arith) }
 
-  -- the last
-  pub refills-one : (x : ℕ) → x ≡ word w % 2 → 0 < w .height → HoldsLast 1 (set a (w .height - 1) x) w
-  refills-one x o l = record { whole = length-set a (w .height - 1) x ∙ e; canonical = k; is = at }
-    where
-      at : (i : ℕ) → i < 1 → i < w .height → numberKind (getD (set a (w .height - 1) x) (w .height - suc i) 0) ≡ kindBelow (kindsOf w) i
-      at zero m g = ap (λ y. numberKind y) (getD-set-same a (w .height - 1) x 0 (omega (arith, e, k .low)) ∙ o) ∙ sym (ap (λ t. kindBelow t 0) (top w l))
-      at (suc i) m g = absurd (omega arith)
-
-module _ {a : List ℕ} {w : Held} (k : HoldsLast 1 a w) where
-  pub uncovers-none : w .height < 2 → ArrayHolds a w
-  uncovers-none l = record { whole = k .whole; canonical = k .canonical; is = at }
-    where
-      at : (i : ℕ) → i < 2 → i < w .height → numberKind (getD a (w .height - suc i) 0) ≡ kindBelow (kindsOf w) i
-      at i m g = k .is i (omega arith) g
-
-  pub uncovers : (y : ℕ) → y ≡ word w / 2 % 2 → 1 < w .height → ArrayHolds (set a (w .height - 2) y) w
-  uncovers y d l = record { whole = length-set a (w .height - 2) y ∙ k .whole; canonical = k .canonical; is = at }
-    where
-      other : w .height - 1 ≡ w .height - 2 → ⊥
-      other q = omega arith
-
-      both : kindsOf w ≡ numberKind (word w % 2) ∷ (numberKind (word w / 2 % 2) ∷ bitKinds (w .height - 2) (word w / 2 / 2))
-      both = let h : w .height ≡ suc (suc (w .height - 2)) = omega arith in ap (λ h. bitKinds h (word w)) h
-
-      at : (i : ℕ) → i < 2 → i < w .height → numberKind (getD (set a (w .height - 2) y) (w .height - suc i) 0) ≡ kindBelow (kindsOf w) i
-      at zero m g = ap (λ x. numberKind x) (getD-set-other a (w .height - 2) (w .height - 1) y 0 other) ∙ k .is 0 (omega arith) g
-      at (suc zero) m g = ap (λ x. numberKind x) (getD-set-same a (w .height - 2) y 0 (omega (arith, k .whole, k .canonical .low)) ∙ d)
-          ∙ sym (ap (λ t. kindBelow t 1) both)
-      at (suc (suc i)) m g = absurd (omega arith)
+  pub uncovers : (x : ℕ) → x ≡ word w % 2 → 0 < w .height → ArrayHolds (set a (w .height - 1) x) w
+  uncovers x o l = record {
+    whole = length-set a (w .height - 1) x ∙ e;
+    canonical = k;
+    last = λ g. lasts a (w .height - 1) x w (omega (arith, k .low)) refl o;
+  }
 
 -- ---- one value is taken, or two
 
 pub short : {a : List ℕ} {w : Held} {m : Move} → ArrayHolds a w → m ≡ illTyped → Leaves a (record { reach = 0; held = w }) m
 short k e = rw e (stops refl k)
 
-likewise : {a : List ℕ} {f : Flow} {m m′ : Move} → m ≡ m′ → Leaves a f m′ → Leaves a f m
-likewise {a} {f} e = subst (Leaves a f) (sym e)
-
 module _ {a : List ℕ} {w : Held} (k : ArrayHolds a w) {i : Instr} {n : ℕ} where
   module _ {b : List ℕ} {f : Flow} where
     pub taken-one : 0 < w .height → ReplacesKind i (getD a (w .height - 1) 0) n → Leaves b f (leaving n (below w)) → Leaves b f (moveOf i (kindsOf w))
     taken-one l t = likewise (ap (moveOf i) (last k l) ∙ t .is (below w))
 
-    pub taken-two : {v : Held} → 1 < w .height → Popped w v → ReplacesTwo i (getD a (w .height - 2) 0) (getD a (w .height - 1) 0) n
+    -- the kind of the one below the last is x
+    pub taken-two : {v : Held} {x : ℕ} → 1 < w .height → Popped w v → x ≡ word w / 2 % 2 → ReplacesTwo i x (getD a (w .height - 1) 0) n
         → Leaves b f (leaving n (below v))
         → Leaves b f (moveOf i (kindsOf w))
-    taken-two {v} l p t = likewise (ap (moveOf i) all ∙ t .is (below v))
+    taken-two {v} {x} l p q t = likewise (ap (moveOf i) all ∙ t .is (below v))
       where
-        all : kindsOf w ≡ numberKind (getD a (w .height - 1) 0) ∷ (numberKind (getD a (w .height - 2) 0) ∷ below v)
+        all : kindsOf w ≡ numberKind (getD a (w .height - 1) 0) ∷ (numberKind x ∷ below v)
         all =
-            let e : below w ≡ kindsOf v = rw (p .height, p .bits) in
-            last k (omega arith) ∙ ap (λ s. numberKind (getD a (w .height - 1) 0) ∷ s) (e ∙ next-last k l p)
+            let e : below w ≡ numberKind x ∷ below v = next-last l p ∙ ap (λ y. numberKind y ∷ below v) (sym q) in
+            last k (omega arith) ∙ ap (λ s. numberKind (getD a (w .height - 1) 0) ∷ s) e
 
-  pub refused-two : 1 < w .height → ReplacesTwo i (getD a (w .height - 2) 0) (getD a (w .height - 1) 0) n → 2 ≤ n
+  pub refused-two : {x : ℕ} → 1 < w .height → x ≡ word w / 2 % 2 → ReplacesTwo i x (getD a (w .height - 1) 0) n → 2 ≤ n
       → Leaves a (record { reach = 0; held = w }) (moveOf i (kindsOf w))
-  refused-two l t g = taken-two l (halves w) t (unplaced k (below (halved w)) g)
+  refused-two l q t g = taken-two l (halves w) q t (unplaced k (below (halved w)) g)
 
 -- ---- short of a value
 

@@ -260,7 +260,7 @@ fn checked(
                 return Verdict::Refused;
             }
             let there = joined_at(place, tops, lows, highs);
-            packing::refill(&mut kinds, there);
+            packing::uncover(&mut kinds, there);
             held = there;
             continue;
         }

@@ -3,7 +3,7 @@ ghost use mathlib.Core.Path.{_≡_};
 ghost use Prim.Native.Nat.{_/_, _%_, _^_, _<_};
 ghost use lib.ListN.{length};
 ghost use Rattle.verifier.specs.Profile.{allInt};
-ghost use Rattle.verifier.specs.private.Shapes.{kindsOf, word, Canonical, HoldsLast, ArrayHolds, Pushed, Popped, Replaced};
+ghost use Rattle.verifier.specs.private.Shapes.{kindsOf, word, Canonical, ArrayHolds, Pushed, Popped, Replaced};
 ghost use Rattle.verifier.specs.private.Pass.{Agrees};
 
 // How many, and a bit for each, the last pushed in the lowest: 1 for a real.
@@ -74,15 +74,15 @@ pub fn lowest(w: Held) -> u8
     (low % 2) as u8
 }
 
-fn second(w: Held) -> u8
+pub fn second(w: Held) -> u8
     ensures { λ r. ⌜ r ≡ word w / 2 % 2 ⌝ }
 {
     let low = w.low;
     (low / 2 % 2) as u8
 }
 
-// The kinds of the last two come from the bits, whatever the array has: two numbers, however many are held.
-pub fn refill(kinds: &mut [u8; 128], w: Held)
+// The kind of the last comes from the bits, whatever the array has.
+pub fn uncover(kinds: &mut [u8; 128], w: Held)
     requires { ⌜ (length (now kinds) ≡ 128) × Canonical w ⌝ }
     ensures { λ _. ⌜ ArrayHolds (now (kinds .exit)) w ⌝ }
 {
@@ -91,22 +91,6 @@ pub fn refill(kinds: &mut [u8; 128], w: Held)
         return;
     }
     kinds[h - 1] = lowest(w);
-    if h == 1 {
-        return;
-    }
-    kinds[h - 2] = second(w);
-}
-
-// After a pop: what has come to light below the last.
-pub fn uncover(kinds: &mut [u8; 128], w: Held)
-    requires { ⌜ HoldsLast 1 (now kinds) w ⌝ }
-    ensures { λ _. ⌜ ArrayHolds (now (kinds .exit)) w ⌝ }
-{
-    let h = w.height;
-    if h < 2 {
-        return;
-    }
-    kinds[h - 2] = second(w);
 }
 
 // Whether every value held is an integer.

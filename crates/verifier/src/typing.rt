@@ -1,12 +1,14 @@
-// What an instruction makes of the kinds of the values held. An array has them, and so have the bits of `Held`. The array's are right for
-// the last two values, which are all that an instruction takes: below them it may have those of values that other code held, where only
-// jumps reach a place.
+// What an instruction makes of the kinds of the values held. An array has them, and so have the bits of `Held`. The array's is right for the
+// last value: below it, where only jumps reach a place, it may have those of values that other code held, so the one below it comes from the
+// bits.
 ghost use mathlib.Core.Path.{_≡_};
+ghost use mathlib.Core.List.{_∷_};
 ghost use Prim.Native.Nat.{_<_};
+ghost use lib.ListN.{length};
 ghost use Rattle.code.specs.declared.Class.the-variants.{Since, LoadIndexed, Unary, Binary, Match};
 ghost use Rattle.code.specs.private.Classes.{instrIn};
-ghost use Rattle.verifier.specs.Typing.{moveOf};
-ghost use Rattle.verifier.specs.private.Shapes.{numberKind, kindsOf, below, leaving, pushNumber, ArrayHolds, Leaves};
+ghost use Rattle.verifier.specs.Typing.{next, moveOf};
+ghost use Rattle.verifier.specs.private.Shapes.{numberKind, kindsOf, below, leaving, pushNumber, Canonical, ArrayHolds, Leaves};
 use crate::kinds;
 use crate::packing;
 use crate::packing::Held;
@@ -46,7 +48,19 @@ pub fn push(kinds: &mut [u8; 128], held: Held, n: u8) -> Flow
     }
 }
 
-// Another value for the last.
+// Another value for the last, whose kind the array need not have.
+fn place(kinds: &mut [u8; 128], held: Held, n: u8) -> Flow
+    requires { ⌜ (length (now kinds) ≡ 128) × Canonical held × (0 < held .height) × (n < 2) ⌝ }
+    ensures { λ r. ⌜ Leaves (now (kinds .exit)) r (next (numberKind n ∷ below held)) ⌝ }
+{
+    let h = held.height;
+    kinds[h - 1] = n;
+    Flow {
+        reach: 2,
+        held: packing::replaced(held, n),
+    }
+}
+
 fn replace(kinds: &mut [u8; 128], held: Held, n: u8) -> Flow
     requires { ⌜ ArrayHolds (now kinds) held ⌝ }
     requires { ⌜ 0 < held .height ⌝ }
@@ -55,12 +69,7 @@ fn replace(kinds: &mut [u8; 128], held: Held, n: u8) -> Flow
     if NOT_TAKEN <= n {
         return Flow { reach: 0, held };
     }
-    let h = held.height;
-    kinds[h - 1] = n;
-    Flow {
-        reach: 2,
-        held: packing::replaced(held, n),
-    }
+    place(kinds, held, n)
 }
 
 pub fn indexed(kinds: &mut [u8; 128], held: Held, w: u64) -> Flow
@@ -105,13 +114,11 @@ pub fn binary(kinds: &mut [u8; 128], held: Held, w: u64) -> Flow
     if h < 2 {
         return Flow { reach: 0, held };
     }
-    let k = kinds::binary_kind(w, kinds[h - 2], kinds[h - 1]);
+    let k = kinds::binary_kind(w, packing::second(held), kinds[h - 1]);
     if NOT_TAKEN <= k {
         return Flow { reach: 0, held };
     }
-    let rest = packing::popped(held);
-    packing::uncover(kinds, rest);
-    replace(kinds, rest, k)
+    place(kinds, packing::popped(held), k)
 }
 
 pub fn matching(kinds: &mut [u8; 128], held: Held, w: u64) -> Flow

@@ -185,8 +185,8 @@ joined-at-requires c κs =
       sized (m .step .ensures .1 .0),
     )
 
-refill-requires : tie.Need-refill-requires Inv-loop μ-loop
-refill-requires c κs = (
+uncover-requires : tie.Need-uncover-requires Inv-loop μ-loop
+uncover-requires c κs = (
   c .before .before .before .before .before .before .before .before .before .before .before .before .before .before .before .before
       .before .before .before .before .step .ensures .0 .whole,
   c .before .joined-at .ensures .0,
@@ -208,7 +208,7 @@ loop-again c =
     let e = c .before .before .before .before .before .before .before .before .before .before .if3 .taken in
     record {
       within = c .before .before .before .before .before .before .before .before .skipped .ensures .way .within;
-      keeps = c .refill .ensures;
+      keeps = c .uncover .ensures;
       table = resized (tops-kept (at-loop m)) (m .step .ensures .1 .0);
       knows = landed _ _ _ (jumped m e) (came-not m e) (λ q e. rw e)
           (c .before .before .before .before .before .before .before .before .skipped .ensures) (c .before .before .joined-at .ensures .1);
@@ -312,7 +312,7 @@ checked-spec =
     same-length-6
     returns-3
     joined-at-requires
-    refill-requires
+    uncover-requires
     loop-less
     loop-again
     is-admitted-requires

@@ -5,7 +5,7 @@ use native.Mathlib.Omega.{arith}
 use borrow.Author.Needs.{needs}
 use borrow.Author.Tests.{leb-true, not-true, not-false}
 use Rattle.code.specs.Instructions.{wordOf}
-use Rattle.verifier.proofs.Held.{keeps-popped}
+use Rattle.verifier.proofs.Bits.{neat-popped}
 use Rattle.verifier.proofs.Stepping.{fork-short, fork-strays, fork-lands, fork-fails}
 use Rattle.verifier.proofs.fork.Statement.{statement}
 use Rattle.verifier.proofs.fork.Tie as tie
@@ -30,8 +30,9 @@ popped-requires : tie.Need-popped-requires
 popped-requires c κs = search needs
 
 uncover-requires : tie.Need-uncover-requires
-uncover-requires c κs = keeps-popped (c .before .before .before .before .before .before .before .before .before .pre .0)
-    (omega (arith, c .before .before .before .before .if1 .left)) (c .before .popped .ensures)
+uncover-requires c κs =
+    let k = c .before .before .before .before .before .before .before .before .before .pre .0 in
+    (k .whole, neat-popped (omega (arith, c .before .before .before .before .if1 .left)) (c .before .popped .ensures) (k .canonical))
 
 word-of-requires : tie.Need-word-of-requires
 word-of-requires c κs = search needs

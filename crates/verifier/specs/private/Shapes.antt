@@ -1,5 +1,5 @@
--- How the code has what the definitions speak of: kinds in an array of 128 numbers, 0 for an integer, of which the last two count, beside it all of them as
--- bits, and bits alone for a place that jumps go to. For the contracts of private functions, as Pass is; a reader believes Typing, Accepts, Stack and
+-- How the code has what the definitions speak of: kinds in an array of 128 numbers, 0 for an integer, of which the last counts, beside it all of them as bits,
+-- and bits alone for a place that jumps go to. For the contracts of private functions, as Pass is; a reader believes Typing, Accepts, Stack and
 -- Safety.
 use mathlib.Core.Path.{_≡_}
 use mathlib.Core.Bool.{Bool, cond}
@@ -52,12 +52,6 @@ withinBank w = rangeWithin (bankElements (bankNumbered (rangeBank w))) (rangeFir
 
 -- ---- kinds as numbers in the array, and as bits
 
--- the kind that is i below the last pushed
-abbrev pub kindBelow : Shape → ℕ → Kind
-kindBelow [] i = Int
-kindBelow (k ∷ s) zero = k
-kindBelow (k ∷ s) (suc i) = kindBelow s i
-
 -- the kinds of the lowest h bits, the lowest first
 abbrev pub bitKinds : ℕ → ℕ → Shape
 bitKinds zero w = []
@@ -77,15 +71,11 @@ pub record Canonical (w : Held) : Type 0 where
   pub low : w .height ≤ 128
   pub few : word w < 2 ^ w .height
 
--- the array has its 128 numbers, and the kinds of the last m values are those of the bits
-pub record HoldsLast (m : ℕ) (a : List ℕ) (w : Held) : Type 0 where
+-- the array has its 128 numbers, and the last value's kind is that of the lowest bit
+pub record ArrayHolds (a : List ℕ) (w : Held) : Type 0 where
   pub whole : length a ≡ 128
   pub canonical : Canonical w
-  pub is : (i : ℕ) → i < m → i < w .height → numberKind (getD a (w .height - suc i) 0) ≡ kindBelow (kindsOf w) i
-
--- of as many as an instruction takes
-abbrev pub ArrayHolds : List ℕ → Held → Type 0
-ArrayHolds = HoldsLast 2
+  pub last : 0 < w .height → numberKind (getD a (w .height - 1) 0) ≡ numberKind (word w % 2)
 
 pub record Pushed (n : ℕ) (w r : Held) : Type 0 where
   pub height : r .height ≡ w .height + 1

@@ -1,4 +1,4 @@
--- `verifier::packing::uncover` meets its contract: there is one below the last, or not.
+-- `verifier::packing::uncover` meets its contract: a value is held, or none.
 use native.Mathlib.Omega.{arith}
 use borrow.Author.Needs.{needs}
 use Rattle.verifier.proofs.Held.{uncovers-none, uncovers}
@@ -6,22 +6,20 @@ use Rattle.verifier.proofs.packing.uncover.Statement.{statement}
 use Rattle.verifier.proofs.packing.uncover.Tie as tie
 
 returns : tie.Need-returns
-returns c = uncovers-none (c .before .pre) (c .if1 .taken)
+returns c = uncovers-none (c .before .args .kinds .now) (c .before .args .w) (c .before .pre .0) (c .before .pre .1) (c .if1 .taken)
 
-second-requires : tie.Need-second-requires
-second-requires c κs = search needs
+lowest-requires : tie.Need-lowest-requires
+lowest-requires c κs = search needs
+
+sub-kinds : tie.Need-sub-kinds
+sub-kinds c = search needs
 
 element-write-kinds : tie.Need-element-write-kinds
-element-write-kinds c = omega (arith, c .before .before .pre .whole, c .before .before .pre .canonical .low)
+element-write-kinds c = omega (arith, c .before .before .pre .0, c .before .before .pre .1 .low)
 
 returns-2 : tie.Need-returns-2
-returns-2 c = uncovers (c .before .before .pre) _ (c .second .ensures) (omega arith)
+returns-2 c = uncovers (c .before .before .args .kinds .now) (c .before .before .args .w) (c .before .before .pre .0) (c .before .before .pre .1) _
+    (c .lowest .ensures) (omega arith)
 
 pub uncover-spec : {M : Type 1} → statement M
-uncover-spec =
-    tie.close
-    (tie.spec
-    returns
-    second-requires
-    element-write-kinds
-    returns-2)
+uncover-spec = tie.close (tie.spec returns lowest-requires sub-kinds element-write-kinds returns-2)
