@@ -1,23 +1,27 @@
 -- From a step with reals to one without: an instruction that reads R is not known there, and one that leaves a real cannot act.
 use mathlib.Core.Path.{_≡_, refl, sym, ap, _∙_}
-use mathlib.Core.Bool.{Bool, true, false, not, _&&_, cond, true≢false, false≢true}
-use mathlib.Core.List.{List}
-use Prim.Native.Nat.{ℕ}
+use mathlib.Core.Bool.{Bool, true, false, not, _&&_, cond, false≢true}
+use mathlib.Core.List.{List, [], _∷_}
+use Prim.Native.Nat.{ℕ, zero, suc, _≤_}
+use native.Mathlib.Omega.{arith}
+use lib.Dec.{ltb}
+use borrow.Author.Tests.{le-ltb}
+use Rattle.values.specs.declared.Kind.{Kind}
+use Rattle.values.specs.declared.Kind.the-variants.{Real}
+use Rattle.operators.specs.Kinds.{isInt}
 use Rattle.code.specs.declared.Instr.{Instr}
-use Rattle.code.specs.declared.Instr.the-variants.{Unknown}
 use Rattle.code.specs.Reals.{readsReal}
-use Rattle.verifier.specs.Typing.{Shape, Move, illTyped, moveOf, wellFormed}
+use Rattle.verifier.specs.Typing.{Shape, Move, illTyped, next, hasRoom, moveOf, wellFormed}
 use Rattle.verifier.specs.Accepts.{MovesTo, instrAt}
 use Rattle.verifier.specs.Profile.{allInt, heldAfter, moveIn, wellFormedIn, ReachedIn, start, onward}
-use Rattle.verifier.specs.private.Shapes.{State, rejected, holds}
-use Rattle.verifier.specs.private.Pass.{clashes, Steps, stuck, strays, goes, leaps, forks, leap-clash, fork-clash, admits}
-use Rattle.verifier.proofs.Moves.{able, held, unknown-not, known-in}
-use Rattle.verifier.proofs.Pass.{holds-same, unheld, unfailed}
+use Rattle.verifier.specs.private.Shapes.{State, rejected, numberKind, kindLimit, leavingUnder, leaving, pushUnder, pushNumber}
+use Rattle.verifier.specs.private.Pass.{Steps, stuck, strays, goes, leaps, forks, leap-clash, fork-clash, admits, allAdmitted, admittedMove}
+use Rattle.verifier.proofs.Moves.{able, held, known-in}
 
 -- ---- moves
 
 module _ (i : Instr) (s : Shape) {m : Move} (e : moveOf i s ≡ m) where
-  stays : allInt (heldAfter m) ≡ true → moveIn false i s ≡ m
+  pub stays : allInt (heldAfter m) ≡ true → moveIn false i s ≡ m
   stays a = rw (e, a)
 
   stops : allInt (heldAfter m) ≡ false → moveIn false i s ≡ illTyped
@@ -35,11 +39,23 @@ pub ints-reached : {c : List Instr} {p : ℕ} {s : Shape} → ReachedIn false c 
 ints-reached start = refl
 ints-reached {c} (onward {p} {s = s} d l w) = ints-moved (instrAt c p) s w
 
+pub reached-admitted : (reals : Bool) {c : List Instr} {p : ℕ} {s : Shape} → ReachedIn reals c p s → allAdmitted reals s ≡ true
+reached-admitted true d = refl
+reached-admitted false d = ints-reached d
+
 -- ---- tests
 
-both : (a b : Bool) → (not a && b) ≡ true → (a ≡ false) × (b ≡ true)
+pub both : (a b : Bool) → (not a && b) ≡ true → (a ≡ false) × (b ≡ true)
 both true b e = absurd (false≢true e)
 both false b e = (refl, e)
+
+second : (a b : Bool) → (a && b) ≡ true → b ≡ true
+second true b e = e
+second false b e = absurd (false≢true e)
+
+pub below-admitted : (reals : Bool) (k : Kind) (s : Shape) → allAdmitted reals (k ∷ s) ≡ true → allAdmitted reals s ≡ true
+below-admitted true k s e = refl
+below-admitted false k s e = second (isInt k) (allInt s) e
 
 stray : (k : ℕ) (i : Instr) → readsReal i ≡ true → wellFormedIn false k i ≡ false
 stray k i e = rw e (no (wellFormed k i))
@@ -51,70 +67,61 @@ stray k i e = rw e (no (wellFormed k i))
 -- ---- a step
 
 module _ {i : Instr} {k p : ℕ} {s : Shape} {before : ℕ → State} where
-  -- the instruction of one that goes on is known
-  pub known : {o : State} {r : Shape} {after : ℕ → State} → Steps true i k p s before o after → o ≡ holds r → i ≡ Unknown → ⊥
-  known (stuck e) h = absurd (unfailed (sym h))
-  known (strays e) h = absurd (unfailed (sym h))
-  known (goes t e) h = unknown-not k i t
-  known (leaps j t e b) h = unheld h
-  known (forks t e b) h = unknown-not k i t
-  known (leap-clash e b) h = absurd (unfailed (sym h))
-  known (fork-clash e b) h = absurd (unfailed (sym h))
-
-  -- what the code finds admitted of the kinds r, which it goes on with, is admitted
-  pub lets : (reals : Bool) {b : Bool} {o : State} {r : Shape} {after : ℕ → State} → Steps true i k p s before o after → o ≡ holds r
-      → ((i ≡ Unknown → ⊥) → b ≡ admits reals i r) → b ≡ true → (x : Shape) → o ≡ holds x → admits reals i x ≡ true
-  lets reals t e says y x f = ap (admits reals i) (holds-same (sym f ∙ e)) ∙ sym (says (known t e)) ∙ y
-
-  -- a jump that does not agree with those before it: or it could not act
-  clash : {m : Move} → moveOf i s ≡ m → (moveIn false i s ≡ m → Steps false i k p s before rejected before) → Steps false i k p s before rejected before
-  clash {m} e f = by (allInt (heldAfter m)) refl
-    where
-      by : (b : Bool) → allInt (heldAfter m) ≡ b → Steps false i k p s before rejected before
-      by true a = f (stays i s e a)
-      by false a = stuck (stops i s e a)
-
-  pub admitted : (reals : Bool) {c : List Instr} {q : ℕ} {o : State} {after : ℕ → State} → ReachedIn reals c q s
-      → ((r : Shape) → o ≡ holds r → admits reals i r ≡ true) → Steps true i k p s before o after → Steps reals i k p s before o after
-  admitted true d f t = t
-  admitted false d f (stuck e) = stuck (rw e)
-  admitted false d f (strays e) = strays (rw e)
-  admitted false d f (goes {r = r} t e) =
-      let a = both (readsReal i) (allInt r) (f r refl) in
-      goes (known-in i k t (a .0)) (stays i s e (a .1))
-  admitted false d f (leaps j t e b) = leaps j (known-in i k t (ap readsReal j)) (stays i s e (ints-reached d)) b
-  admitted false d f (forks {r = r} t e b) =
-      let a = both (readsReal i) (allInt r) (f r refl) in
-      forks (known-in i k t (a .0)) (stays i s e (a .1)) b
-  admitted false d f (leap-clash e (clashes x n)) = clash e (λ g. leap-clash g (clashes x n))
-  admitted false d f (fork-clash e (clashes x n)) = clash e (λ g. fork-clash g (clashes x n))
-
-  barred-move : {m : Move} → moveOf i s ≡ m → admits false i (heldAfter m) ≡ false → Steps false i k p s before rejected before
+  pub barred-move : {m : Move} → moveOf i s ≡ m → admits false i (heldAfter m) ≡ false → Steps false i k p s before rejected before
   barred-move {m} e = by (readsReal i) refl
     where
       by : (b : Bool) → readsReal i ≡ b → (not b && allInt (heldAfter m)) ≡ false → Steps false i k p s before rejected before
       by true j a = strays (stray k i j)
       by false j a = stuck (stops i s e a)
 
-  pub barred : (reals : Bool) {o : State} {r : Shape} {after : ℕ → State} → o ≡ holds r → admits reals i r ≡ false → Steps true i k p s before o after
-      → Steps reals i k p s before rejected before
-  barred true h a t = absurd (true≢false a)
-  barred false h a (stuck e) = absurd (unfailed (sym h))
-  barred false h a (strays e) = absurd (unfailed (sym h))
-  barred false h a (goes t e) = barred-move e (ap (admits false i) (holds-same h) ∙ a)
-  barred false h a (leaps j t e b) = unheld h
-  barred false h a (forks t e b) = barred-move e (ap (admits false i) (holds-same h) ∙ a)
-  barred false h a (leap-clash e b) = absurd (unfailed (sym h))
-  barred false h a (fork-clash e b) = absurd (unfailed (sym h))
+  -- a jump that leaves integers
+  pub jumping : (reals : Bool) {o : State} {after : ℕ → State} → (reals ≡ false → allInt (heldAfter (moveOf i s)) ≡ true) → readsReal i ≡ false
+      → Steps true i k p s before o after → Steps reals i k p s before o after
+  jumping true h j t = t
+  jumping false h j (stuck e) = stuck (rw e)
+  jumping false h j (strays e) = strays (rw e)
+  jumping false h j (goes t e) = goes (known-in i k t j) (stays i s e (ap (λ m. allInt (heldAfter m)) (sym e) ∙ h refl))
+  jumping false h j (leaps q t e b) = leaps q (known-in i k t j) (stays i s e (ap (λ m. allInt (heldAfter m)) (sym e) ∙ h refl)) b
+  jumping false h j (forks t e b) = forks (known-in i k t j) (stays i s e (ap (λ m. allInt (heldAfter m)) (sym e) ∙ h refl)) b
+  jumping false h j (leap-clash e b) = leap-clash (stays i s e (ap (λ m. allInt (heldAfter m)) (sym e) ∙ h refl)) b
+  jumping false h j (fork-clash e b) = fork-clash (stays i s e (ap (λ m. allInt (heldAfter m)) (sym e) ∙ h refl)) b
 
--- ---- whether an instruction and what it leaves are admitted
+-- ---- what an instruction leaves, by its number
 
-pub admits-full : (reals : Bool) (i : Instr) (s : Shape) → reals ≡ true → true ≡ admits reals i s
-admits-full reals i s r = rw r
+-- without reals, what leaves an integer does not read R
+abbrev pub Silent : Bool → ℕ → Instr → Type 0
+Silent reals n i = reals ≡ false → n ≡ 0 → readsReal i ≡ false
 
-module _ (reals : Bool) (i : Instr) (s : Shape) (r : reals ≡ false) {x : Bool} (says : (i ≡ Unknown → ⊥) → x ≡ readsReal i) (n : i ≡ Unknown → ⊥) where
-  pub admits-reader : x ≡ true → false ≡ admits reals i s
-  admits-reader y = rw (r, sym (says n) ∙ y)
+flat : (b : Bool) → cond b illTyped illTyped ≡ illTyped
+flat true = refl
+flat false = refl
 
-  pub admits-held : {t : Bool} → x ≡ false → t ≡ allInt s → t ≡ admits reals i s
-  admits-held y e = rw (r, sym (says n) ∙ y) e
+none-left : (b : Bool) (m : Move) → cond (b && false) m illTyped ≡ illTyped
+none-left true m = refl
+none-left false m = refl
+
+-- a number that is no kind's
+over : (l n : ℕ) (m : Move) → l ≤ n → cond (ltb n l) m illTyped ≡ illTyped
+over l n m h = ap (λ b. cond b m illTyped) (le-ltb n l h)
+
+pub none-admitted : (reals : Bool) (i : Instr) (s : Shape) → moveOf i s ≡ illTyped → admittedMove reals i s ≡ illTyped
+none-admitted reals i s e = rw e (flat (admits reals i []))
+
+-- with room for it, or not
+leaves : (reals : Bool) (i : Instr) (s : Shape) (b : Bool) (n : ℕ) (t : Shape)
+    → moveOf i s ≡ cond (ltb n 2) (cond b (next (numberKind n ∷ t)) illTyped) illTyped → allAdmitted reals t ≡ true → Silent reals n i
+    → admittedMove reals i s ≡ cond (ltb n (kindLimit reals)) (cond b (next (numberKind n ∷ t)) illTyped) illTyped
+leaves true i s b n t e a f = e
+leaves false i s false n t e a f = none-admitted false i s (e ∙ flat (ltb n 2)) ∙ sym (flat (ltb n 1))
+leaves false i s true zero t e a f = rw (e, f refl refl, a)
+leaves false i s true (suc zero) t e a f = rw e (none-left (not (readsReal i)) (next (Real ∷ t)))
+leaves false i s true (suc (suc n)) t e a f =
+    none-admitted false i s (e ∙ over 2 (suc (suc n)) _ (omega arith)) ∙ sym (over 1 (suc (suc n)) _ (omega arith))
+
+module _ (reals : Bool) (i : Instr) (s : Shape) (n : ℕ) where
+  pub leaves-replaced : (t : Shape) → moveOf i s ≡ leaving n t → allAdmitted reals t ≡ true → Silent reals n i
+      → admittedMove reals i s ≡ leavingUnder (kindLimit reals) n t
+  leaves-replaced t = leaves reals i s true n t
+
+  pub leaves-pushed : moveOf i s ≡ pushNumber n s → allAdmitted reals s ≡ true → Silent reals n i → admittedMove reals i s ≡ pushUnder (kindLimit reals) n s
+  leaves-pushed = leaves reals i s (hasRoom s) n s

@@ -1,6 +1,6 @@
 -- Kinds as bits: pushing, popping and comparing them.
 use mathlib.Core.Path.{_≡_, refl, sym, ap, _∙_, subst}
-use mathlib.Core.Bool.{Bool, true, false, _&&_, true≢false, false≢true}
+use mathlib.Core.Bool.{Bool, true, false, true≢false, false≢true}
 use mathlib.Core.List.{List, _∷_}
 use Prim.Native.Nat.{ℕ, zero, suc, _+_, _-_, _*_, _/_, _%_, _^_, _≤_, _<_}
 use native.Mathlib.Nat.{lt-of-lt-of-le, lt-of-not-le, not-le-of-lt, le-trans, mul-le-mul-right, le-add-right, pow-succ'}
@@ -9,11 +9,9 @@ use native.Mathlib.Omega.{arith}
 use lib.Dec.{eqb}
 use lib.ListN.{length}
 use lib.Pow.{pow-mono}
-use borrow.Author.Tests.{eqb-true, eqb-false, eq-eqb, ne-eqb}
-use Rattle.operators.specs.Kinds.{isInt}
+use borrow.Author.Tests.{eqb-true, eqb-false}
 use Rattle.verifier.specs.declared.packing.Held.{Held}
 use Rattle.verifier.specs.Typing.{Shape}
-use Rattle.verifier.specs.Profile.{allInt}
 use Rattle.verifier.specs.private.Shapes.{numberKind, kindNumber, bitKinds, word, kindsOf, Canonical, Pushed, Popped}
 use Rattle.verifier.specs.private.Pass.{Agrees}
 
@@ -106,33 +104,3 @@ module _ (a c : Held) where
         go : (b : Bool) → eqb (a .high) (c .high) ≡ b → Agrees b (kindsOf a) (kindsOf c)
         go true e = agree refl (rw (h, l, eqb-true (a .high) (c .high) e))
         go false e = disagree refl (λ f. eqb-false (a .high) (c .high) e (omega (arith, words-same f)))
-
--- ---- integers alone: no bit is set
-
-same-test : (a b : ℕ) → (a ≡ 0 → b ≡ 0) → (b ≡ 0 → a ≡ 0) → eqb a 0 ≡ eqb b 0
-same-test a b f g = go (eqb a 0) refl
-  where
-    go : (t : Bool) → eqb a 0 ≡ t → t ≡ eqb b 0
-    go true e = sym (eq-eqb b 0 (f (eqb-true a 0 e)))
-    go false e = sym (ne-eqb b 0 (λ z. eqb-false a 0 e (g z)))
-
-lowest-int : (w : ℕ) (t : Bool) → t ≡ eqb (w / 2) 0 → (isInt (numberKind (w % 2)) && t) ≡ eqb w 0
-lowest-int w t e = by (w % 2) refl
-  where
-    by : (b : ℕ) → w % 2 ≡ b → (isInt (numberKind b) && t) ≡ eqb w 0
-    by zero i = e ∙ same-test (w / 2) w (λ z. omega arith) (λ z. omega arith)
-    by (suc zero) i = sym (ne-eqb w 0 (λ z. omega arith))
-    by (suc (suc b)) i = absurd (omega arith)
-
-bits-int : (h w : ℕ) → w < 2 ^ h → allInt (bitKinds h w) ≡ eqb w 0
-bits-int zero w l = let e : w ≡ 0 = omega arith in rw e
-bits-int (suc h) w l =
-    let l₂ : w < 2 * 2 ^ h = rw (pow-succ' 2 h) at l in
-    lowest-int w (allInt (bitKinds h (w / 2))) (bits-int h (w / 2) (omega arith))
-
-module _ (w : Held) (k : Canonical w) where
-  pub low-real : (w .low ≡ 0 → ⊥) → false ≡ allInt (kindsOf w)
-  low-real n = sym (bits-int (w .height) (word w) (k .few) ∙ ne-eqb (word w) 0 (λ e. n (omega arith)))
-
-  pub high-decides : w .low ≡ 0 → eqb (w .high) 0 ≡ allInt (kindsOf w)
-  high-decides e = same-test (w .high) (word w) (λ z. omega arith) (λ z. omega arith) ∙ sym (bits-int (w .height) (word w) (k .few))

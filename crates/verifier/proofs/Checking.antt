@@ -21,11 +21,11 @@ use Rattle.verifier.specs.Typing.{Shape}
 use Rattle.verifier.specs.Accepts.{instrAt}
 use Rattle.verifier.specs.Profile.{wellFormedIn, AcceptsIn, CorrectVerdictIn}
 use Rattle.verifier.specs.private.Shapes.{State, rejected, unreached, holds, kindsOf, none, ArrayHolds, tableOf, Table, Blank}
-use Rattle.verifier.specs.private.Pass.{verdictOf, Joins, takes, Steps, Skips, admits}
+use Rattle.verifier.specs.private.Pass.{verdictOf, Joins, takes, Steps, Skips, allAdmitted}
 use Rattle.verifier.proofs.Pass.{unheld, unfailed, unarrived, Comes, Knows, Or, passes, refusal, passage, begins, joined, verdict-sound}
 use Rattle.verifier.proofs.Pass.{verdict-complete}
 use Rattle.verifier.proofs.Onward.{stepped, passed}
-use Rattle.verifier.proofs.Admitted.{known, admitted, barred}
+use Rattle.verifier.proofs.Admitted.{reached-admitted}
 use Rattle.verifier.proofs.Held.{keeps-none}
 
 -- tables of m places, filled with 0
@@ -89,6 +89,9 @@ module _ (reals : Bool) (code : List ℕ) (n : ℕ) where
     pub table : Table m tops lows highs
     pub knows : Knows reals (instructions code n) p (tableOf tops lows highs) (holds (kindsOf held))
 
+  pub held-admitted : {p : ℕ} {brought : ℕ → State} {s : Shape} → Knows reals (instructions code n) p brought (holds s) → allAdmitted reals s ≡ true
+  held-admitted {s = s} k = reached-admitted reals (k .comes .flow s refl)
+
   pub first : {tops lows highs : List ℕ} → Blank n tops lows highs → Passing (length tops) 0 (replicate 128 0) tops lows highs none
   first blank = record {
     within = omega arith;
@@ -103,21 +106,13 @@ module _ (reals : Bool) (code : List ℕ) (n : ℕ) where
 
   module _ {p : ℕ} {i : Instr} {s : Shape} {before : ℕ → State} (l : p < n) (is : decodeAt code p ≡ i)
       (k : Knows reals (instructions code n) p before (holds s)) where
-    along : {after : ℕ → State} {o : State} → Steps reals i (n - (p + 1)) (p + 1) s before o after → Came (p + 1) after o
-    along {after} {o} t =
+    pub turn : {after : ℕ → State} {o : State} → Steps reals i (n - (p + 1)) (p + 1) s before o after → Came (p + 1) after o
+    turn {after} {o} t =
         let here : i ≡ instrAt (instructions code n) p = sym (at l ∙ is) in
         let left : n - suc p ≡ length (instructions code n) - suc p = ap (λ m. m - suc p) (sym size) in
         let t′ : Steps reals (instrAt (instructions code n) p) (length (instructions code n) - suc p) (suc p) s before o after =
         rw (add-one p, here, left) at t in
         rw (add-one p) (stepped reals (instructions code n) p before (omega (arith, size)) k t′)
-
-    module _ {after : ℕ → State} {o : State} (t : Steps true i (n - (p + 1)) (p + 1) s before o after) where
-      pub turn : ((r : Shape) → o ≡ holds r → admits reals i r ≡ true) → Came (p + 1) after o
-      turn f = along (admitted reals (k .comes .flow s refl) f t)
-
-      -- it goes on with the kinds r, which are not admitted
-      pub bars : {r : Shape} {b : Bool} → o ≡ holds r → ((i ≡ Unknown → ⊥) → b ≡ admits reals i r) → b ≡ false → CorrectVerdictIn reals code n Refused
-      bars e says y = refused (refusal (along (barred reals e (sym (says (known t e)) ∙ y) t)) refl)
 
   pub fails : {p : ℕ} {brought : ℕ → State} {o : State} → Came p brought o → o ≡ rejected → CorrectVerdictIn reals code n Refused
   fails w e = refused (refusal w e)

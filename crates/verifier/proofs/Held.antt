@@ -33,8 +33,9 @@ use Rattle.verifier.specs.declared.typing.Flow.{Flow}
 use Rattle.verifier.specs.Typing.{Shape, Move, illTyped, next, moveOf}
 use Rattle.verifier.specs.private.Shapes.{
   numberKind,
-  leaving,
-  pushNumber,
+  leavingUnder,
+  pushUnder,
+  kindLimit,
   ReplacesKind,
   ReplacesTwo,
   bitKinds,
@@ -51,6 +52,8 @@ use Rattle.verifier.specs.private.Shapes.{
   stops,
   goes,
 }
+use Rattle.verifier.specs.private.Pass.{allAdmitted, admittedMove}
+use Rattle.verifier.proofs.Admitted.{Silent, below-admitted, leaves-replaced}
 use Rattle.verifier.proofs.Bits.{bits-length, neat-pushed, kinds-pushed, neat-popped, kinds-popped}
 
 -- ---- numbers as kinds
@@ -131,20 +134,34 @@ module _ {a : List ℕ} {w : Held} {n : ℕ} (k : ArrayHolds a w) where
     last = λ g. lasts a (w .height) n r (omega (arith, k .whole)) (omega (arith, p .height)) (lowest-bit (word w) b (p .bits));
   }
 
-  pub pushes : {r : Held} → n < 2 → w .height < 128 → Pushed n w r → Leaves (set a (w .height) n) (record { reach = 2; held = r }) (pushNumber n (kindsOf w))
-  pushes b l p = rw (lt-ltb n 2 b, bits-length (w .height) (word w), lt-ltb (w .height) 128 l, ← kinds-pushed b p) (goes refl (keeps-pushed b l p))
+  module _ (l : ℕ) where
+    pub pushes : {r : Held} → n < l → n < 2 → w .height < 128 → Pushed n w r
+        → Leaves (set a (w .height) n) (record { reach = 2; held = r }) (pushUnder l n (kindsOf w))
+    pushes u b t p = rw (lt-ltb n l u, bits-length (w .height) (word w), lt-ltb (w .height) 128 t, ← kinds-pushed b p) (goes refl (keeps-pushed b t p))
 
-  pub full : n < 2 → 128 ≤ w .height → Leaves a (record { reach = 0; held = w }) (pushNumber n (kindsOf w))
-  full b l = rw (lt-ltb n 2 b, bits-length (w .height) (word w), le-ltb (w .height) 128 l) (stops refl k)
+    pub full : n < l → 128 ≤ w .height → Leaves a (record { reach = 0; held = w }) (pushUnder l n (kindsOf w))
+    full u t = rw (lt-ltb n l u, bits-length (w .height) (word w), le-ltb (w .height) 128 t) (stops refl k)
 
-  pub unpushed : 2 ≤ n → Leaves a (record { reach = 0; held = w }) (pushNumber n (kindsOf w))
-  unpushed b = rw (le-ltb n 2 b) (stops refl k)
+    pub unpushed : l ≤ n → Leaves a (record { reach = 0; held = w }) (pushUnder l n (kindsOf w))
+    unpushed u = rw (le-ltb n l u) (stops refl k)
 
-  pub unplaced : (s : Shape) → 2 ≤ n → Leaves a (record { reach = 0; held = w }) (leaving n s)
-  unplaced s b = rw (le-ltb n 2 b) (stops refl k)
+    pub unplaced : (s : Shape) → l ≤ n → Leaves a (record { reach = 0; held = w }) (leavingUnder l n s)
+    unplaced s u = rw (le-ltb n l u) (stops refl k)
 
-pub placed : {n : ℕ} {b : List ℕ} {f : Flow} (s : Shape) → n < 2 → Leaves b f (next (numberKind n ∷ s)) → Leaves b f (leaving n s)
-placed {n} s b = likewise (ap (λ t. cond t (next (numberKind n ∷ s)) illTyped) (lt-ltb n 2 b))
+pub placed : (l n : ℕ) {b : List ℕ} {f : Flow} (s : Shape) → n < l → Leaves b f (next (numberKind n ∷ s)) → Leaves b f (leavingUnder l n s)
+placed l n s u = likewise (ap (λ t. cond t (next (numberKind n ∷ s)) illTyped) (lt-ltb n l u))
+
+-- ---- the limit of kinds, found to be x
+
+pub under-limit : (n : ℕ) {x l : ℕ} → x ≡ l → n < x → n < l
+under-limit n e u = omega arith
+
+pub from-limit : (n : ℕ) {x l : ℕ} → x ≡ l → x ≤ n → l ≤ n
+from-limit n e u = omega arith
+
+pub under-two : (reals : Bool) (n : ℕ) → n < kindLimit reals → n < 2
+under-two true n u = u
+under-two false n u = omega arith
 
 -- ---- the last brought from the bits
 
@@ -164,25 +181,32 @@ module _ (a : List ℕ) (w : Held) (e : length a ≡ 128) (k : Canonical w) wher
 pub short : {a : List ℕ} {w : Held} {m : Move} → ArrayHolds a w → m ≡ illTyped → Leaves a (record { reach = 0; held = w }) m
 short k e = rw e (stops refl k)
 
-module _ {a : List ℕ} {w : Held} (k : ArrayHolds a w) {i : Instr} {n : ℕ} where
+module _ {a : List ℕ} {w : Held} (k : ArrayHolds a w) {i : Instr} {n : ℕ} (reals : Bool) (d : allAdmitted reals (kindsOf w) ≡ true)
+    (q : Silent reals n i) where
   module _ {b : List ℕ} {f : Flow} where
-    pub taken-one : 0 < w .height → ReplacesKind i (getD a (w .height - 1) 0) n → Leaves b f (leaving n (below w)) → Leaves b f (moveOf i (kindsOf w))
-    taken-one l t = likewise (ap (moveOf i) (last k l) ∙ t .is (below w))
+    pub taken-one : 0 < w .height → ReplacesKind i (getD a (w .height - 1) 0) n → Leaves b f (leavingUnder (kindLimit reals) n (below w))
+        → Leaves b f (admittedMove reals i (kindsOf w))
+    taken-one l t = likewise (ap (admittedMove reals i) e ∙ leaves-replaced reals i _ n (below w) (t .is (below w))
+        (below-admitted reals _ (below w) (ap (allAdmitted reals) (sym e) ∙ d)) q)
+      where
+        e : kindsOf w ≡ numberKind (getD a (w .height - 1) 0) ∷ below w
+        e = last k l
 
     -- the kind of the one below the last is x
     pub taken-two : {v : Held} {x : ℕ} → 1 < w .height → Popped w v → x ≡ word w / 2 % 2 → ReplacesTwo i x (getD a (w .height - 1) 0) n
-        → Leaves b f (leaving n (below v))
-        → Leaves b f (moveOf i (kindsOf w))
-    taken-two {v} {x} l p q t = likewise (ap (moveOf i) all ∙ t .is (below v))
+        → Leaves b f (leavingUnder (kindLimit reals) n (below v))
+        → Leaves b f (admittedMove reals i (kindsOf w))
+    taken-two {v} {x} l p y t = likewise (ap (admittedMove reals i) all ∙ leaves-replaced reals i _ n (below v) (t .is (below v))
+        (below-admitted reals _ (below v) (below-admitted reals _ (numberKind x ∷ below v) (ap (allAdmitted reals) (sym all) ∙ d))) q)
       where
         all : kindsOf w ≡ numberKind (getD a (w .height - 1) 0) ∷ (numberKind x ∷ below v)
         all =
-            let e : below w ≡ numberKind x ∷ below v = next-last l p ∙ ap (λ y. numberKind y ∷ below v) (sym q) in
+            let e : below w ≡ numberKind x ∷ below v = next-last l p ∙ ap (λ y. numberKind y ∷ below v) (sym y) in
             last k (omega arith) ∙ ap (λ s. numberKind (getD a (w .height - 1) 0) ∷ s) e
 
-  pub refused-two : {x : ℕ} → 1 < w .height → x ≡ word w / 2 % 2 → ReplacesTwo i x (getD a (w .height - 1) 0) n → 2 ≤ n
-      → Leaves a (record { reach = 0; held = w }) (moveOf i (kindsOf w))
-  refused-two l q t g = taken-two l (halves w) q t (unplaced k (below (halved w)) g)
+  pub refused-two : {x : ℕ} → 1 < w .height → x ≡ word w / 2 % 2 → ReplacesTwo i x (getD a (w .height - 1) 0) n → kindLimit reals ≤ n
+      → Leaves a (record { reach = 0; held = w }) (admittedMove reals i (kindsOf w))
+  refused-two l y t g = taken-two l (halves w) y t (unplaced k (kindLimit reals) (below (halved w)) g)
 
 -- ---- short of a value
 

@@ -8,6 +8,7 @@ mod Full
 mod Pass
 mod Onward
 mod Bits
+mod Reading
 mod Held
 mod Merging
 mod Stepping

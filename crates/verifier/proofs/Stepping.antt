@@ -1,7 +1,7 @@
 -- From a place to the next: each way through `jump`, `fork` and `step`, and the verdict at the end.
-use mathlib.Core.Path.{_≡_, refl, _∙_}
-use mathlib.Core.Bool.{Bool, true, false}
-use mathlib.Core.List.{List}
+use mathlib.Core.Path.{_≡_, refl, sym, ap, _∙_}
+use mathlib.Core.Bool.{Bool, true, false, cond, true≢false}
+use mathlib.Core.List.{List, [], _∷_}
 use Prim.Native.Nat.{ℕ, zero, suc, _+_, _-_, _≤_, _<_, _%_}
 use native.Mathlib.Omega.{arith}
 use lib.Dec.{leb}
@@ -9,6 +9,7 @@ use lib.ListN.{getD}
 use Rattle.code.specs.declared.Instr.{Instr}
 use Rattle.code.specs.declared.Instr.the-variants.{Jump, JumpIf, Unknown}
 use Rattle.code.specs.declared.Class.{Class}
+use Rattle.code.specs.Reals.{readsReal}
 use Rattle.code.specs.Instructions.{pushInt, opcodeOf, instructionOf, fetched, decodeAt}
 use Rattle.code.specs.private.Classes.{classOf, instrIn}
 use Rattle.code.proofs.Parts.{decode-fetched}
@@ -17,12 +18,13 @@ use Rattle.verifier.specs.declared.typing.Flow.{Flow}
 use Rattle.verifier.specs.declared.Verdict.{Verdict}
 use Rattle.verifier.specs.declared.Verdict.the-variants as Verdict
 use Rattle.verifier.specs.Typing.{Shape, Move, illTyped, jump, fork, moveOf}
-use Rattle.verifier.specs.Profile.{wellFormedIn}
-use Rattle.verifier.specs.private.Shapes.{State, rejected, unreached, holds, pushNumber, numberKind, bitKinds, word, kindsOf, ArrayHolds}
+use Rattle.verifier.specs.Profile.{allInt, heldAfter, moveIn, wellFormedIn}
+use Rattle.verifier.specs.private.Shapes.{State, rejected, unreached, holds, kindLimit, pushUnder, LeavesKind, numberKind, bitKinds, word, kindsOf, ArrayHolds}
 use Rattle.verifier.specs.private.Shapes.{Popped, stateAt, stateOf, Leaves, stops, goes}
 use Rattle.verifier.specs.private.Pass as Pass
-use Rattle.verifier.specs.private.Pass.{verdictOf, Skipping, Merges, Steps, stuck, strays, leaps, forks, leap-clash, fork-clash}
-use Rattle.verifier.proofs.Moves.{upto, goes-known}
+use Rattle.verifier.specs.private.Pass.{verdictOf, Skipping, admits, allAdmitted, admittedMove, Merges, Steps, stuck, strays, leaps, forks, leap-clash, fork-clash}
+use Rattle.verifier.proofs.Moves.{upto, goes-known, known-in}
+use Rattle.verifier.proofs.Admitted.{stays, both, barred-move, jumping, below-admitted, Silent, leaves-pushed}
 use Rattle.verifier.proofs.kinds.Standing.{in-class}
 use Rattle.verifier.proofs.Bits.{kinds-popped}
 
@@ -39,22 +41,41 @@ pub typed-keeps : {a : List ℕ} {f : Flow} {m : Move} → Leaves a f m → Arra
 typed-keeps (stops e k) = k
 typed-keeps (goes e k) = k
 
-pub typed-steps : {i : Instr} {k p : ℕ} {s : Shape} {before : ℕ → State} {a : List ℕ} {f : Flow} {m : Move} → moveOf i s ≡ m → Leaves a f m
-    → Steps true i k p s before (stateOf f) before
-typed-steps e (stops r h) = rw r (stuck e)
-typed-steps {i} {k} {s = s} e (goes r h) = rw r (Pass.goes (goes-known i s k e) e)
+module _ {i : Instr} {k p : ℕ} {s : Shape} {before : ℕ → State} {a : List ℕ} {f : Flow} where
+  pub typed-steps : (reals : Bool) {m : Move} → admittedMove reals i s ≡ m → Leaves a f m → Steps reals i k p s before (stateOf f) before
+  typed-steps true e (stops r h) = rw r (stuck e)
+  typed-steps true e (goes r h) = rw r (Pass.goes (goes-known i s k e) e)
+  typed-steps false e l = by (admits false i (heldAfter (moveOf i s))) refl e l
+    where
+      by : (b : Bool) {m : Move} → admits false i (heldAfter (moveOf i s)) ≡ b → cond b (moveOf i s) illTyped ≡ m → Leaves a f m
+          → Steps false i k p s before (stateOf f) before
+      by true q e (stops r h) = rw r (stuck (rw e))
+      by true q e (goes r h) =
+          let x = both (readsReal i) (allInt (kindsOf (f .held))) (ap (λ m. admits false i (heldAfter m)) (sym e) ∙ q) in
+          rw r (Pass.goes (known-in i k (goes-known i s k e) (x .0)) (stays i s e (x .1)))
+      by false q e (stops r h) = rw r (barred-move refl q)
+      by false q e (goes r h) = let z : _≡_ {A = ℕ} 0 1 = cc in absurd (omega arith)
 
-pub int-moves : (w : ℕ) (s : Shape) → moveOf (pushInt w) s ≡ pushNumber 0 s
-unfolding moveOf
-int-moves w s = refl
+  -- an instruction that leaves the number n of a kind
+  pub pushed-steps : (reals : Bool) {n : ℕ} → allAdmitted reals s ≡ true → LeavesKind i n → Silent reals n i
+      → Leaves a f (pushUnder (kindLimit reals) n s) → Steps reals i k p s before (stateOf f) before
+  pushed-steps reals {n} d t q = typed-steps reals (leaves-pushed reals i s n (t .is s) d q)
 
-pub none-moves : (s : Shape) → moveOf Unknown s ≡ illTyped
+pub int-leaves : (w : ℕ) → LeavesKind (pushInt w) 0
 unfolding moveOf
-none-moves s = refl
+int-leaves w = record { is = λ s. refl }
+
+none-moves : (reals : Bool) (s : Shape) → moveIn reals Unknown s ≡ illTyped
+unfolding moveOf
+none-moves true s = refl
+none-moves false s = refl
+
+pub none-steps : (reals : Bool) (s : Shape) {k p : ℕ} {before : ℕ → State} → Steps reals Unknown k p s before rejected before
+none-steps reals s = stuck (none-moves reals s)
 
 -- from the class c of the number n of the eight bytes, which is k
-pub steps-by : (n : ℕ) {c : Class} (k : Class) {m p : ℕ} {s : Shape} {before : ℕ → State} {x : State} {after : ℕ → State}
-    → c ≡ classOf (opcodeOf n) → c ≡ k → Steps true (instrIn k n) m p s before x after → Steps true (instructionOf n) m p s before x after
+pub steps-by : {reals : Bool} (n : ℕ) {c : Class} (k : Class) {m p : ℕ} {s : Shape} {before : ℕ → State} {x : State} {after : ℕ → State}
+    → c ≡ classOf (opcodeOf n) → c ≡ k → Steps reals (instrIn k n) m p s before x after → Steps reals (instructionOf n) m p s before x after
 steps-by n k e q h = rw (in-class n k e q) h
 
 -- ---- a jump over d, where m instructions follow
@@ -95,6 +116,27 @@ module _ (d m : ℕ) {p : ℕ} {before : ℕ → State} where
 
       pub fork-fails : b ≡ false → Merges (kindsOf v) (p + d) before b after → Steps true (JumpIf t d) m p (kindsOf h) before rejected after
       fork-fails y k = fork-clash (fork-is t d some o) (rw y at k)
+
+-- ---- with reals or without
+
+jump-ints : (reals : Bool) (d : ℕ) (s : Shape) → allAdmitted reals s ≡ true → reals ≡ false → allInt (heldAfter (moveOf (Jump d) s)) ≡ true
+unfolding moveOf
+jump-ints true d s e r = absurd (true≢false r)
+jump-ints false d s e r = e
+
+fork-ints : (reals : Bool) (t : Bool) (d : ℕ) (s : Shape) → allAdmitted reals s ≡ true → reals ≡ false
+    → allInt (heldAfter (moveOf (JumpIf t d) s)) ≡ true
+unfolding moveOf
+fork-ints true t d s e r = absurd (true≢false r)
+fork-ints false t d [] e r = refl
+fork-ints false t d (k ∷ s) e r = below-admitted false k s e
+
+module _ (reals : Bool) {k p : ℕ} {s : Shape} {before : ℕ → State} {o : State} {after : ℕ → State} (e : allAdmitted reals s ≡ true) where
+  pub jump-steps : {d : ℕ} → Steps true (Jump d) k p s before o after → Steps reals (Jump d) k p s before o after
+  jump-steps {d} = jumping reals (jump-ints reals d s e) refl
+
+  pub fork-steps : {t : Bool} {d : ℕ} → Steps true (JumpIf t d) k p s before o after → Steps reals (JumpIf t d) k p s before o after
+  fork-steps {t} {d} = jumping reals (fork-ints reals t d s e) refl
 
 -- ---- places that nothing comes to
 

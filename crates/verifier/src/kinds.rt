@@ -9,7 +9,7 @@ ghost use Rattle.code.specs.Instructions.{wordOf, instructionOf};
 ghost use Rattle.code.specs.private.Classes.{instrIn};
 ghost use Rattle.verifier.specs.Typing.{wellFormed};
 ghost use Rattle.verifier.specs.Profile.{wellFormedIn};
-ghost use Rattle.verifier.specs.private.Shapes.{elementTyped, withinBank, LeavesKind, ReplacesKind, ReplacesTwo};
+ghost use Rattle.verifier.specs.private.Shapes.{elementTyped, withinBank, barsRange, LeavesKind, ReplacesKind, ReplacesTwo};
 use code::Class;
 use memory::numbers;
 use operators::kinds;
@@ -131,6 +131,16 @@ pub fn match_kind(w: u64) -> u8
     } else {
         kinds::NOT_TAKEN
     }
+}
+
+// Whether the range is of R and there are no reals: a count over R leaves an integer, so its kind does not say it.
+pub fn is_barred(w: u64, reals: bool) -> bool
+    ensures { λ r. ⌜ r ≡ barsRange reals (wordOf w) ⌝ }
+{
+    if reals {
+        return false;
+    }
+    numbers::bank_kind(code::range_bank(code::word_of(w)) as u32) == kinds::REAL
 }
 
 // A jump stays within the code or goes to its end: so many instructions follow it.

@@ -4,13 +4,13 @@ ghost use mathlib.Core.Bool.{Bool, true, cond};
 ghost use Prim.Native.Nat.{ℕ, _-_, _<_, _≤_};
 ghost use mathlib.Core.List.{List};
 ghost use lib.ListN.{length, getD};
-ghost use Rattle.code.specs.declared.Instr.the-variants.{Jump, JumpIf, Unknown};
+ghost use Rattle.code.specs.declared.Instr.the-variants.{Jump, JumpIf};
 ghost use Rattle.code.specs.Instructions.{wordOf, instructionOf, instructions};
 ghost use Rattle.verifier.specs.Accepts.{CorrectVerdict};
 ghost use Rattle.verifier.specs.Verdicts.{isAccepted};
 ghost use Rattle.verifier.specs.Profile.{CorrectVerdictIn, verdictIn};
 ghost use Rattle.verifier.specs.private.Shapes.{rejected, holds, kindsOf, Canonical, ArrayHolds, stateOf, tableOf, Table, Blank};
-ghost use Rattle.verifier.specs.private.Pass.{Joins, Merges, Steps, Skips, admits, verdictOf};
+ghost use Rattle.verifier.specs.private.Pass.{Joins, Merges, Steps, Skips, allAdmitted, verdictOf};
 
 mod kinds;
 mod packing;
@@ -141,7 +141,8 @@ fn fork(
     }
 }
 
-// From the values held at a place to what flows from it into the next, of n places. The number is the instruction's.
+// From the values held at a place to what flows from it into the next, of n places. The number is the instruction's. In the profile without
+// reals (reals false) what reads R or leaves a real is refused.
 fn step(
     w: u64,
     n: usize,
@@ -151,29 +152,30 @@ fn step(
     tops: &mut [u8],
     lows: &mut [u64],
     highs: &mut [u64],
+    reals: bool,
 ) -> Flow
-    requires { ⌜ ArrayHolds (now kinds) held ⌝ }
+    requires { ⌜ ArrayHolds (now kinds) held × (allAdmitted reals (kindsOf held) ≡ true) ⌝ }
     requires { ⌜ (next ≤ n) × (n < length (now tops)) ⌝ }
     requires { ⌜ Table (length (now tops)) (now tops) (now lows) (now highs) ⌝ }
     ensures { λ r. ⌜ ArrayHolds (now (kinds .exit)) (r .held) ⌝ }
     ensures { λ r. ⌜ Table (length (now (tops .entry))) (now (tops .exit)) (now (lows .exit)) (now (highs .exit)) ⌝ }
-    ensures { λ r. ⌜ Steps true (instructionOf w) (n - next) next (kindsOf held) (tableOf (now (tops .entry)) (now (lows .entry)) (now (highs .entry)))
+    ensures { λ r. ⌜ Steps reals (instructionOf w) (n - next) next (kindsOf held) (tableOf (now (tops .entry)) (now (lows .entry)) (now (highs .entry)))
         (stateOf r) (tableOf (now (tops .exit)) (now (lows .exit)) (now (highs .exit))) ⌝ }
 {
     match code::class_of(w) {
-        Class::PushInt => typing::push(kinds, held, INT),
-        Class::PushReal => typing::push(kinds, held, kinds::real_kind(w)),
+        Class::PushInt => typing::push(kinds, held, INT, reals),
+        Class::PushReal => typing::push(kinds, held, kinds::real_kind(w), reals),
         Class::Jump => jump(w, n, held, next, tops, lows, highs),
         Class::JumpIfFalse => fork(w, n, held, next, kinds, tops, lows, highs),
         Class::JumpIfTrue => fork(w, n, held, next, kinds, tops, lows, highs),
-        Class::Tick => typing::push(kinds, held, kinds::tick_kind(w)),
-        Class::Since => typing::since(kinds, held, w),
-        Class::Load => typing::push(kinds, held, kinds::load_kind(w)),
-        Class::LoadIndexed => typing::indexed(kinds, held, w),
-        Class::Unary => typing::unary(kinds, held, w),
-        Class::Binary => typing::binary(kinds, held, w),
-        Class::Total => typing::push(kinds, held, kinds::total_kind(w)),
-        Class::Match => typing::matching(kinds, held, w),
+        Class::Tick => typing::push(kinds, held, kinds::tick_kind(w), reals),
+        Class::Since => typing::since(kinds, held, w, reals),
+        Class::Load => typing::push(kinds, held, kinds::load_kind(w), reals),
+        Class::LoadIndexed => typing::indexed(kinds, held, w, reals),
+        Class::Unary => typing::unary(kinds, held, w, reals),
+        Class::Binary => typing::binary(kinds, held, w, reals),
+        Class::Total => typing::push(kinds, held, kinds::total_kind(w), reals),
+        Class::Match => typing::matching(kinds, held, w, reals),
         Class::Unknown => Flow { reach: 0, held },
     }
 }
@@ -208,21 +210,6 @@ fn ended(held: Held) -> Verdict
     Verdict::Refused
 }
 
-// In the profile without reals (reals false) an instruction does not read R, and what is held after it is integers. A jump that leads to
-// its target alone is not asked: it leaves what was held.
-fn is_admitted(w: u64, held: Held, reals: bool) -> bool
-    requires { ⌜ Canonical held ⌝ }
-    ensures { λ r. ⌜ ((instructionOf w ≡ Unknown → ⊥) → r ≡ admits reals (instructionOf w) (kindsOf held)) ⌝ }
-{
-    if reals {
-        return true;
-    }
-    if code::reads_real(w) {
-        return false;
-    }
-    packing::all_integers(held)
-}
-
 // The pass over the first n instructions, with tables that have a place for each of them and for the end.
 fn checked(
     code: &[u8],
@@ -249,7 +236,7 @@ fn checked(
     while place < n {
         let w = code::fetch(code, place);
         place += 1;
-        let flow = step(w, n, held, place, &mut kinds, tops, lows, highs);
+        let flow = step(w, n, held, place, &mut kinds, tops, lows, highs, reals);
         if flow.reach == 0 {
             return Verdict::Refused;
         }
@@ -263,9 +250,6 @@ fn checked(
             packing::uncover(&mut kinds, there);
             held = there;
             continue;
-        }
-        if !is_admitted(w, held, reals) {
-            return Verdict::Refused;
         }
         if !agrees(held, place, tops, lows, highs) {
             return Verdict::Refused;

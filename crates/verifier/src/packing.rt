@@ -2,7 +2,6 @@
 ghost use mathlib.Core.Path.{_≡_};
 ghost use Prim.Native.Nat.{_/_, _%_, _^_, _<_};
 ghost use lib.ListN.{length};
-ghost use Rattle.verifier.specs.Profile.{allInt};
 ghost use Rattle.verifier.specs.private.Shapes.{kindsOf, word, Canonical, ArrayHolds, Pushed, Popped, Replaced};
 ghost use Rattle.verifier.specs.private.Pass.{Agrees};
 
@@ -91,15 +90,4 @@ pub fn uncover(kinds: &mut [u8; 128], w: Held)
         return;
     }
     kinds[h - 1] = lowest(w);
-}
-
-// Whether every value held is an integer.
-pub fn all_integers(w: Held) -> bool
-    requires { ⌜ Canonical w ⌝ }
-    ensures { λ r. ⌜ r ≡ allInt (kindsOf w) ⌝ }
-{
-    if w.low != 0 {
-        return false;
-    }
-    w.high == 0
 }

@@ -1,6 +1,5 @@
 -- `verifier::checked` meets its contract: at each turn, what is held is what the place is reached with.
 use mathlib.Core.Path.{_≡_, sym, ap, _∙_}
-use mathlib.Core.Bool.{true}
 use Prim.Native.Nat.{ℕ, _+_, _-_}
 use native.Mathlib.Omega.{arith}
 use lib.ListN.{length}
@@ -10,12 +9,8 @@ use borrow.Author.Tests.{not-true, not-false}
 use Rattle.code.specs.Instructions.{instructionOf, decodeAt}
 use Rattle.code.proofs.Parts.{decode-fetched}
 use Rattle.operators.proofs.Arms.{first as some}
-use Rattle.verifier.specs.Typing.{Shape}
 use Rattle.verifier.specs.private.Shapes.{State, rejected, unreached, holds, kindsOf, stateAt, stateOf, tableOf}
-use Rattle.verifier.specs.private.Pass.{admits}
-use Rattle.verifier.proofs.Pass.{unheld, unfailed}
-use Rattle.verifier.proofs.Admitted.{lets}
-use Rattle.verifier.proofs.Checking.{too-short, Passing, first, Came, turn, bars, fails, agreed, disagreed, landed, lost, ends}
+use Rattle.verifier.proofs.Checking.{too-short, Passing, first, held-admitted, Came, turn, fails, agreed, disagreed, landed, lost, ends}
 use Rattle.verifier.proofs.Merging.{sized, resized}
 use Rattle.verifier.proofs.Stepping.{state-holds}
 use Rattle.verifier.proofs.checked.Statement.{statement}
@@ -69,7 +64,7 @@ is-at m =
 abbrev Onward : M → Type 0
 Onward m = Came (entry m .args .reals) (entry m .args .code .now) (entry m .args .n) (at-loop m .loop .place + 1) (brought m) (stateOf (m .step .result))
 
-came : (m : M) → ((r : Shape) → stateOf (m .step .result) ≡ holds r → admits (entry m .args .reals) (instructionOf (word m)) r ≡ true) → Onward m
+came : (m : M) → Onward m
 came m =
     turn (entry m .args .reals) (now (entry m .args .code)) (entry m .args .n) (m .before .before .before .before .before .before .loop-test .taken)
     (is-at m) (at-loop m .loop .inv .knows) {after = brought m} (m .step .ensures .1 .1)
@@ -77,27 +72,19 @@ came m =
 came-not : (m : M) → m .step .result .reach ≡ 1 → stateOf (m .step .result) ≡ unreached
 came-not m = ap (λ k. stateAt k (kindsOf (m .step .result .held)))
 
-jumped : (m : M) → m .step .result .reach ≡ 1 → Onward m
-jumped m e = came m (λ r f. unheld (sym (came-not m e) ∙ f))
-
 came-with : (m : M) → (m .step .result .reach ≡ 0 → ⊥) → (m .step .result .reach ≡ 1 → ⊥) → stateOf (m .step .result) ≡ holds (kindsOf (m .step .result .held))
 came-with m = state-holds (m .step .result .reach) _
 
--- ---- after what it goes on with was found admitted or not
+-- ---- after what it goes on with was compared with what jumps brought there
 
-abbrev A : Type 0
-A = tie.After-is-admitted Inv-loop μ-loop
+abbrev G : Type 0
+G = tie.After-agrees Inv-loop μ-loop
 
-abbrev at-step : A → M
-at-step a = a .before .before .before .before .before .before .before .before .before .before .before .before
+abbrev at-step : G → M
+at-step g = g .before .before .before .before .before .before .before .before .before .before .before .before .before .before .before
 
-held-after : (a : A) → stateOf (at-step a .step .result) ≡ holds (kindsOf (at-step a .step .result .held))
-held-after a = came-with (at-step a) (a .before .before .before .before .if2 .left) (a .before .if3 .left)
-
-goes-on : (a : A) → a .is-admitted .result ≡ true → Onward (at-step a)
-goes-on a y =
-    let m = at-step a in
-    came m (lets (entry m .args .reals) {after = brought m} (m .step .ensures .1 .1) (held-after a) (a .is-admitted .ensures) y)
+held-after : (g : G) → stateOf (at-step g .step .result) ≡ holds (kindsOf (at-step g .step .result .held))
+held-after g = came-with (at-step g) (g .before .before .before .before .before .before .before .if2 .left) (g .before .before .before .before .if3 .left)
 
 tops-after : (m : M) → length (m .step .last .1 .1 .1 .1 .1 .0) ≡ length (entry m .args .tops .now)
 tops-after m = m .step .ensures .1 .0 .tops-size ∙ tops-kept (at-loop m)
@@ -126,7 +113,7 @@ step-requires : tie.Need-step-requires Inv-loop μ-loop
 step-requires c κs =
     let l = c .before .before .before .before .before .before in
     let t = l .loop .inv .table in
-    (l .loop .inv .keeps, ((omega arith, omega (arith, t .tops-size, start l .pre .1 .room)), sized t))
+    ((l .loop .inv .keeps, held-admitted _ _ _ (l .loop .inv .knows)), ((omega arith, omega (arith, t .tops-size, start l .pre .1 .room)), sized t))
 
 same-length : tie.Need-same-length Inv-loop μ-loop
 same-length c = tops-after (c .before .before .before .before .before .before .before .before)
@@ -141,7 +128,7 @@ returns-2 : tie.Need-returns-2 Inv-loop μ-loop
 returns-2 c =
     let m = c .before .before .before .before .before .before .before .before in
     let e : stateOf (m .step .result) ≡ rejected = ap (λ k. stateAt k (kindsOf (m .step .result .held))) (c .if2 .taken) in
-    fails _ _ _ (came m (λ r f. absurd (unfailed (sym f ∙ e)))) e
+    fails _ _ _ (came m) e
 
 skipped-requires : tie.Need-skipped-requires Inv-loop μ-loop
 skipped-requires c κs =
@@ -172,7 +159,7 @@ returns-3 : tie.Need-returns-3 Inv-loop μ-loop
 returns-3 c =
     let m = c .before .before .before .before .before .before .before .before .before .before .before .before .before .before .before in
     let e = c .before .before .before .before .if3 .taken in
-    lost _ _ _ (jumped m e) (came-not m e) (λ q e. rw e) (c .before .before .skipped .ensures) (entry m .pre .0 .0) (entry m .pre .0 .1) (c .if4 .taken)
+    lost _ _ _ (came m) (came-not m e) (λ q e. rw e) (c .before .before .skipped .ensures) (entry m .pre .0 .0) (entry m .pre .0 .1) (c .if4 .taken)
 
 joined-at-requires : tie.Need-joined-at-requires Inv-loop μ-loop
 joined-at-requires c κs =
@@ -210,12 +197,19 @@ loop-again c =
       within = c .before .before .before .before .before .before .before .before .skipped .ensures .way .within;
       keeps = c .uncover .ensures;
       table = resized (tops-kept (at-loop m)) (m .step .ensures .1 .0);
-      knows = landed _ _ _ (jumped m e) (came-not m e) (λ q e. rw e)
+      knows = landed _ _ _ (came m) (came-not m e) (λ q e. rw e)
           (c .before .before .before .before .before .before .before .before .skipped .ensures) (c .before .before .joined-at .ensures .1);
     }
 
-is-admitted-requires : tie.Need-is-admitted-requires Inv-loop μ-loop
-is-admitted-requires c κs = c .before .before .before .before .before .before .before .before .before .before .before .step .ensures .0 .canonical
+agrees-requires : tie.Need-agrees-requires Inv-loop μ-loop
+agrees-requires c κs =
+    let m = c .before .before .before .before .before .before .before .before .before .before .before .before .before .before in (
+      (
+        m .step .ensures .0 .canonical,
+        omega (arith, m .before .before .before .before .before .before .loop-test .taken, tops-after m, entry m .pre .1 .room),
+      ),
+      sized (m .step .ensures .1 .0),
+    )
 
 same-length-7 : tie.Need-same-length-7 Inv-loop μ-loop
 same-length-7 c = tops-after (at-step (c .before))
@@ -228,65 +222,37 @@ same-length-9 c = highs-after (at-step (c .before))
 
 returns-4 : tie.Need-returns-4 Inv-loop μ-loop
 returns-4 c =
-    let a = c .before in
-    let m = at-step a in
-    bars _ _ _ (m .before .before .before .before .before .before .loop-test .taken) (is-at m) (at-loop m .loop .inv .knows) {after = brought m}
-    (m .step .ensures .1 .1) (held-after a) (a .is-admitted .ensures) (not-true _ (c .if5 .taken))
-
-agrees-requires : tie.Need-agrees-requires Inv-loop μ-loop
-agrees-requires c κs =
-    let m = at-step (c .before .before .before .before) in (
-      (
-        m .step .ensures .0 .canonical,
-        omega (arith, m .before .before .before .before .before .before .loop-test .taken, tops-after m, entry m .pre .1 .room),
-      ),
-      sized (m .step .ensures .1 .0),
-    )
-
-same-length-10 : tie.Need-same-length-10 Inv-loop μ-loop
-same-length-10 c = tops-after (at-step (c .before .before .before .before .before .before))
-
-same-length-11 : tie.Need-same-length-11 Inv-loop μ-loop
-same-length-11 c = lows-after (at-step (c .before .before .before .before .before .before))
-
-same-length-12 : tie.Need-same-length-12 Inv-loop μ-loop
-same-length-12 c = highs-after (at-step (c .before .before .before .before .before .before))
-
-returns-5 : tie.Need-returns-5 Inv-loop μ-loop
-returns-5 c =
-    let a = c .before .before .before .before .before .before in
-    disagreed _ _ _ (c .before .agrees .result) (goes-on a (not-false _ (c .before .before .before .before .before .if5 .left))) (held-after a)
-    (c .before .agrees .ensures) (not-true _ (c .if6 .taken))
+    let g = c .before in
+    disagreed _ _ _ (g .agrees .result) (came (at-step g)) (held-after g) (g .agrees .ensures) (not-true _ (c .if5 .taken))
 
 loop-less-2 : tie.Need-loop-less-2 Inv-loop μ-loop
-loop-less-2 c = omega (arith, at-step (c .before .before .before .before .before .before) .before .before .before .before .before .before .loop-test .taken)
+loop-less-2 c = omega (arith, at-step (c .before) .before .before .before .before .before .before .loop-test .taken)
 
 loop-again-2 : tie.Need-loop-again-2 Inv-loop μ-loop
 loop-again-2 c =
-    let a = c .before .before .before .before .before .before in
-    let m = at-step a in
+    let g = c .before in
+    let m = at-step g in
     record {
       within = omega (arith, m .before .before .before .before .before .before .loop-test .taken);
       keeps = m .step .ensures .0;
       table = resized (tops-kept (at-loop m)) (m .step .ensures .1 .0);
-      knows = agreed _ _ _ (c .before .agrees .result) (goes-on a (not-false _ (c .before .before .before .before .before .if5 .left))) (held-after a)
-          (c .before .agrees .ensures) (not-false _ (c .if6 .left));
+      knows = agreed _ _ _ (g .agrees .result) (came m) (held-after g) (g .agrees .ensures) (not-false _ (c .if5 .left));
     }
 
 ended-requires : tie.Need-ended-requires Inv-loop μ-loop
 ended-requires c κs = search needs
 
-same-length-13 : tie.Need-same-length-13 Inv-loop μ-loop
-same-length-13 c = tops-kept (c .before .before)
+same-length-10 : tie.Need-same-length-10 Inv-loop μ-loop
+same-length-10 c = tops-kept (c .before .before)
 
-same-length-14 : tie.Need-same-length-14 Inv-loop μ-loop
-same-length-14 c = lows-kept (c .before .before)
+same-length-11 : tie.Need-same-length-11 Inv-loop μ-loop
+same-length-11 c = lows-kept (c .before .before)
 
-same-length-15 : tie.Need-same-length-15 Inv-loop μ-loop
-same-length-15 c = highs-kept (c .before .before)
+same-length-12 : tie.Need-same-length-12 Inv-loop μ-loop
+same-length-12 c = highs-kept (c .before .before)
 
-returns-6 : tie.Need-returns-6 Inv-loop μ-loop
-returns-6 c =
+returns-5 : tie.Need-returns-5 Inv-loop μ-loop
+returns-5 c =
     let l = c .before .before in
     ends _ _ _ (start l .pre .0 .0) (start l .pre .0 .1) (omega arith) (l .loop .inv .knows) (c .ended .ensures)
 
@@ -315,20 +281,15 @@ checked-spec =
     uncover-requires
     loop-less
     loop-again
-    is-admitted-requires
+    agrees-requires
     same-length-7
     same-length-8
     same-length-9
     returns-4
-    agrees-requires
-    same-length-10
-    same-length-11
-    same-length-12
-    returns-5
     loop-less-2
     loop-again-2
     ended-requires
-    same-length-13
-    same-length-14
-    same-length-15
-    returns-6)
+    same-length-10
+    same-length-11
+    same-length-12
+    returns-5)

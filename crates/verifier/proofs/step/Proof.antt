@@ -3,8 +3,8 @@ use mathlib.Core.Path.{refl}
 use mathlib.Core.Bool.{true, false}
 use borrow.Author.Needs.{needs}
 use Rattle.code.specs.Instructions.{wordOf}
-use Rattle.verifier.specs.private.Pass.{stuck}
-use Rattle.verifier.proofs.Stepping.{typed-keeps, typed-steps, int-moves, none-moves, steps-by}
+use Rattle.verifier.proofs.Stepping.{typed-keeps, typed-steps, pushed-steps, int-leaves, none-steps, steps-by, jump-steps, fork-steps}
+use Rattle.verifier.proofs.Reading.{int-silent, real-silent, tick-silent, load-silent, total-silent}
 use Rattle.verifier.proofs.step.Statement.{statement}
 use Rattle.verifier.proofs.step.Tie as tie
 
@@ -113,7 +113,8 @@ returns c =
       (
         start .pre .1 .1,
         steps-by _ _ (at-class-of .class-of .ensures)
-            (at-enum-told .enum-told .given .1) (typed-steps (int-moves (wordOf (start .args .w)) _) (c .push .ensures)),
+            (at-enum-told .enum-told .given .1) (pushed-steps (start .args .reals) (start .pre .0 .1)
+            (int-leaves (wordOf (start .args .w))) (int-silent (start .args .w)) (c .push .ensures)),
       ),
     )
 
@@ -127,7 +128,8 @@ returns-2 c =
       (
         start .pre .1 .1,
         steps-by _ _ (at-class-of .class-of .ensures)
-            (at-enum-told2 .enum-told2 .given .1) (typed-steps (at-real-kind .real-kind .ensures .is _) (c .push2 .ensures)),
+            (at-enum-told2 .enum-told2 .given .1) (pushed-steps (start .args .reals) (start .pre .0 .1)
+            (at-real-kind .real-kind .ensures) (real-silent (start .args .w)) (c .push2 .ensures)),
       ),
     )
 
@@ -146,11 +148,11 @@ returns-3 c =
     let at-enum-told3 = at-jump .before .before .before .before in
     let at-class-of = at-enum-told3 .before .before in
     let start = at-class-of .before .before .before .before in (
-      at-jump .jump .ensures .0 _ (start .pre .0),
+      at-jump .jump .ensures .0 _ (start .pre .0 .0),
       (
         at-jump .jump .ensures .1 .0,
         steps-by _ _ (at-class-of .class-of .ensures)
-            (at-enum-told3 .enum-told3 .given .1) (at-jump .jump .ensures .1 .1),
+            (at-enum-told3 .enum-told3 .given .1) (jump-steps (start .args .reals) (start .pre .0 .1) (at-jump .jump .ensures .1 .1)),
       ),
     )
 
@@ -170,7 +172,9 @@ returns-4 c = (
     c .before .before .before .before .before .before .fork .ensures .1 .0,
     steps-by _ _ (c .before .before .before .before .before .before .before .before .before .before .before .before .before .class-of .ensures)
         (c .before .before .before .before .before .before .before .before .before .before .before .enum-told4 .given .1)
-        (c .before .before .before .before .before .before .fork .ensures .1 .1 false),
+        (fork-steps (c .before .before .before .before .before .before .before .before .before .before .before .before .before .before .before .before .before .args .reals)
+        (c .before .before .before .before .before .before .before .before .before .before .before .before .before .before .before .before .before .pre .0 .1)
+        (c .before .before .before .before .before .before .fork .ensures .1 .1 false)),
   ),
 )
 
@@ -190,7 +194,9 @@ returns-5 c = (
     c .before .before .before .before .before .before .fork2 .ensures .1 .0,
     steps-by _ _ (c .before .before .before .before .before .before .before .before .before .before .before .before .before .class-of .ensures)
         (c .before .before .before .before .before .before .before .before .before .before .before .enum-told5 .given .1)
-        (c .before .before .before .before .before .before .fork2 .ensures .1 .1 true),
+        (fork-steps (c .before .before .before .before .before .before .before .before .before .before .before .before .before .before .before .before .before .args .reals)
+        (c .before .before .before .before .before .before .before .before .before .before .before .before .before .before .before .before .before .pre .0 .1)
+        (c .before .before .before .before .before .before .fork2 .ensures .1 .1 true)),
   ),
 )
 
@@ -204,7 +210,8 @@ returns-6 c =
       (
         start .pre .1 .1,
         steps-by _ _ (at-class-of .class-of .ensures)
-            (at-enum-told6 .enum-told6 .given .1) (typed-steps (at-tick-kind .tick-kind .ensures .is _) (c .push3 .ensures)),
+            (at-enum-told6 .enum-told6 .given .1) (pushed-steps (start .args .reals) (start .pre .0 .1)
+            (at-tick-kind .tick-kind .ensures) (tick-silent (start .args .w)) (c .push3 .ensures)),
       ),
     )
 
@@ -217,7 +224,7 @@ returns-7 c =
       (
         start .pre .1 .1,
         steps-by _ _ (at-class-of .class-of .ensures)
-            (at-enum-told7 .enum-told7 .given .1) (typed-steps refl (c .since .ensures)),
+            (at-enum-told7 .enum-told7 .given .1) (typed-steps (start .args .reals) refl (c .since .ensures)),
       ),
     )
 
@@ -231,7 +238,8 @@ returns-8 c =
       (
         start .pre .1 .1,
         steps-by _ _ (at-class-of .class-of .ensures)
-            (at-enum-told8 .enum-told8 .given .1) (typed-steps (at-load-kind .load-kind .ensures .is _) (c .push4 .ensures)),
+            (at-enum-told8 .enum-told8 .given .1) (pushed-steps (start .args .reals) (start .pre .0 .1)
+            (at-load-kind .load-kind .ensures) (load-silent (start .args .w) (at-load-kind .load-kind .ensures)) (c .push4 .ensures)),
       ),
     )
 
@@ -244,7 +252,7 @@ returns-9 c =
       (
         start .pre .1 .1,
         steps-by _ _ (at-class-of .class-of .ensures)
-            (at-enum-told9 .enum-told9 .given .1) (typed-steps refl (c .indexed .ensures)),
+            (at-enum-told9 .enum-told9 .given .1) (typed-steps (start .args .reals) refl (c .indexed .ensures)),
       ),
     )
 
@@ -257,7 +265,7 @@ returns-10 c =
       (
         start .pre .1 .1,
         steps-by _ _ (at-class-of .class-of .ensures)
-            (at-enum-told10 .enum-told10 .given .1) (typed-steps refl (c .unary .ensures)),
+            (at-enum-told10 .enum-told10 .given .1) (typed-steps (start .args .reals) refl (c .unary .ensures)),
       ),
     )
 
@@ -270,7 +278,7 @@ returns-11 c =
       (
         start .pre .1 .1,
         steps-by _ _ (at-class-of .class-of .ensures)
-            (at-enum-told11 .enum-told11 .given .1) (typed-steps refl (c .binary .ensures)),
+            (at-enum-told11 .enum-told11 .given .1) (typed-steps (start .args .reals) refl (c .binary .ensures)),
       ),
     )
 
@@ -284,7 +292,8 @@ returns-12 c =
       (
         start .pre .1 .1,
         steps-by _ _ (at-class-of .class-of .ensures)
-            (at-enum-told12 .enum-told12 .given .1) (typed-steps (at-total-kind .total-kind .ensures .is _) (c .push5 .ensures)),
+            (at-enum-told12 .enum-told12 .given .1) (pushed-steps (start .args .reals) (start .pre .0 .1)
+            (at-total-kind .total-kind .ensures) (total-silent (start .args .w) (at-total-kind .total-kind .ensures)) (c .push5 .ensures)),
       ),
     )
 
@@ -297,7 +306,7 @@ returns-13 c =
       (
         start .pre .1 .1,
         steps-by _ _ (at-class-of .class-of .ensures)
-            (at-enum-told13 .enum-told13 .given .1) (typed-steps refl (c .matching .ensures)),
+            (at-enum-told13 .enum-told13 .given .1) (typed-steps (start .args .reals) refl (c .matching .ensures)),
       ),
     )
 
@@ -305,11 +314,11 @@ returns-14 : tie.Need-returns-14
 returns-14 c =
     let at-class-of = c .before .before in
     let start = at-class-of .before .before .before .before in (
-      start .pre .0,
+      start .pre .0 .0,
       (
         start .pre .1 .1,
         steps-by _ _ (at-class-of .class-of .ensures) (c .enum-told14 .given .1)
-            (stuck (none-moves _)),
+            (none-steps (start .args .reals) _),
       ),
     )
 

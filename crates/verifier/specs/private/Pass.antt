@@ -1,6 +1,6 @@
 -- What a step of the pass does to what it knows, whatever the arrays: for the contracts of private functions.
 use mathlib.Core.Path.{_≡_}
-use mathlib.Core.Bool.{Bool, true, false, not, _&&_}
+use mathlib.Core.Bool.{Bool, true, false, not, _&&_, cond}
 use mathlib.Core.List.{List}
 use Prim.Native.Nat.{ℕ, suc, _+_, _-_, _≤_, _<_}
 use lib.ListN.{getD}
@@ -8,8 +8,8 @@ use Rattle.code.specs.declared.Instr.{Instr}
 use Rattle.code.specs.Instructions.{decodeAt}
 use Rattle.code.specs.Reals.{readsReal}
 use Rattle.code.specs.declared.Instr.the-variants.{Jump}
-use Rattle.verifier.specs.Typing.{Shape, illTyped, next, jump, fork}
-use Rattle.verifier.specs.Profile.{allInt, moveIn, wellFormedIn}
+use Rattle.verifier.specs.Typing.{Shape, Move, illTyped, next, jump, fork, moveOf}
+use Rattle.verifier.specs.Profile.{allInt, heldAfter, moveIn, wellFormedIn}
 pub use Rattle.verifier.specs.Verdicts.{verdictOf}
 use Rattle.verifier.specs.private.Shapes.{State, rejected, unreached, holds}
 
@@ -48,6 +48,15 @@ pub data Steps (reals : Bool) (i : Instr) (k p : ℕ) (s : Shape) (before : ℕ 
 abbrev pub admits : Bool → Instr → Shape → Bool
 admits true i s = true
 admits false i s = not (readsReal i) && allInt s
+
+-- and no instruction acts on others than these
+abbrev pub allAdmitted : Bool → Shape → Bool
+allAdmitted true s = true
+allAdmitted false s = allInt s
+
+-- what an instruction does where that is admitted
+abbrev pub admittedMove : Bool → Instr → Shape → Move
+admittedMove reals i s = cond (admits reals i (heldAfter (moveOf i s))) (moveOf i s) illTyped
 
 -- from a place p that nothing flows into to r: jumps come to none between them, and each instruction is known
 pub record Skipping (reals : Bool) (code : List ℕ) (n : ℕ) (tops : List ℕ) (p r : ℕ) : Type 0 where

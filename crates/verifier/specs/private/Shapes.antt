@@ -2,10 +2,10 @@
 -- and bits alone for a place that jumps go to. For the contracts of private functions, as Pass is; a reader believes Typing, Accepts, Stack and
 -- Safety.
 use mathlib.Core.Path.{_≡_}
-use mathlib.Core.Bool.{Bool, cond}
+use mathlib.Core.Bool.{Bool, true, false, cond}
 use mathlib.Core.List.{List, [], _∷_}
 use Prim.Native.Nat.{ℕ, zero, suc, _+_, _-_, _*_, _/_, _%_, _^_, _≤_, _<_}
-use lib.Dec.{ltb}
+use lib.Dec.{eqb, ltb}
 use lib.ListN.{length, getD}
 use Rattle.values.specs.declared.Kind.{Kind}
 use Rattle.values.specs.declared.Kind.the-variants.{Int}
@@ -14,7 +14,7 @@ use Rattle.memory.specs.declared.numbers.BankOf.{BankOf}
 use Rattle.memory.specs.declared.numbers.BankOf.the-variants as BankOf
 use Rattle.memory.specs.Layout.{layoutOf}
 use Rattle.memory.specs.Cells.{bankKind}
-use Rattle.memory.specs.Numbers.{bankNumbered, bankElements}
+use Rattle.memory.specs.Numbers.{bankNumbered, bankTyped, bankElements}
 use Rattle.totals.specs.Totals.{rangeWithin}
 use Rattle.code.specs.declared.Instr.{Instr}
 use Rattle.code.specs.Instructions.{rangeBank, rangeFirst, rangeCount}
@@ -25,11 +25,23 @@ pub use Rattle.verifier.specs.Verdicts.{State, rejected, unreached, hold
 
 -- ---- what an instruction leaves: the number of a kind, or more than 1 for nothing
 
+-- a kind whose number is less than l
+abbrev pub leavingUnder : ℕ → ℕ → Shape → Move
+leavingUnder l n s = cond (ltb n l) (next (numberKind n ∷ s)) illTyped
+
+abbrev pub pushUnder : ℕ → ℕ → Shape → Move
+pushUnder l n s = cond (ltb n l) (pushKind (numberKind n) s) illTyped
+
+-- either kind; without reals an integer alone
+abbrev pub kindLimit : Bool → ℕ
+kindLimit true = 2
+kindLimit false = 1
+
 abbrev pub leaving : ℕ → Shape → Move
-leaving n s = cond (ltb n 2) (next (numberKind n ∷ s)) illTyped
+leaving n s = leavingUnder 2 n s
 
 abbrev pub pushNumber : ℕ → Shape → Move
-pushNumber n s = cond (ltb n 2) (pushKind (numberKind n) s) illTyped
+pushNumber n s = pushUnder 2 n s
 
 -- an instruction that leaves it in the place of nothing, of a value of the kind k, or of two, j below k
 pub record LeavesKind (i : Instr) (n : ℕ) : Type 0 where
@@ -49,6 +61,11 @@ elementTyped BankOf.Nothing i = 2
 -- the range of a word lies within its bank
 abbrev pub withinBank : ℕ → Bool
 withinBank w = rangeWithin (bankElements (bankNumbered (rangeBank w))) (rangeFirst w) (rangeCount w)
+
+-- without reals a match over R is barred, whatever it leaves
+abbrev pub barsRange : Bool → ℕ → Bool
+barsRange true w = false
+barsRange false w = eqb (bankTyped (bankNumbered (rangeBank w))) 1
 
 -- ---- kinds as numbers in the array, and as bits
 
