@@ -24,6 +24,9 @@ module _ (i : Instr) (s : Shape) {m : Move} (e : moveOf i s ≡ m) where
   pub stays : allInt (heldAfter m) ≡ true → moveIn false i s ≡ m
   stays a = rw (e, a)
 
+  kept : allInt (heldAfter (moveOf i s)) ≡ true → moveIn false i s ≡ m
+  kept h = stays (ap (λ m. allInt (heldAfter m)) (sym e) ∙ h)
+
   stops : allInt (heldAfter m) ≡ false → moveIn false i s ≡ illTyped
   stops a = rw (e, a)
 
@@ -80,11 +83,11 @@ module _ {i : Instr} {k p : ℕ} {s : Shape} {before : ℕ → State} where
   jumping true h j t = t
   jumping false h j (stuck e) = stuck (rw e)
   jumping false h j (strays e) = strays (rw e)
-  jumping false h j (goes t e) = goes (known-in i k t j) (stays i s e (ap (λ m. allInt (heldAfter m)) (sym e) ∙ h refl))
-  jumping false h j (leaps q t e b) = leaps q (known-in i k t j) (stays i s e (ap (λ m. allInt (heldAfter m)) (sym e) ∙ h refl)) b
-  jumping false h j (forks t e b) = forks (known-in i k t j) (stays i s e (ap (λ m. allInt (heldAfter m)) (sym e) ∙ h refl)) b
-  jumping false h j (leap-clash e b) = leap-clash (stays i s e (ap (λ m. allInt (heldAfter m)) (sym e) ∙ h refl)) b
-  jumping false h j (fork-clash e b) = fork-clash (stays i s e (ap (λ m. allInt (heldAfter m)) (sym e) ∙ h refl)) b
+  jumping false h j (goes t e) = goes (known-in i k t j) (kept i s e (h refl))
+  jumping false h j (leaps q t e b) = leaps q (known-in i k t j) (kept i s e (h refl)) b
+  jumping false h j (forks t e b) = forks (known-in i k t j) (kept i s e (h refl)) b
+  jumping false h j (leap-clash e b) = leap-clash (kept i s e (h refl)) b
+  jumping false h j (fork-clash e b) = fork-clash (kept i s e (h refl)) b
 
 -- ---- what an instruction leaves, by its number
 

@@ -4,11 +4,10 @@ use mathlib.Core.Bool.{Bool, true, false, cond}
 use mathlib.Core.List.{List, [], _∷_}
 use Prim.Native.Nat.{ℕ, zero, suc, _+_, _-_, _*_, _/_, _%_, _≤_, _<_}
 use native.Mathlib.Nat.{zero-add}
-use native.Mathlib.Numerals.{add-one}
 use native.Mathlib.Omega.{arith}
 use lib.Dec.{eqb}
 use lib.ListN.{length, getD, set, length-set}
-use lib.Seq.{getD-set-same, getD-set-other}
+use lib.Seq.{getD-set-same}
 use borrow.Author.Tests.{eq-eqb, ne-eqb, lt-ltb, le-ltb}
 use Rattle.values.specs.declared.Kind.the-variants.{Int, Real}
 use Rattle.operators.specs.declared.tables.UnaryOf.{UnaryOf}
@@ -54,7 +53,7 @@ use Rattle.verifier.specs.private.Shapes.{
 }
 use Rattle.verifier.specs.private.Pass.{allAdmitted, admittedMove}
 use Rattle.verifier.proofs.Admitted.{Silent, below-admitted, leaves-replaced}
-use Rattle.verifier.proofs.Bits.{bits-length, neat-pushed, kinds-pushed, neat-popped, kinds-popped}
+use Rattle.verifier.proofs.Bits.{bits-length, neat-pushed, kinds-pushed, neat-popped}
 
 -- ---- numbers as kinds
 

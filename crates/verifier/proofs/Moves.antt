@@ -120,6 +120,10 @@ goes-known (Total o b i n) s k e = refl
 goes-known (Match o b i n) s k e = refl
 goes-known Unknown s k e = let z : _≡_ {A = ℕ} 0 1 = cc in absurd (omega arith)
 
+pub unknown-moves : (s : Shape) → moveOf Unknown s ≡ illTyped
+unfolding moveOf
+unknown-moves s = refl
+
 -- ---- with reals or without
 
 -- what is known without reals is known, and does not read R

@@ -36,10 +36,11 @@ use Rattle.code.specs.declared.Class.the-variants as Class
 use Rattle.code.specs.Instructions.{finiteOnly, loadElement, loadIndexed, rangeBank, rangeFirst, rangeCount, overRange, wordOf}
 use Rattle.code.specs.Reals.{readsReal}
 use Rattle.code.specs.private.Classes.{numberOf, ofBank, ofUnary, ofBinary, ofTotal, ofMatch, instrIn}
-use Rattle.verifier.specs.Typing.{Shape, Move, illTyped, next, moveOf}
+use Rattle.verifier.specs.Typing.{Shape, illTyped, next, moveOf}
 use Rattle.verifier.specs.Profile.{allInt, heldAfter}
-use Rattle.verifier.specs.private.Shapes.{numberKind, leaving, pushNumber, LeavesKind, ReplacesKind, barsRange}
-use Rattle.verifier.specs.private.Pass.{admits, admittedMove}
+use Rattle.verifier.specs.private.Shapes.{leaving, pushNumber, LeavesKind, ReplacesKind, barsRange}
+use Rattle.verifier.specs.private.Pass.{admittedMove}
+use Rattle.verifier.proofs.Moves.{unknown-moves}
 use Rattle.verifier.proofs.Admitted.{Silent, none-admitted}
 
 -- an instruction where a test holds
@@ -144,10 +145,6 @@ module _ {reals : Bool} {n : ℕ} (w : ℕ) where
 real-kind : (k : Kind) → eqb (kindNumber k) 1 ≡ not (isInt k)
 real-kind Int = refl
 real-kind Real = refl
-
-unknown-moves : (s : Shape) → moveOf Unknown s ≡ illTyped
-unfolding moveOf
-unknown-moves s = refl
 
 clear-range : (o : MatchOp) (x : BankOf) (i m : ℕ) → eqb (bankTyped x) 1 ≡ false → readsReal (overRange (Instr.Match o) x i m) ≡ false
 clear-range o (BankOf.Is b) i m e = tested (goodRange b i m) (Instr.Match o b i m) (sym (real-kind (bankKind b)) ∙ e)

@@ -19,11 +19,12 @@ use Rattle.verifier.specs.declared.Verdict.{Verdict}
 use Rattle.verifier.specs.declared.Verdict.the-variants as Verdict
 use Rattle.verifier.specs.Typing.{Shape, Move, illTyped, jump, fork, moveOf}
 use Rattle.verifier.specs.Profile.{allInt, heldAfter, moveIn, wellFormedIn}
-use Rattle.verifier.specs.private.Shapes.{State, rejected, unreached, holds, kindLimit, pushUnder, LeavesKind, numberKind, bitKinds, word, kindsOf, ArrayHolds}
-use Rattle.verifier.specs.private.Shapes.{Popped, stateAt, stateOf, Leaves, stops, goes}
+use Rattle.verifier.specs.private.Shapes.{State, rejected, unreached, holds, kindLimit, pushUnder, LeavesKind, numberKind, bitKinds, word}
+use Rattle.verifier.specs.private.Shapes.{kindsOf, ArrayHolds, Popped, stateAt, stateOf, Leaves, stops, goes}
 use Rattle.verifier.specs.private.Pass as Pass
-use Rattle.verifier.specs.private.Pass.{verdictOf, Skipping, admits, allAdmitted, admittedMove, Merges, Steps, stuck, strays, leaps, forks, leap-clash, fork-clash}
-use Rattle.verifier.proofs.Moves.{upto, goes-known, known-in}
+use Rattle.verifier.specs.private.Pass.{verdictOf, Skipping, Merges, Steps, stuck, strays, leaps, forks, leap-clash, fork-clash}
+use Rattle.verifier.specs.private.Pass.{admits, allAdmitted, admittedMove}
+use Rattle.verifier.proofs.Moves.{upto, goes-known, unknown-moves, known-in}
 use Rattle.verifier.proofs.Admitted.{stays, both, barred-move, jumping, below-admitted, Silent, leaves-pushed}
 use Rattle.verifier.proofs.kinds.Standing.{in-class}
 use Rattle.verifier.proofs.Bits.{kinds-popped}
@@ -66,9 +67,8 @@ unfolding moveOf
 int-leaves w = record { is = λ s. refl }
 
 none-moves : (reals : Bool) (s : Shape) → moveIn reals Unknown s ≡ illTyped
-unfolding moveOf
-none-moves true s = refl
-none-moves false s = refl
+none-moves true s = unknown-moves s
+none-moves false s = rw (unknown-moves s)
 
 pub none-steps : (reals : Bool) (s : Shape) {k p : ℕ} {before : ℕ → State} → Steps reals Unknown k p s before rejected before
 none-steps reals s = stuck (none-moves reals s)

@@ -166,17 +166,18 @@ same-length-6 : tie.Need-same-length-6
 same-length-6 c = search needs
 
 returns-4 : tie.Need-returns-4
-returns-4 c = (
-  c .before .before .before .before .before .before .fork .ensures .0,
-  (
-    c .before .before .before .before .before .before .fork .ensures .1 .0,
-    steps-by _ _ (c .before .before .before .before .before .before .before .before .before .before .before .before .before .class-of .ensures)
-        (c .before .before .before .before .before .before .before .before .before .before .before .enum-told4 .given .1)
-        (fork-steps (c .before .before .before .before .before .before .before .before .before .before .before .before .before .before .before .before .before .args .reals)
-        (c .before .before .before .before .before .before .before .before .before .before .before .before .before .before .before .before .before .pre .0 .1)
-        (c .before .before .before .before .before .before .fork .ensures .1 .1 false)),
-  ),
-)
+returns-4 c =
+    let at-fork = c .before .before .before .before .before .before in
+    let at-enum-told = at-fork .before .before .before .before .before in
+    let at-class-of = at-enum-told .before .before in
+    let start = at-class-of .before .before .before .before in (
+      at-fork .fork .ensures .0,
+      (
+        at-fork .fork .ensures .1 .0,
+        steps-by _ _ (at-class-of .class-of .ensures) (at-enum-told .enum-told4 .given .1)
+            (fork-steps (start .args .reals) (start .pre .0 .1) (at-fork .fork .ensures .1 .1 false)),
+      ),
+    )
 
 same-length-7 : tie.Need-same-length-7
 same-length-7 c = search needs
@@ -188,17 +189,18 @@ same-length-9 : tie.Need-same-length-9
 same-length-9 c = search needs
 
 returns-5 : tie.Need-returns-5
-returns-5 c = (
-  c .before .before .before .before .before .before .fork2 .ensures .0,
-  (
-    c .before .before .before .before .before .before .fork2 .ensures .1 .0,
-    steps-by _ _ (c .before .before .before .before .before .before .before .before .before .before .before .before .before .class-of .ensures)
-        (c .before .before .before .before .before .before .before .before .before .before .before .enum-told5 .given .1)
-        (fork-steps (c .before .before .before .before .before .before .before .before .before .before .before .before .before .before .before .before .before .args .reals)
-        (c .before .before .before .before .before .before .before .before .before .before .before .before .before .before .before .before .before .pre .0 .1)
-        (c .before .before .before .before .before .before .fork2 .ensures .1 .1 true)),
-  ),
-)
+returns-5 c =
+    let at-fork = c .before .before .before .before .before .before in
+    let at-enum-told = at-fork .before .before .before .before .before in
+    let at-class-of = at-enum-told .before .before in
+    let start = at-class-of .before .before .before .before in (
+      at-fork .fork2 .ensures .0,
+      (
+        at-fork .fork2 .ensures .1 .0,
+        steps-by _ _ (at-class-of .class-of .ensures) (at-enum-told .enum-told5 .given .1)
+            (fork-steps (start .args .reals) (start .pre .0 .1) (at-fork .fork2 .ensures .1 .1 true)),
+      ),
+    )
 
 returns-6 : tie.Need-returns-6
 returns-6 c =

@@ -1,5 +1,5 @@
--- How the code has what the definitions speak of: kinds in an array of 128 numbers, 0 for an integer, of which the last counts, beside it all of them as bits,
--- and bits alone for a place that jumps go to. For the contracts of private functions, as Pass is; a reader believes Typing, Accepts, Stack and
+-- How the code has what the definitions speak of: kinds in an array of 128 numbers, 0 for an integer, of which the last counts, beside it all of them as
+-- bits, and bits alone for a place that jumps go to. For the contracts of private functions, as Pass is; a reader believes Typing, Accepts, Stack and
 -- Safety.
 use mathlib.Core.Path.{_≡_}
 use mathlib.Core.Bool.{Bool, true, false, cond}
@@ -7,8 +7,6 @@ use mathlib.Core.List.{List, [], _∷_}
 use Prim.Native.Nat.{ℕ, zero, suc, _+_, _-_, _*_, _/_, _%_, _^_, _≤_, _<_}
 use lib.Dec.{eqb, ltb}
 use lib.ListN.{length, getD}
-use Rattle.values.specs.declared.Kind.{Kind}
-use Rattle.values.specs.declared.Kind.the-variants.{Int}
 pub use Rattle.operators.specs.Kinds.{numberKind, kindNumber}
 use Rattle.memory.specs.declared.numbers.BankOf.{BankOf}
 use Rattle.memory.specs.declared.numbers.BankOf.the-variants as BankOf

@@ -20,7 +20,8 @@ replace-requires c κs = search needs
 returns-2 : tie.Need-returns-2
 returns-2 c =
     let s = c .before .before .before .before .before in
-    taken-one (s .pre .0) (s .args .reals) (s .pre .1) (indexed-silent (s .args .w) (c .before .indexed-kind .ensures 0)) (omega arith) (c .before .indexed-kind .ensures _) (c .replace .ensures)
+    taken-one (s .pre .0) (s .args .reals) (s .pre .1) (indexed-silent (s .args .w) (c .before .indexed-kind .ensures 0)) (omega arith)
+    (c .before .indexed-kind .ensures _) (c .replace .ensures)
 
 pub indexed-spec : {M : Type 1} → statement M
 indexed-spec = tie.close (tie.spec returns indexed-kind-requires replace-requires returns-2)

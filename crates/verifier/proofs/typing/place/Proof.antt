@@ -1,5 +1,4 @@
 -- `verifier::typing::place` meets its contract: the last is written, in the array and in the bits.
-use native.Mathlib.Omega.{arith}
 use borrow.Author.Needs.{needs}
 use Rattle.verifier.proofs.Held.{places}
 use Rattle.verifier.proofs.typing.place.Statement.{statement}
