@@ -259,7 +259,8 @@ fn checked(
 }
 
 // A function for each size of tables: those of a size that is not wanted have no part in the frame. Short code gets short tables, since
-// clearing long ones would take longer than the pass.
+// clearing long ones would take longer than the pass. The code is lent anew, `&code[..]`: the reference itself would be copied as one word
+// of 16 bytes, which waits for the two of eight that its caller has just stored.
 fn within_16(code: &[u8], n: usize, reals: bool) -> Verdict
     requires { ⌜ (0 < n) × (n < 16) ⌝ }
     ensures { λ r. ⌜ CorrectVerdictIn reals (now (code .entry)) n r ⌝ }
@@ -267,7 +268,7 @@ fn within_16(code: &[u8], n: usize, reals: bool) -> Verdict
     let mut tops = [0u8; 16];
     let mut lows = [0u64; 16];
     let mut highs = [0u64; 16];
-    checked(code, n, &mut tops, &mut lows, &mut highs, reals)
+    checked(&code[..], n, &mut tops, &mut lows, &mut highs, reals)
 }
 
 fn within_32(code: &[u8], n: usize, reals: bool) -> Verdict
@@ -277,7 +278,7 @@ fn within_32(code: &[u8], n: usize, reals: bool) -> Verdict
     let mut tops = [0u8; 32];
     let mut lows = [0u64; 32];
     let mut highs = [0u64; 32];
-    checked(code, n, &mut tops, &mut lows, &mut highs, reals)
+    checked(&code[..], n, &mut tops, &mut lows, &mut highs, reals)
 }
 
 fn within_64(code: &[u8], n: usize, reals: bool) -> Verdict
@@ -287,7 +288,7 @@ fn within_64(code: &[u8], n: usize, reals: bool) -> Verdict
     let mut tops = [0u8; 64];
     let mut lows = [0u64; 64];
     let mut highs = [0u64; 64];
-    checked(code, n, &mut tops, &mut lows, &mut highs, reals)
+    checked(&code[..], n, &mut tops, &mut lows, &mut highs, reals)
 }
 
 fn within_129(code: &[u8], n: usize, reals: bool) -> Verdict
@@ -297,7 +298,7 @@ fn within_129(code: &[u8], n: usize, reals: bool) -> Verdict
     let mut tops = [0u8; 129];
     let mut lows = [0u64; 129];
     let mut highs = [0u64; 129];
-    checked(code, n, &mut tops, &mut lows, &mut highs, reals)
+    checked(&code[..], n, &mut tops, &mut lows, &mut highs, reals)
 }
 
 fn within_257(code: &[u8], n: usize, reals: bool) -> Verdict
@@ -307,7 +308,7 @@ fn within_257(code: &[u8], n: usize, reals: bool) -> Verdict
     let mut tops = [0u8; 257];
     let mut lows = [0u64; 257];
     let mut highs = [0u64; 257];
-    checked(code, n, &mut tops, &mut lows, &mut highs, reals)
+    checked(&code[..], n, &mut tops, &mut lows, &mut highs, reals)
 }
 
 fn within_513(code: &[u8], n: usize, reals: bool) -> Verdict
@@ -317,7 +318,7 @@ fn within_513(code: &[u8], n: usize, reals: bool) -> Verdict
     let mut tops = [0u8; 513];
     let mut lows = [0u64; 513];
     let mut highs = [0u64; 513];
-    checked(code, n, &mut tops, &mut lows, &mut highs, reals)
+    checked(&code[..], n, &mut tops, &mut lows, &mut highs, reals)
 }
 
 fn within_1025(code: &[u8], n: usize, reals: bool) -> Verdict
@@ -327,7 +328,7 @@ fn within_1025(code: &[u8], n: usize, reals: bool) -> Verdict
     let mut tops = [0u8; 1025];
     let mut lows = [0u64; 1025];
     let mut highs = [0u64; 1025];
-    checked(code, n, &mut tops, &mut lows, &mut highs, reals)
+    checked(&code[..], n, &mut tops, &mut lows, &mut highs, reals)
 }
 
 fn within_2049(code: &[u8], n: usize, reals: bool) -> Verdict
@@ -337,7 +338,7 @@ fn within_2049(code: &[u8], n: usize, reals: bool) -> Verdict
     let mut tops = [0u8; 2049];
     let mut lows = [0u64; 2049];
     let mut highs = [0u64; 2049];
-    checked(code, n, &mut tops, &mut lows, &mut highs, reals)
+    checked(&code[..], n, &mut tops, &mut lows, &mut highs, reals)
 }
 
 // Under 129 instructions, in a small frame. It and `long` have two callers each and four sizes of tables, so that they are not made a part
