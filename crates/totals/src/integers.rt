@@ -8,7 +8,7 @@ ghost use Rattle.memory.specs.Layout.{hasCell};
 ghost use Rattle.totals.specs.declared.Step.the-variants as S;
 ghost use Rattle.totals.specs.Totals.{goodRange};
 ghost use Rattle.totals.specs.private.Steps.{matchStep, runOver};
-ghost use Rattle.totals.specs.private.Integers.{MatchedBy, boundsOf, passesIn, isWide, wholeOf, wholeIn, chosenOf, takenOf, noCells};
+ghost use Rattle.totals.specs.private.Integers.{MatchedBy, boundsOf, passesIn, isWide, wholeOf, wholeIn, takenOf, noCells};
 use crate::Visited;
 use memory::Bank;
 use memory::cells;
@@ -85,17 +85,7 @@ pub fn sum(image: &[u8], bank: Bank, first: u32, count: u32) -> Visited
     }
 }
 
-// The least or the greatest.
-fn chosen_of(o: ChoiceOp, least: i32, greatest: i32) -> i32
-    ensures { λ r. ⌜ r ≡ chosenOf o least greatest ⌝ }
-{
-    match o {
-        ChoiceOp::Max => greatest,
-        ChoiceOp::Min => least,
-    }
-}
-
-// MAXR and MINR. Both are kept, so that no cell asks which one is wanted.
+// MAXR and MINR. Which one is wanted stays the same, so the compiler makes a loop for each, in which no cell asks.
 fn choose_of(o: ChoiceOp, image: &[u8], bank: Bank, first: u32, count: u32) -> Visited
     requires { ⌜ T (goodRange bank first count) × (bankKind bank ≡ K.Int) ⌝ }
     ensures { λ r. ⌜ r ≡ runOver (S.Choose o) K.Int (readRule (now (image .entry)) bank) first count ⌝ }
@@ -103,19 +93,14 @@ fn choose_of(o: ChoiceOp, image: &[u8], bank: Bank, first: u32, count: u32) -> V
     if !cells::has_cell(image, bank, first + (count - 1)) {
         return no_cells();
     }
-    let mut least = whole_at(image, bank, first);
-    let mut greatest = least;
+    let mut a = whole_at(image, bank, first);
     let mut k: u32 = 0;
     while k < count {
         let z = whole_at(image, bank, first + k);
         k += 1;
-        least = values::integers::choose(ChoiceOp::Min, least, z);
-        greatest = values::integers::choose(ChoiceOp::Max, greatest, z);
+        a = values::integers::choose(o, a, z);
     }
-    crate::ended(
-        Outcome::Done(Value::Int(chosen_of(o, least, greatest))),
-        count,
-    )
+    crate::ended(Outcome::Done(Value::Int(a)), count)
 }
 
 pub fn choose(o: ChoiceOp, image: &[u8], bank: Bank, first: u32, count: u32) -> Visited

@@ -17,11 +17,10 @@ use Rattle.values.specs.declared.Value.{Value}
 use Rattle.values.specs.declared.Value.the-variants.{Int}
 use Rattle.values.specs.declared.Fault.the-variants.{Overflow, IndexError}
 use Rattle.values.specs.declared.ChoiceOp.{ChoiceOp}
-use Rattle.values.specs.declared.ChoiceOp.the-variants.{Max, Min}
 use Rattle.values.specs.declared.CompareOp.{CompareOp}
 use Rattle.values.specs.declared.Outcome.{Outcome}
 use Rattle.values.specs.declared.Outcome.the-variants.{Done, Stopped, WrongKind}
-use Rattle.values.specs.Integers.{inRange, exactInt, choiceInt}
+use Rattle.values.specs.Integers.{inRange, exactInt}
 use Rattle.values.proofs.Ranges.{sfits-range, range-sfits, read-wide}
 use Rattle.values.specs.Patterns.{signedOf}
 use Rattle.values.proofs.integers.Sizes.{add-size}
@@ -37,7 +36,7 @@ use Rattle.totals.specs.declared.Step.the-variants as S
 use Rattle.totals.specs.declared.Visited.{Visited}
 use Rattle.totals.specs.Totals.{then, foldCells, goodRange}
 use Rattle.totals.specs.private.Steps.{matchStep, stepRule, runOver}
-use Rattle.totals.specs.private.Integers.{isWide, wholeIn, chosenOf, takenOf, noCells}
+use Rattle.totals.specs.private.Integers.{isWide, wholeIn, takenOf, noCells}
 use Rattle.memory.proofs.Laws.{packed-laws}
 use Rattle.totals.proofs.Within.{range-in}
 use Rattle.totals.proofs.Middle.{Middle, stopped, ending, ending-done, middle-begin, middle-on, middle-stops, middle-unread, middle-ends, first-choice}
@@ -115,14 +114,6 @@ pub match-begins : (c : Bool) (o : CompareOp) (v : Value) (read : ℕ → Outcom
 unfolding runOver
 match-begins true o v read i n = ending-done _
 match-begins false o v read i n = ending-done _
-
-chosen-same : (o : ChoiceOp) (a : ℤ) → chosenOf o a a ≡ a
-chosen-same Max a = refl
-chosen-same Min a = refl
-
-pub chosen : (o : ChoiceOp) (a b z : ℤ) → stepRule (S.Choose o) (Int (chosenOf o a b)) (Int z) ≡ Done (Int (chosenOf o (choiceInt Min a z) (choiceInt Max b z)))
-chosen Max a b z = refl
-chosen Min a b z = refl
 
 module _ (c : Bool) (o : CompareOp) (v : Value) (a z : ℤ) where
   taken : compareRule o (Int z) v ≡ true → stepRule (matchStep c o v) (Int a) (Int z) ≡ exactInt (a +ℤ takenOf c z)
@@ -231,15 +222,15 @@ module _ (image : List ℕ) (b : Bank) (i n : ℕ) (g : T (goodRange b i n)) whe
       not-done c q = false≢true (ap isDone q)
 
   pub choice-held : bankKind b ≡ K.Int → hasCell image b (i + (n - 1)) ≡ true → (o : ChoiceOp) (a : ℤ) → a ≡ wholeIn (readRule image b i)
-      → Held (S.Choose o) (readRule image b) (runOver (S.Choose o) K.Int (readRule image b) i n) i n (chosenOf o a a) 0
+      → Held (S.Choose o) (readRule image b) (runOver (S.Choose o) K.Int (readRule image b) i n) i n a 0
   choice-held w e o a q =
       let h = range-in (layoutOf b .elements) i n g in
       let z : i + 0 ≡ i = omega arith in
       let r : readRule image b i ≡ Done (Int a) =
       ap (λ (j : ℕ). readRule image b j) (sym z) ∙ all-read w e 0 (omega (arith, h .0)) ∙ ap (λ (j : ℕ). Done (Int (wholeIn (readRule image b j)))) z
       ∙ ap (λ (y : ℤ). Done (Int y)) (sym q) in
-      middle-begin (readRule image b) (stepRule (S.Choose o)) Done _ i n (Int (chosenOf o a a))
-      (rw (chosen-same o a) (choice-begins o a (readRule image b) i n (h .0) (λ c p. ap value (sym r ∙ p))))
+      middle-begin (readRule image b) (stepRule (S.Choose o)) Done _ i n (Int a)
+      (choice-begins o a (readRule image b) i n (h .0) (λ c p. ap value (sym r ∙ p)))
     where
       value : Outcome → Value
       value (Done v) = v

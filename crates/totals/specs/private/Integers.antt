@@ -8,8 +8,6 @@ use Rattle.values.specs.declared.Kind.the-variants as K
 use Rattle.values.specs.declared.Value.{Value}
 use Rattle.values.specs.declared.Value.the-variants.{Int, Real}
 use Rattle.values.specs.declared.Fault.the-variants.{IndexError}
-use Rattle.values.specs.declared.ChoiceOp.{ChoiceOp}
-use Rattle.values.specs.declared.ChoiceOp.the-variants.{Max, Min}
 use Rattle.values.specs.declared.CompareOp.{CompareOp}
 use Rattle.values.specs.declared.CompareOp.the-variants.{Lt, Gt, Le, Ge, Eq, Ne}
 use Rattle.values.specs.Integers.{inRange, compareInt}
@@ -43,10 +41,6 @@ wholeIn WrongKind = pos 0
 -- the first cell is not there
 abbrev pub noCells : Visited
 noCells = endedWith (Stopped IndexError) 1
-
-abbrev pub chosenOf : ChoiceOp → ℤ → ℤ → ℤ
-chosenOf Max least greatest = greatest
-chosenOf Min least greatest = least
 
 -- what a cell z that passes adds to a count, or to a sum
 abbrev pub takenOf : Bool → ℤ → ℤ

@@ -1,4 +1,4 @@
--- `totals::integers::choose_of` meets its contract. The loop's invariant: what is wanted is one of the two. The measure is the cells left.
+-- `totals::integers::choose_of` meets its contract. The loop's invariant: what is held is what the cells so far come to. The measure is the cells left.
 use mathlib.Core.Path.{_≡_, sym, ap, _∙_}
 use Prim.Native.Nat.{ℕ, _+_, _-_, _≤_}
 use native.Mathlib.Omega.{arith}
@@ -14,24 +14,22 @@ use Rattle.values.specs.declared.Value.the-variants.{Int}
 use Rattle.values.specs.declared.Outcome.{Outcome}
 use Rattle.values.specs.declared.Outcome.the-variants.{Done}
 use Rattle.memory.specs.Cells.{readRule}
-use Rattle.values.specs.declared.ChoiceOp.the-variants.{Max, Min}
 use Rattle.values.specs.Integers.{choiceInt}
 use Rattle.totals.specs.declared.Step.the-variants as S
 use Rattle.totals.specs.private.Steps.{runOver}
-use Rattle.totals.specs.private.Integers.{chosenOf}
 use Rattle.totals.proofs.Laws.{total-laws}
-use Rattle.totals.proofs.integers.Whole.{all-there, Held, all-read, choice-none, choice-held, held-ends, holds, chosen}
+use Rattle.totals.proofs.integers.Whole.{all-there, Held, all-read, choice-none, choice-held, held-ends, holds}
 use Rattle.totals.proofs.integers.choose_of.Statement.{statement}
 use Rattle.totals.proofs.integers.choose_of.Tie as tie
 
 abbrev Inv-loop : tie.InvT-loop
-Inv-loop o image bank first count least₀ greatest₀ k₀ least greatest k =
+Inv-loop o image bank first count a₀ k₀ a k =
     (k ≤ count)
     × Held (S.Choose o) (readRule image bank) (runOver (S.Choose o) K.Int (readRule image bank) first count) first count
-    (chosenOf o (toZ w32 least) (toZ w32 greatest)) k
+    (toZ w32 a) k
 
 abbrev μ-loop : tie.MeasureT-loop
-μ-loop o image bank first count least₀ greatest₀ k₀ least greatest k = count - k
+μ-loop o image bank first count a₀ k₀ a k = count - k
 
 abbrev start : tie.After-whole-at2 Inv-loop μ-loop → tie.Start Inv-loop μ-loop
 start c = c .before .before .before .before .before .before .before
@@ -48,15 +46,6 @@ cell-read c =
     (sym (c .before .before .before .before .before .has-cell .ensures) ∙ not-false _ (c .before .before .before .before .if1 .left))
     (c .before .before .loop .k) (c .before .loop-test .taken)
     ∙ ap (λ (z : ℤ). Done (Int z)) (sym (c .whole-at2 .ensures))
-
--- what the two comparisons leave
-kept : (c : tie.After-whole-at2 Inv-loop μ-loop) (x y : ℤ) → x ≡ choiceInt Min (toZ w32 (c .before .before .loop .least))
-    (toZ w32 (ofZ w32 (c .whole-at2 .result)))
-    → y ≡ choiceInt Max (toZ w32 (c .before .before .loop .greatest)) (toZ w32 (ofZ w32 (c .whole-at2 .result)))
-    → chosenOf (start c .args .o) (choiceInt Min (toZ w32 (c .before .before .loop .least)) (c .whole-at2 .result))
-    (choiceInt Max (toZ w32 (c .before .before .loop .greatest)) (c .whole-at2 .result))
-    ≡ chosenOf (start c .args .o) x y
-kept c x y p q = rw (p, q, toZ-ofZ w32 (c .whole-at2 .result) (cell-fits c))
 
 sub-has-cell : tie.Need-sub-has-cell Inv-loop μ-loop
 sub-has-cell c =
@@ -119,38 +108,31 @@ add-k c =
 choose-requires : tie.Need-choose-requires Inv-loop μ-loop
 choose-requires c κs = search needs
 
-choose-requires-2 : tie.Need-choose-requires-2 Inv-loop μ-loop
-choose-requires-2 c κs = search needs
-
 loop-less : tie.Need-loop-less Inv-loop μ-loop
 loop-less c = omega arith
 
 loop-again : tie.Need-loop-again Inv-loop μ-loop
 loop-again c =
-    let t = c .before .before in
-    let F : SFits w32 (c .before .choose .result) = search needs in
-    let G : SFits w32 (c .choose2 .result) = search needs in (
+    let t = c .before in
+    let F : SFits w32 (c .choose .result) = search needs in (
       omega arith,
-      rw (toZ-ofZ w32 (c .before .choose .result) F, toZ-ofZ w32 (c .choose2 .result) G)
+      rw (toZ-ofZ w32 (c .choose .result) F)
           (holds (S.Choose (start t .args .o)) (cells t) _ (start t .args .first) (start t .args .count)
-          (c .before .before .before .before .loop .inv .1) (c .before .before .before .loop-test .taken) (t .whole-at2 .result) (cell-read t) _
-          (chosen (start t .args .o) _ _ _ ∙ ap (λ (z : ℤ). Done (Int z))
-          (kept t (c .before .choose .result) (c .choose2 .result) (c .before .choose .ensures) (c .choose2 .ensures)))),
+          (t .before .before .loop .inv .1) (t .before .loop-test .taken) (t .whole-at2 .result) (cell-read t) (c .choose .result)
+          (ap (λ (z : ℤ). Done (Int z))
+          (sym (c .choose .ensures ∙ ap (choiceInt (start t .args .o) (toZ w32 (t .before .before .loop .a)))
+          (toZ-ofZ w32 (t .whole-at2 .result) (cell-fits t)))))),
     )
-
-chosen-of-requires : tie.Need-chosen-of-requires Inv-loop μ-loop
-chosen-of-requires c κs = search needs
 
 ended-requires : tie.Need-ended-requires Inv-loop μ-loop
 ended-requires c κs = search needs
 
 returns-2 : tie.Need-returns-2 Inv-loop μ-loop
 returns-2 c =
-    let a = c .before .before .before .before .before .before .before .before .args in
-    let F : SFits w32 (c .before .chosen-of .result) = search needs in
-    rw (c .ended .ensures, toZ-ofZ w32 (c .before .chosen-of .result) F, c .before .chosen-of .ensures)
-    (held-ends (S.Choose (a .o)) (readRule (now (a .image)) (a .bank)) _ (a .first) (a .count) (c .before .before .before .loop .inv .1)
-    (c .before .before .loop-test .left) (c .before .before .before .loop .inv .0))
+    let a = c .before .before .before .before .before .before .before .args in
+    c .ended .ensures
+    ∙ held-ends (S.Choose (a .o)) (readRule (now (a .image)) (a .bank)) _ (a .first) (a .count) (c .before .before .loop .inv .1)
+    (c .before .loop-test .left) (c .before .before .loop .inv .0)
 
 pub choose-of-spec : {M : Type 1} → statement M
 choose-of-spec =
@@ -169,9 +151,7 @@ choose-of-spec =
     whole-at-requires-2
     add-k
     choose-requires
-    choose-requires-2
     loop-less
     loop-again
-    chosen-of-requires
     ended-requires
     returns-2)
