@@ -1,3 +1,3 @@
 -- Laws of the module integers.
 pub mod Whole
-mod Passing
+pub mod Passing

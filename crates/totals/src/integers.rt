@@ -2,13 +2,12 @@
 ghost use mathlib.Core.Path.{_≡_};
 ghost use lib.Dec.{T};
 ghost use Rattle.values.specs.declared.Kind.the-variants as K;
-ghost use Rattle.values.specs.declared.Value.the-variants.{Int};
 ghost use Rattle.memory.specs.Cells.{bankKind, readRule};
 ghost use Rattle.memory.specs.Layout.{hasCell};
 ghost use Rattle.totals.specs.declared.Step.the-variants as S;
 ghost use Rattle.totals.specs.Totals.{goodRange};
 ghost use Rattle.totals.specs.private.Steps.{matchStep, runOver};
-ghost use Rattle.totals.specs.private.Integers.{MatchedBy, boundsOf, passesIn, isWide, wholeOf, wholeIn, takenOf, noCells};
+ghost use Rattle.totals.specs.private.Integers.{MatchedBy, Enclosed, boundsOf, passesIn, isWide, wholeOf, wholeIn, takenOf, noCells};
 use crate::Visited;
 use memory::Bank;
 use memory::cells;
@@ -128,45 +127,46 @@ const LEAST: i32 = -2147483648;
 
 const GREATEST: i32 = 2147483647;
 
-// The integers that compare so with one: those from the least to the greatest, or all others.
+// The integers that compare so with a value: those from the least to the greatest, or all others.
 struct Bounds {
     least: i32,
     greatest: i32,
     outside: bool,
 }
 
-fn bounds_of(o: CompareOp, w: i32) -> Bounds
-    ensures { λ r. ⌜ r ≡ boundsOf o w ⌝ }
+// Of a value by the integers next to it: low is the least that is not less, high the greatest that is not greater.
+fn bounds_of(o: CompareOp, low: i32, high: i32) -> Bounds
+    ensures { λ r. ⌜ r ≡ boundsOf o low high ⌝ }
 {
     match o {
         CompareOp::Lt => Bounds {
-            least: w,
+            least: low,
             greatest: GREATEST,
             outside: true,
         },
         CompareOp::Gt => Bounds {
             least: LEAST,
-            greatest: w,
+            greatest: high,
             outside: true,
         },
         CompareOp::Le => Bounds {
             least: LEAST,
-            greatest: w,
+            greatest: high,
             outside: false,
         },
         CompareOp::Ge => Bounds {
-            least: w,
+            least: low,
             greatest: GREATEST,
             outside: false,
         },
         CompareOp::Eq => Bounds {
-            least: w,
-            greatest: w,
+            least: low,
+            greatest: high,
             outside: false,
         },
         CompareOp::Ne => Bounds {
-            least: w,
-            greatest: w,
+            least: low,
+            greatest: high,
             outside: true,
         },
     }
@@ -217,19 +217,22 @@ fn matching_of(
     crate::ended(Outcome::Done(Value::Int(held)), count)
 }
 
+// Whatever the value is, an integer or a real: the integers next to it are all that cells are compared with.
 pub fn matching(
     counts: bool,
     o: CompareOp,
-    w: i32,
+    low: i32,
+    high: i32,
     image: &[u8],
     bank: Bank,
     first: u32,
     count: u32,
 ) -> Visited
     requires { ⌜ T (goodRange bank first count) × (bankKind bank ≡ K.Int) ⌝ }
-    ensures { λ r. ⌜ r ≡ runOver (matchStep counts o (Int w)) K.Int (readRule (now (image .entry)) bank) first count ⌝ }
+    ensures { λ r. ⌜ ((v : Value) → Enclosed low high v
+        → r ≡ runOver (matchStep counts o v) K.Int (readRule (now (image .entry)) bank) first count) ⌝ }
 {
-    let b = bounds_of(o, w);
+    let b = bounds_of(o, low, high);
     let least = b.least;
     let greatest = b.greatest;
     let outside = b.outside;

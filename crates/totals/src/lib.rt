@@ -14,6 +14,7 @@ use values::Outcome;
 use values::Value;
 
 mod integers;
+mod neighbours;
 pub mod ranges;
 pub mod tables;
 pub mod tally;
@@ -105,10 +106,11 @@ fn matched(
     if memory::is_real(bank) {
         return tally::matching(counts, o, v, image, first, count);
     }
-    match v {
-        Value::Int(z) => integers::matching(counts, o, z, image, bank, first, count),
-        Value::Real(x) => tally::matching_promoted(counts, o, x, image, bank, first, count),
+    let n = neighbours::of(v);
+    if n.known {
+        return integers::matching(counts, o, n.low, n.high, image, bank, first, count);
     }
+    tally::matching_promoted(counts, o, operators::as_real(v), image, bank, first, count)
 }
 
 // A run of any kind. The loops come together here and not at their callers, so that the machine, which has one call of each, does not
@@ -203,8 +205,8 @@ pub fn matching_in(
     }
     match v {
         Value::Int(z) => match op {
-            MatchOp::Count(o) => integers::matching(true, o, z, image, bank, first, count),
-            MatchOp::Sum(o) => integers::matching(false, o, z, image, bank, first, count),
+            MatchOp::Count(o) => integers::matching(true, o, z, z, image, bank, first, count),
+            MatchOp::Sum(o) => integers::matching(false, o, z, z, image, bank, first, count),
         },
         Value::Real(_) => no_visit(),
     }

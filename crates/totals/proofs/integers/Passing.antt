@@ -1,4 +1,4 @@
--- A comparison with an integer by its bounds.
+-- A comparison by its bounds: with any value by what is less than it and what is greater, and with an integer.
 use mathlib.Core.Path.{_≡_, refl, sym, ap, _∙_}
 use mathlib.Core.Bool.{Bool, true, false, not, _&&_, cond, false≢true}
 use Prim.Native.Nat.{ℕ}
@@ -9,9 +9,10 @@ use lib.Signed.{ltZ, leZ}
 use borrow.Author.Tests.{ltb-true, ltb-false, le-leb, lt-leb, le-ltb}
 use Rattle.values.specs.declared.CompareOp.{CompareOp}
 use Rattle.values.specs.declared.CompareOp.the-variants.{Lt, Gt, Le, Ge, Eq, Ne}
-use Rattle.values.specs.Integers.{inRange}
+use Rattle.values.specs.declared.Value.the-variants.{Int}
+use Rattle.values.specs.Integers.{inRange, compareInt}
 use Rattle.values.proofs.Ranges.{range-sfits}
-use Rattle.totals.specs.private.Integers.{boundsOf, Bounded}
+use Rattle.totals.specs.private.Integers.{boundsOf, passesIn, Enclosed}
 
 not-below : (a b : ℕ) → leb b a ≡ not (ltb a b)
 not-below a b = by (ltb a b) refl
@@ -20,7 +21,7 @@ not-below a b = by (ltb a b) refl
     by true e = lt-leb b a (ltb-true a b e)
     by false e = le-leb b a (ltb-false a b e)
 
-not-less : (a b : ℤ) → leZ b a ≡ not (ltZ a b)
+pub not-less : (a b : ℤ) → leZ b a ≡ not (ltZ a b)
 not-less (pos a) (pos b) = not-below a b
 not-less (pos a) (negsuc b) = refl
 not-less (negsuc a) (pos b) = refl
@@ -68,10 +69,32 @@ either-is false false = refl
 equal-is : (z w : ℤ) → (not (ltZ w z) && not (ltZ z w)) ≡ (leZ z w && leZ w z)
 equal-is z w = ap (λ (t : Bool). t && not (ltZ z w)) (sym (not-less w z)) ∙ ap (λ (t : Bool). leZ z w && t) (sym (not-less z w))
 
-pub bounded : (o : CompareOp) (w : ℤ) → Bounded (boundsOf o w .least) (boundsOf o w .greatest) (boundsOf o w .outside) o w
-bounded Lt w z r = over-none (ltZ z w) (ltZ (pos 2147483647) z) true (none-above z r) ∙ outside-is (ltZ z w)
-bounded Gt w z r = under-none (ltZ z (negsuc 2147483647)) (ltZ w z) true (none-under z r) ∙ outside-is (ltZ w z)
-bounded Le w z r = under-none (ltZ z (negsuc 2147483647)) (ltZ w z) false (none-under z r) ∙ inside-is (ltZ w z) ∙ sym (not-less w z)
-bounded Ge w z r = over-none (ltZ z w) (ltZ (pos 2147483647) z) false (none-above z r) ∙ inside-is (ltZ z w) ∙ sym (not-less z w)
-bounded Eq w z r = both-is (ltZ z w) (ltZ w z) ∙ equal-is z w
-bounded Ne w z r = either-is (ltZ z w) (ltZ w z) ∙ ap not (equal-is z w)
+-- what a comparison says of one that is less (s), or greater (t)
+abbrev pub told : CompareOp → Bool → Bool → Bool
+told Lt s t = s
+told Gt s t = t
+told Le s t = not t
+told Ge s t = not s
+told Eq s t = not t && not s
+told Ne s t = not (not t && not s)
+
+pub bounded : (o : CompareOp) (low high z : ℤ) → inRange z ≡ true
+    → passesIn (boundsOf o low high .least) (boundsOf o low high .greatest) (boundsOf o low high .outside) z ≡ told o (ltZ z low) (ltZ high z)
+bounded Lt low high z r = over-none (ltZ z low) (ltZ (pos 2147483647) z) true (none-above z r) ∙ outside-is (ltZ z low)
+bounded Gt low high z r = under-none (ltZ z (negsuc 2147483647)) (ltZ high z) true (none-under z r) ∙ outside-is (ltZ high z)
+bounded Le low high z r = under-none (ltZ z (negsuc 2147483647)) (ltZ high z) false (none-under z r) ∙ inside-is (ltZ high z)
+bounded Ge low high z r = over-none (ltZ z low) (ltZ (pos 2147483647) z) false (none-above z r) ∙ inside-is (ltZ z low)
+bounded Eq low high z r = both-is (ltZ z low) (ltZ high z)
+bounded Ne low high z r = either-is (ltZ z low) (ltZ high z)
+
+told-whole : (o : CompareOp) (z w : ℤ) → told o (ltZ z w) (ltZ w z) ≡ compareInt o z w
+told-whole Lt z w = refl
+told-whole Gt z w = refl
+told-whole Le z w = sym (not-less w z)
+told-whole Ge z w = sym (not-less z w)
+told-whole Eq z w = equal-is z w
+told-whole Ne z w = ap not (equal-is z w)
+
+-- an integer is next to itself
+pub enclosed-whole : (w : ℤ) → Enclosed w w (Int w)
+enclosed-whole w o z r = bounded o w w z r ∙ told-whole o z w

@@ -5,8 +5,10 @@ use borrow.Author.Needs.{needs}
 use mir.Syntax.{w32}
 use mir.Val.{SFits}
 use mir.ValLaws.{toZ-ofZ}
+use Rattle.values.specs.declared.Value.the-variants.{Int}
 use Rattle.operators.specs.Reals.{realValue}
 use Rattle.totals.proofs.Runs.{whole-bank, counts-matches, sums-matches}
+use Rattle.totals.proofs.integers.Passing.{enclosed-whole}
 use Rattle.totals.proofs.Admitted.{match-full, match-of-reals, match-real, match-whole}
 use Rattle.totals.proofs.matching_in.Statement.{statement}
 use Rattle.totals.proofs.matching_in.Tie as tie
@@ -67,26 +69,26 @@ returns-3 c =
     let a = c .before .before .before .before .before .before .before .before .before .before .before .args in
     let e = sym (c .before .before .before .before .before .before .before .before .is-real .ensures)
     ∙ c .before .before .before .before .before .before .before .if2 .left in
-    let F : SFits w32 (c .before .before .before .before .before .v .given .0 .0) = search needs in
+    let w = c .before .before .before .before .before .v .given in
+    let F : SFits w32 (w .0 .0) = search needs in
     match-whole (a .reals) (now (a .image)) (a .op) (a .v) (a .bank) (a .first) (a .count)
     (c .before .before .before .before .before .before .before .before .before .if1 .left) e
-    (ap realValue (c .before .before .before .before .before .v .given .1))
+    (ap realValue (w .1))
     (counts-matches (now (a .image)) (a .bank) (a .first) (a .count) (a .op) _ (a .v) (c .before .before .op .given .1)
-    (rw (whole-bank (a .bank) e, c .before .before .before .before .before .v .given .1) (rw (toZ-ofZ w32
-    (c .before .before .before .before .before .v .given .0 .0) F) at (c .matching2 .ensures))))
+    (rw (whole-bank (a .bank) e, w .1) ((rw (toZ-ofZ w32 (w .0 .0) F) at (c .matching2 .ensures)) (Int (w .0 .0)) (enclosed-whole (w .0 .0)))))
 
 returns-4 : tie.Need-returns-4
 returns-4 c =
     let a = c .before .before .before .before .before .before .before .before .before .before .before .args in
     let e = sym (c .before .before .before .before .before .before .before .before .is-real .ensures)
     ∙ c .before .before .before .before .before .before .before .if2 .left in
-    let F : SFits w32 (c .before .before .before .before .before .v .given .0 .0) = search needs in
+    let w = c .before .before .before .before .before .v .given in
+    let F : SFits w32 (w .0 .0) = search needs in
     match-whole (a .reals) (now (a .image)) (a .op) (a .v) (a .bank) (a .first) (a .count)
     (c .before .before .before .before .before .before .before .before .before .if1 .left) e
-    (ap realValue (c .before .before .before .before .before .v .given .1))
+    (ap realValue (w .1))
     (sums-matches (now (a .image)) (a .bank) (a .first) (a .count) (a .op) _ (a .v) (c .before .before .op2 .given .1)
-    (rw (whole-bank (a .bank) e, c .before .before .before .before .before .v .given .1) (rw (toZ-ofZ w32
-    (c .before .before .before .before .before .v .given .0 .0) F) at (c .matching3 .ensures))))
+    (rw (whole-bank (a .bank) e, w .1) ((rw (toZ-ofZ w32 (w .0 .0) F) at (c .matching3 .ensures)) (Int (w .0 .0)) (enclosed-whole (w .0 .0)))))
 
 returns-5 : tie.Need-returns-5
 returns-5 c =

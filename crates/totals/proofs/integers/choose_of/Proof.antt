@@ -7,7 +7,7 @@ use borrow.Author.Needs.{needs}
 use borrow.Author.Tests.{not-true, not-false}
 use denote.Ref.{now}
 use mir.Syntax.{w32}
-use mir.Val.{SFits, toZ, ofZ}
+use mir.Val.{SFits, toZ}
 use mir.ValLaws.{toZ-ofZ}
 use Rattle.values.specs.declared.Kind.the-variants as K
 use Rattle.values.specs.declared.Value.the-variants.{Int}
@@ -97,7 +97,8 @@ whole-at-requires-2 : tie.Need-whole-at-requires-2 Inv-loop μ-loop
 whole-at-requires-2 c κs =
     let s = c .before .before .before .before .before .before in
     all-there (now (s .args .image)) (s .args .bank) (s .args .first) (s .args .count) (s .pre .0)
-    (sym (c .before .before .before .before .has-cell .ensures) ∙ not-false _ (c .before .before .before .if1 .left)) (c .before .loop .k) (c .loop-test .taken)
+    (sym (c .before .before .before .before .has-cell .ensures) ∙ not-false _ (c .before .before .before .if1 .left)) (c .before .loop .k)
+    (c .loop-test .taken)
 
 add-k : tie.Need-add-k Inv-loop μ-loop
 add-k c =

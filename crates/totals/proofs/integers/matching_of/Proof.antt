@@ -11,6 +11,7 @@ use mir.Syntax.{w32, w64}
 use mir.Val.{SFits, toZ, ofZ}
 use mir.ValLaws.{toZ-ofZ}
 use Rattle.values.specs.declared.Kind.the-variants as K
+use Rattle.values.specs.declared.Value.{Value}
 use Rattle.values.specs.declared.Value.the-variants.{Int}
 use Rattle.values.specs.declared.CompareOp.{CompareOp}
 use Rattle.values.specs.declared.Outcome.{Outcome}
@@ -33,19 +34,19 @@ abbrev Inv-loop : tie.InvT-loop
 Inv-loop counts least greatest outside image bank first count a₀ k₀ a k =
     (k ≤ count)
     × (inRange (toZ w64 a) ≡ true)
-    × ((o : CompareOp) (w : ℤ) → Bounded (toZ w32 least) (toZ w32 greatest) outside o w
-    → Held (matchStep counts o (Int w)) (readRule image bank) (runOver (matchStep counts o (Int w)) K.Int (readRule image bank) first count) first count
+    × ((o : CompareOp) (v : Value) → Bounded (toZ w32 least) (toZ w32 greatest) outside o v
+    → Held (matchStep counts o v) (readRule image bank) (runOver (matchStep counts o v) K.Int (readRule image bank) first count) first count
     (toZ w64 a) k)
 
 abbrev μ-loop : tie.MeasureT-loop
 μ-loop counts least greatest outside image bank first count a₀ k₀ a k = count - k
 
 -- the bounds as the loop reads them
-abbrev Within : tie.Start Inv-loop μ-loop → CompareOp → ℤ → Type 0
-Within s o w = Bounded (toZ w32 (ofZ w32 (s .args .least))) (toZ w32 (ofZ w32 (s .args .greatest))) (s .args .outside) o w
+abbrev Within : tie.Start Inv-loop μ-loop → CompareOp → Value → Type 0
+Within s o v = Bounded (toZ w32 (ofZ w32 (s .args .least))) (toZ w32 (ofZ w32 (s .args .greatest))) (s .args .outside) o v
 
-within : (s : tie.Start Inv-loop μ-loop) (o : CompareOp) (w : ℤ) → Bounded (s .args .least) (s .args .greatest) (s .args .outside) o w → Within s o w
-within s o w b = rw (toZ-ofZ w32 (s .args .least) (s .fits .least), toZ-ofZ w32 (s .args .greatest) (s .fits .greatest)) b
+within : (s : tie.Start Inv-loop μ-loop) (o : CompareOp) (v : Value) → Bounded (s .args .least) (s .args .greatest) (s .args .outside) o v → Within s o v
+within s o v b = rw (toZ-ofZ w32 (s .args .least) (s .fits .least), toZ-ofZ w32 (s .args .greatest) (s .fits .greatest)) b
 
 -- ---- a cell that was read
 
@@ -69,9 +70,9 @@ cell-back c = let F : SFits w32 (c .whole-at .result) = search needs in toZ-ofZ 
 abbrev read : tie.After-passes Inv-loop μ-loop → tie.After-whole-at Inv-loop μ-loop
 read c = c .before
 
-compared : (c : tie.After-passes Inv-loop μ-loop) (t : Bool) → c .passes .result ≡ t → (o : CompareOp) (w : ℤ) → Within (start (read c)) o w
-    → compareRule o (Int (read c .whole-at .result)) (Int w) ≡ t
-compared c t e o w b =
+compared : (c : tie.After-passes Inv-loop μ-loop) (t : Bool) → c .passes .result ≡ t → (o : CompareOp) (v : Value) → Within (start (read c)) o v
+    → compareRule o (Int (read c .whole-at .result)) v ≡ t
+compared c t e o v b =
     let F : SFits w32 (read c .whole-at .result) = search needs in
     let a = start (read c) .args in
     sym (b (read c .whole-at .result) (sfits-range (read c .whole-at .result) F))
@@ -100,21 +101,21 @@ no-cells-requires : tie.Need-no-cells-requires Inv-loop μ-loop
 no-cells-requires c κs = search needs
 
 returns : tie.Need-returns Inv-loop μ-loop
-returns c o w b =
+returns c o v b =
     let s = c .before .before .before .before in
     let a = s .args in
     c .no-cells .ensures
     ∙ none-held (now (a .image)) (a .bank) (a .first) (a .count) (s .pre .0)
-    (sym (c .before .before .has-cell .ensures) ∙ not-true _ (c .before .if1 .taken)) (matchStep (a .counts) o (Int w)) (Int (pos 0)) _
-    (match-begins (a .counts) o (Int w) (readRule (now (a .image)) (a .bank)) (a .first) (a .count))
+    (sym (c .before .before .has-cell .ensures) ∙ not-true _ (c .before .if1 .taken)) (matchStep (a .counts) o v) (Int (pos 0)) _
+    (match-begins (a .counts) o v (readRule (now (a .image)) (a .bank)) (a .first) (a .count))
 
 loop-holds : tie.Need-loop-holds Inv-loop μ-loop
 loop-holds c =
     let a = c .before .before .before .args in (
       omega arith,
       refl,
-      λ o w b. middle-begin (readRule (now (a .image)) (a .bank)) _ Done _ (a .first) (a .count) (Int (pos 0))
-          (match-begins (a .counts) o (Int w) (readRule (now (a .image)) (a .bank)) (a .first) (a .count)),
+      λ o v b. middle-begin (readRule (now (a .image)) (a .bank)) _ Done _ (a .first) (a .count) (Int (pos 0))
+          (match-begins (a .counts) o v (readRule (now (a .image)) (a .bank)) (a .first) (a .count)),
     )
 
 add-whole-at : tie.Need-add-whole-at Inv-loop μ-loop
@@ -154,16 +155,16 @@ ended-requires : tie.Need-ended-requires Inv-loop μ-loop
 ended-requires c κs = search needs
 
 returns-2 : tie.Need-returns-2 Inv-loop μ-loop
-returns-2 c o w b =
+returns-2 c o v b =
     let d = c .before .before .before in
     let t = found d in
     let a = start t .args in
-    let n = within (start t) o w b in
+    let n = within (start t) o v b in
     let F : SFits w32 (d .taken-of .result) = search needs in
     c .ended .ensures
-    ∙ match-leaves (a .counts) o (Int w) (cells t) _ (a .first) (a .count)
-    (t .before .before .loop .inv .2 o w n) (t .before .before .loop .inv .1) (t .before .loop-test .taken) (t .whole-at .result) (cell-read t)
-    (compared (d .before .before) true (d .before .if2 .taken) o w n) (d .taken-of .result) F (taken d)
+    ∙ match-leaves (a .counts) o v (cells t) _ (a .first) (a .count)
+    (t .before .before .loop .inv .2 o v n) (t .before .before .loop .inv .1) (t .before .loop-test .taken) (t .whole-at .result) (cell-read t)
+    (compared (d .before .before) true (d .before .if2 .taken) o v n) (d .taken-of .result) F (taken d)
     (sym (c .before .before .in-range .ensures) ∙ not-true _ (c .before .if3 .taken))
 
 loop-less : tie.Need-loop-less Inv-loop μ-loop
@@ -178,9 +179,9 @@ loop-again c =
     let e = sym (c .before .in-range .ensures) ∙ not-false _ (c .if3 .left) in (
       omega arith,
       e,
-      λ o w b. match-stays (a .counts) o (Int w) (cells t) _ (a .first) (a .count)
-          (t .before .before .loop .inv .2 o w b) (t .before .before .loop .inv .1) (t .before .loop-test .taken) (t .whole-at .result) (cell-read t)
-          (compared (d .before .before) true (d .before .if2 .taken) o w b) (d .taken-of .result) F (taken d) e,
+      λ o v b. match-stays (a .counts) o v (cells t) _ (a .first) (a .count)
+          (t .before .before .loop .inv .2 o v b) (t .before .before .loop .inv .1) (t .before .loop-test .taken) (t .whole-at .result) (cell-read t)
+          (compared (d .before .before) true (d .before .if2 .taken) o v b) (d .taken-of .result) F (taken d) e,
     )
 
 loop-less-2 : tie.Need-loop-less-2 Inv-loop μ-loop
@@ -192,9 +193,9 @@ loop-again-2 c =
     let a = start t .args in (
       omega arith,
       t .before .before .loop .inv .1,
-      λ o w b. match-passes (a .counts) o (Int w) (cells t) _ (a .first) (a .count)
-          (t .before .before .loop .inv .2 o w b) (t .before .before .loop .inv .1) (t .before .loop-test .taken) (t .whole-at .result) (cell-read t)
-          (compared (c .before) false (c .if2 .left) o w b),
+      λ o v b. match-passes (a .counts) o v (cells t) _ (a .first) (a .count)
+          (t .before .before .loop .inv .2 o v b) (t .before .before .loop .inv .1) (t .before .loop-test .taken) (t .whole-at .result) (cell-read t)
+          (compared (c .before) false (c .if2 .left) o v b),
     )
 
 cast-held : tie.Need-cast-held Inv-loop μ-loop
@@ -204,13 +205,13 @@ ended-requires-2 : tie.Need-ended-requires-2 Inv-loop μ-loop
 ended-requires-2 c κs = search needs
 
 returns-3 : tie.Need-returns-3 Inv-loop μ-loop
-returns-3 c o w b =
+returns-3 c o v b =
     let s = c .before .before .before .before .before .before in
     let a = s .args in
     c .ended2 .ensures
     ∙ ap (λ (z : ℤ). record { result = Done (Int z); cells = a .count }) (toZ-ofZ w32 _ (range-sfits _ (c .before .before .loop .inv .1)))
-    ∙ held-ends (matchStep (a .counts) o (Int w)) (readRule (now (a .image)) (a .bank)) _ (a .first) (a .count)
-    (c .before .before .loop .inv .2 o w (within s o w b)) (c .before .loop-test .left) (c .before .before .loop .inv .0)
+    ∙ held-ends (matchStep (a .counts) o v) (readRule (now (a .image)) (a .bank)) _ (a .first) (a .count)
+    (c .before .before .loop .inv .2 o v (within s o v b)) (c .before .loop-test .left) (c .before .before .loop .inv .0)
 
 pub matching-of-spec : {M : Type 1} → statement M
 matching-of-spec =
