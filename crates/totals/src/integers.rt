@@ -84,7 +84,7 @@ pub fn sum(image: &[u8], bank: Bank, first: u32, count: u32) -> Visited
     }
 }
 
-// MAXR and MINR. Which one is wanted stays the same, so the compiler makes a loop for each, in which no cell asks.
+// MAXR and MINR.
 fn choose_of(o: ChoiceOp, image: &[u8], bank: Bank, first: u32, count: u32) -> Visited
     requires { ⌜ T (goodRange bank first count) × (bankKind bank ≡ K.Int) ⌝ }
     ensures { λ r. ⌜ r ≡ runOver (S.Choose o) K.Int (readRule (now (image .entry)) bank) first count ⌝ }
@@ -102,7 +102,7 @@ fn choose_of(o: ChoiceOp, image: &[u8], bank: Bank, first: u32, count: u32) -> V
     crate::ended(Outcome::Done(Value::Int(a)), count)
 }
 
-pub fn choose(o: ChoiceOp, image: &[u8], bank: Bank, first: u32, count: u32) -> Visited
+fn choose_in(o: ChoiceOp, image: &[u8], bank: Bank, first: u32, count: u32) -> Visited
     requires { ⌜ T (goodRange bank first count) × (bankKind bank ≡ K.Int) ⌝ }
     ensures { λ r. ⌜ r ≡ runOver (S.Choose o) K.Int (readRule (now (image .entry)) bank) first count ⌝ }
 {
@@ -113,6 +113,17 @@ pub fn choose(o: ChoiceOp, image: &[u8], bank: Bank, first: u32, count: u32) -> 
         Bank::N => choose_of(o, image, Bank::N, first, count),
         Bank::D => choose_of(o, image, Bank::D, first, count),
         Bank::R => no_cells(),
+    }
+}
+
+// An arm for each, so that no cell asks which one is wanted.
+pub fn choose(o: ChoiceOp, image: &[u8], bank: Bank, first: u32, count: u32) -> Visited
+    requires { ⌜ T (goodRange bank first count) × (bankKind bank ≡ K.Int) ⌝ }
+    ensures { λ r. ⌜ r ≡ runOver (S.Choose o) K.Int (readRule (now (image .entry)) bank) first count ⌝ }
+{
+    match o {
+        ChoiceOp::Max => choose_in(ChoiceOp::Max, image, bank, first, count),
+        ChoiceOp::Min => choose_in(ChoiceOp::Min, image, bank, first, count),
     }
 }
 
@@ -184,8 +195,9 @@ fn passes(least: i32, greatest: i32, outside: bool, z: i32) -> bool
     !outside
 }
 
-// COUNTIF and SUMIF, of any comparison that has these bounds: no cell asks which one it is.
+// COUNTIF and SUMIF, of any comparison that has these bounds: no cell asks which one it is. Sums as above.
 fn matching_of(
+    wide: bool,
     counts: bool,
     least: i32,
     greatest: i32,
@@ -195,7 +207,7 @@ fn matching_of(
     first: u32,
     count: u32,
 ) -> Visited
-    requires { ⌜ T (goodRange bank first count) × (bankKind bank ≡ K.Int) ⌝ }
+    requires { ⌜ T (goodRange bank first count) × (bankKind bank ≡ K.Int) × (wide ≡ isWide bank) ⌝ }
     ensures { λ r. ⌜ MatchedBy least greatest outside counts (readRule (now (image .entry)) bank) first count r ⌝ }
 {
     if !cells::has_cell(image, bank, first + (count - 1)) {
@@ -208,8 +220,10 @@ fn matching_of(
         k += 1;
         if passes(least, greatest, outside, z) {
             a += taken_of(counts, z) as i64;
-            if !values::integers::in_range(a) {
-                return crate::ended(Outcome::Stopped(Fault::Overflow), k);
+            if wide {
+                if !values::integers::in_range(a) {
+                    return crate::ended(Outcome::Stopped(Fault::Overflow), k);
+                }
             }
         }
     }
@@ -238,6 +252,7 @@ pub fn matching(
     let outside = b.outside;
     match bank {
         Bank::X => matching_of(
+            false,
             counts,
             least,
             greatest,
@@ -248,6 +263,7 @@ pub fn matching(
             count,
         ),
         Bank::C => matching_of(
+            false,
             counts,
             least,
             greatest,
@@ -258,6 +274,7 @@ pub fn matching(
             count,
         ),
         Bank::V => matching_of(
+            false,
             counts,
             least,
             greatest,
@@ -268,6 +285,7 @@ pub fn matching(
             count,
         ),
         Bank::N => matching_of(
+            false,
             counts,
             least,
             greatest,
@@ -278,6 +296,7 @@ pub fn matching(
             count,
         ),
         Bank::D => matching_of(
+            true,
             counts,
             least,
             greatest,

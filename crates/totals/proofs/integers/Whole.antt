@@ -147,6 +147,10 @@ pub narrow-sum : (a z : ℤ) (k : ℕ) → SFits w32 a → SFits w32 z → natAb
     → natAbs (toZ w64 (ofZ w64 (a +ℤ wide z))) ≤ (k + 1) * 65536
 narrow-sum a z k F G h l = rw (wide-back a z F G) (omega (arith, add-size a z))
 
+pub narrow-taken : (c : Bool) (z : ℤ) → natAbs z ≤ 65536 → natAbs (takenOf c z) ≤ 65536
+narrow-taken true z h = omega arith
+narrow-taken false z h = h
+
 -- ---- a cell z of the IF forms
 
 module _ (c : Bool) (o : CompareOp) (v : Value) (read : ℕ → Outcome) (all : Visited) (i n : ℕ) {a : ℤ} {k : ℕ}

@@ -29,31 +29,31 @@ enum-told : tie.Need-enum-told
 enum-told c = search needs
 
 matching-of-requires : tie.Need-matching-of-requires
-matching-of-requires c κs = (rw (c .enum-told .given .1) at (c .before .before .before .before .before .before .pre .0), refl)
+matching-of-requires c κs = (rw (c .enum-told .given .1) at (c .before .before .before .before .before .before .pre .0), refl, refl)
 
 enum-told-2 : tie.Need-enum-told-2
 enum-told-2 c = search needs
 
 matching-of-requires-2 : tie.Need-matching-of-requires-2
-matching-of-requires-2 c κs = (rw (c .enum-told2 .given .1) at (c .before .before .before .before .before .before .pre .0), refl)
+matching-of-requires-2 c κs = (rw (c .enum-told2 .given .1) at (c .before .before .before .before .before .before .pre .0), refl, refl)
 
 enum-told-3 : tie.Need-enum-told-3
 enum-told-3 c = search needs
 
 matching-of-requires-3 : tie.Need-matching-of-requires-3
-matching-of-requires-3 c κs = (rw (c .enum-told3 .given .1) at (c .before .before .before .before .before .before .pre .0), refl)
+matching-of-requires-3 c κs = (rw (c .enum-told3 .given .1) at (c .before .before .before .before .before .before .pre .0), refl, refl)
 
 enum-told-4 : tie.Need-enum-told-4
 enum-told-4 c = search needs
 
 matching-of-requires-4 : tie.Need-matching-of-requires-4
-matching-of-requires-4 c κs = (rw (c .enum-told4 .given .1) at (c .before .before .before .before .before .before .pre .0), refl)
+matching-of-requires-4 c κs = (rw (c .enum-told4 .given .1) at (c .before .before .before .before .before .before .pre .0), refl, refl)
 
 enum-told-5 : tie.Need-enum-told-5
 enum-told-5 c = search needs
 
 matching-of-requires-5 : tie.Need-matching-of-requires-5
-matching-of-requires-5 c κs = (rw (c .enum-told5 .given .1) at (c .before .before .before .before .before .before .pre .0), refl)
+matching-of-requires-5 c κs = (rw (c .enum-told5 .given .1) at (c .before .before .before .before .before .before .pre .0), refl, refl)
 
 enum-told-6 : tie.Need-enum-told-6
 enum-told-6 c = search needs

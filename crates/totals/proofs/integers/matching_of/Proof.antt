@@ -1,9 +1,9 @@
 -- `totals::integers::matching_of` meets its contract. The loop's invariant: the count or sum so far is an integer of 32 bits. The measure is the cells left.
 use mathlib.Core.Path.{_≡_, refl, sym, ap, _∙_}
-use mathlib.Core.Bool.{Bool, true, false}
-use Prim.Native.Nat.{ℕ, _+_, _-_, _≤_}
+use mathlib.Core.Bool.{Bool, true, false, false≢true}
+use Prim.Native.Nat.{ℕ, _+_, _-_, _*_, _≤_}
 use native.Mathlib.Omega.{arith}
-use lib.IntN.{ℤ, pos}
+use lib.IntN.{ℤ, pos, natAbs, _+ℤ_}
 use borrow.Author.Needs.{needs}
 use borrow.Author.Tests.{not-true, not-false}
 use denote.Ref.{now}
@@ -18,7 +18,7 @@ use Rattle.values.specs.declared.Outcome.{Outcome}
 use Rattle.values.specs.declared.Outcome.the-variants.{Done}
 use Rattle.values.specs.Integers.{inRange}
 use Rattle.values.proofs.Ranges.{range-sfits, sfits-range}
-use Rattle.values.proofs.integers.Results.{cast-wide}
+use Rattle.values.proofs.integers.Results.{wide, cast-wide}
 use Rattle.memory.specs.Cells.{readRule}
 use Rattle.operators.specs.Operators.{compareRule}
 use Rattle.totals.specs.private.Steps.{matchStep, runOver}
@@ -27,19 +27,21 @@ use Rattle.totals.proofs.Laws.{total-laws}
 use Rattle.totals.proofs.Middle.{middle-begin}
 use Rattle.totals.proofs.integers.Whole.{Held, all-there, all-read, none-held, held-ends}
 use Rattle.totals.proofs.integers.Whole.{match-begins, match-leaves, match-stays, match-passes, wide-sum}
+use Rattle.totals.proofs.integers.Whole.{all-narrow, narrow-taken, narrow-sum, narrow-range}
 use Rattle.totals.proofs.integers.matching_of.Statement.{statement}
 use Rattle.totals.proofs.integers.matching_of.Tie as tie
 
 abbrev Inv-loop : tie.InvT-loop
-Inv-loop counts least greatest outside image bank first count a₀ k₀ a k =
+Inv-loop wide counts least greatest outside image bank first count a₀ k₀ a k =
     (k ≤ count)
     × (inRange (toZ w64 a) ≡ true)
+    × (wide ≡ false → natAbs (toZ w64 a) ≤ k * 65536)
     × ((o : CompareOp) (v : Value) → Bounded (toZ w32 least) (toZ w32 greatest) outside o v
     → Held (matchStep counts o v) (readRule image bank) (runOver (matchStep counts o v) K.Int (readRule image bank) first count) first count
     (toZ w64 a) k)
 
 abbrev μ-loop : tie.MeasureT-loop
-μ-loop counts least greatest outside image bank first count a₀ k₀ a k = count - k
+μ-loop wide counts least greatest outside image bank first count a₀ k₀ a k = count - k
 
 -- the bounds as the loop reads them
 abbrev Within : tie.Start Inv-loop μ-loop → CompareOp → Value → Type 0
@@ -62,6 +64,14 @@ cell-read c =
     (sym (c .before .before .before .before .has-cell .ensures) ∙ not-false _ (c .before .before .before .if1 .left)) (c .before .before .loop .k)
     (c .before .loop-test .taken)
     ∙ ap (λ (z : ℤ). Done (Int z)) (sym (c .whole-at .ensures))
+
+cell-narrow : (c : tie.After-whole-at Inv-loop μ-loop) → start c .args .wide ≡ false → natAbs (c .whole-at .result) ≤ 65536
+cell-narrow c w =
+    rw (c .whole-at .ensures)
+    (all-narrow (now (start c .args .image)) (start c .args .bank) (start c .args .first) (start c .args .count) (start c .pre .0)
+    (λ j. omega (arith, c .before .before .before .before .before .shared-slice-known .given j)) (sym (start c .pre .2) ∙ w)
+    (sym (c .before .before .before .before .has-cell .ensures) ∙ not-false _ (c .before .before .before .if1 .left)) (c .before .before .loop .k)
+    (c .before .loop-test .taken))
 
 -- as the calls read it
 cell-back : (c : tie.After-whole-at Inv-loop μ-loop) → toZ w32 (ofZ w32 (c .whole-at .result)) ≡ c .whole-at .result
@@ -114,6 +124,7 @@ loop-holds c =
     let a = c .before .before .before .args in (
       omega arith,
       refl,
+      λ w. omega arith,
       λ o v b. middle-begin (readRule (now (a .image)) (a .bank)) _ Done _ (a .first) (a .count) (Int (pos 0))
           (match-begins (a .counts) o v (readRule (now (a .image)) (a .bank)) (a .first) (a .count)),
     )
@@ -154,47 +165,74 @@ in-range-requires c κs = search needs
 ended-requires : tie.Need-ended-requires Inv-loop μ-loop
 ended-requires c κs = search needs
 
+-- the count or sum with what is taken
+abbrev next : tie.After-taken-of Inv-loop μ-loop → ℤ
+next d = toZ w64 (ofZ w64 (toZ w64 (found d .before .before .loop .a) +ℤ wide (d .taken-of .result)))
+
+-- if that stays within 32 bits
+on : (d : tie.After-taken-of Inv-loop μ-loop) → inRange (next d) ≡ true → (o : CompareOp) (v : Value) → Within (start (found d)) o v
+    → Held (matchStep (start (found d) .args .counts) o v) (cells (found d))
+    (runOver (matchStep (start (found d) .args .counts) o v) K.Int (cells (found d)) (start (found d) .args .first) (start (found d) .args .count))
+    (start (found d) .args .first) (start (found d) .args .count) (next d) (found d .before .before .loop .k + 1)
+on d e o v b =
+    let t = found d in
+    let a = start t .args in
+    let F : SFits w32 (d .taken-of .result) = search needs in
+    match-stays (a .counts) o v (cells t) _ (a .first) (a .count)
+    (t .before .before .loop .inv .3 o v b) (t .before .before .loop .inv .1) (t .before .loop-test .taken) (t .whole-at .result) (cell-read t)
+    (compared (d .before .before) true (d .before .if2 .taken) o v b) (d .taken-of .result) F (taken d) e
+
 returns-2 : tie.Need-returns-2 Inv-loop μ-loop
 returns-2 c o v b =
-    let d = c .before .before .before in
+    let d = c .before .before .before .before in
     let t = found d in
     let a = start t .args in
     let n = within (start t) o v b in
     let F : SFits w32 (d .taken-of .result) = search needs in
     c .ended .ensures
     ∙ match-leaves (a .counts) o v (cells t) _ (a .first) (a .count)
-    (t .before .before .loop .inv .2 o v n) (t .before .before .loop .inv .1) (t .before .loop-test .taken) (t .whole-at .result) (cell-read t)
+    (t .before .before .loop .inv .3 o v n) (t .before .before .loop .inv .1) (t .before .loop-test .taken) (t .whole-at .result) (cell-read t)
     (compared (d .before .before) true (d .before .if2 .taken) o v n) (d .taken-of .result) F (taken d)
-    (sym (c .before .before .in-range .ensures) ∙ not-true _ (c .before .if3 .taken))
+    (sym (c .before .before .in-range .ensures) ∙ not-true _ (c .before .if4 .taken))
 
 loop-less : tie.Need-loop-less Inv-loop μ-loop
 loop-less c = omega arith
 
 loop-again : tie.Need-loop-again Inv-loop μ-loop
 loop-again c =
-    let d = c .before .before in
-    let t = found d in
-    let a = start t .args in
-    let F : SFits w32 (d .taken-of .result) = search needs in
-    let e = sym (c .before .in-range .ensures) ∙ not-false _ (c .if3 .left) in (
-      omega arith,
-      e,
-      λ o v b. match-stays (a .counts) o v (cells t) _ (a .first) (a .count)
-          (t .before .before .loop .inv .2 o v b) (t .before .before .loop .inv .1) (t .before .loop-test .taken) (t .whole-at .result) (cell-read t)
-          (compared (d .before .before) true (d .before .if2 .taken) o v b) (d .taken-of .result) F (taken d) e,
-    )
+    let d = c .before .before .before in
+    let e : inRange (next d) ≡ true = sym (c .before .in-range .ensures) ∙ not-false _ (c .if4 .left) in
+    (omega arith, e, λ w. absurd (false≢true (sym w ∙ c .before .before .if3 .taken)), on d e)
 
 loop-less-2 : tie.Need-loop-less-2 Inv-loop μ-loop
 loop-less-2 c = omega arith
 
 loop-again-2 : tie.Need-loop-again-2 Inv-loop μ-loop
 loop-again-2 c =
+    let d = c .before in
+    let t = found d in
+    let s = start t in
+    let h = total-laws .range-small (s .args .bank) (s .args .first) (s .args .count) (s .pre .0) in
+    let F : SFits w32 (d .taken-of .result) = search needs in
+    let l : natAbs (d .taken-of .result) ≤ 65536 = rw (taken d)
+    (narrow-taken (s .args .counts) (t .whole-at .result) (cell-narrow t (c .if3 .left))) in
+    let n = narrow-sum (toZ w64 (t .before .before .loop .a)) (d .taken-of .result) (t .before .before .loop .k)
+    (range-sfits _ (t .before .before .loop .inv .1)) F (t .before .before .loop .inv .2 (c .if3 .left)) l in
+    let e = narrow-range (next d) (omega (arith, n, h .1, t .before .loop-test .taken)) in
+    (omega arith, e, λ w. n, on d e)
+
+loop-less-3 : tie.Need-loop-less-3 Inv-loop μ-loop
+loop-less-3 c = omega arith
+
+loop-again-3 : tie.Need-loop-again-3 Inv-loop μ-loop
+loop-again-3 c =
     let t = read (c .before) in
     let a = start t .args in (
       omega arith,
       t .before .before .loop .inv .1,
+      λ w. let h = t .before .before .loop .inv .2 w in omega (arith, h),
       λ o v b. match-passes (a .counts) o v (cells t) _ (a .first) (a .count)
-          (t .before .before .loop .inv .2 o v b) (t .before .before .loop .inv .1) (t .before .loop-test .taken) (t .whole-at .result) (cell-read t)
+          (t .before .before .loop .inv .3 o v b) (t .before .before .loop .inv .1) (t .before .loop-test .taken) (t .whole-at .result) (cell-read t)
           (compared (c .before) false (c .if2 .left) o v b),
     )
 
@@ -211,7 +249,7 @@ returns-3 c o v b =
     c .ended2 .ensures
     ∙ ap (λ (z : ℤ). record { result = Done (Int z); cells = a .count }) (toZ-ofZ w32 _ (range-sfits _ (c .before .before .loop .inv .1)))
     ∙ held-ends (matchStep (a .counts) o v) (readRule (now (a .image)) (a .bank)) _ (a .first) (a .count)
-    (c .before .before .loop .inv .2 o v (within s o v b)) (c .before .loop-test .left) (c .before .before .loop .inv .0)
+    (c .before .before .loop .inv .3 o v (within s o v b)) (c .before .loop-test .left) (c .before .before .loop .inv .0)
 
 pub matching-of-spec : {M : Type 1} → statement M
 matching-of-spec =
@@ -239,6 +277,8 @@ matching-of-spec =
     loop-again
     loop-less-2
     loop-again-2
+    loop-less-3
+    loop-again-3
     cast-held
     ended-requires-2
     returns-3)
