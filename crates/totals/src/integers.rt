@@ -46,7 +46,8 @@ pub fn no_cells() -> Visited
     crate::ended(Outcome::Stopped(Fault::IndexError), 1)
 }
 
-// SUMR. It ends where a sum leaves 32 bits, which one more cell could bring back; the sums of the narrow banks stay far within them.
+// SUMR. It ends where a sum leaves 32 bits, which one more cell could bring back; the sums of the narrow banks stay far within them. What is
+// held has 32 bits, so that the test is the addition's own.
 fn sum_of(wide: bool, image: &[u8], bank: Bank, first: u32, count: u32) -> Visited
     requires { ⌜ T (goodRange bank first count) × (bankKind bank ≡ K.Int) × (wide ≡ isWide bank) ⌝ }
     ensures { λ r. ⌜ r ≡ runOver S.Add K.Int (readRule (now (image .entry)) bank) first count ⌝ }
@@ -54,19 +55,21 @@ fn sum_of(wide: bool, image: &[u8], bank: Bank, first: u32, count: u32) -> Visit
     if !cells::has_cell(image, bank, first + (count - 1)) {
         return no_cells();
     }
-    let mut a: i64 = 0;
+    let mut a: i32 = 0;
     let mut k: u32 = 0;
     while k < count {
-        a += whole_at(image, bank, first + k) as i64;
+        let sum = (a as i64) + (whole_at(image, bank, first + k) as i64);
         k += 1;
         if wide {
-            if !values::integers::in_range(a) {
+            if !values::integers::in_range(sum) {
                 return crate::ended(Outcome::Stopped(Fault::Overflow), k);
             }
+            a = sum as i32;
+        } else {
+            a = sum as i32;
         }
     }
-    let held = a as i32;
-    crate::ended(Outcome::Done(Value::Int(held)), count)
+    crate::ended(Outcome::Done(Value::Int(a)), count)
 }
 
 // Here and below an arm for each bank, so that its layout is known in the loop. R is none of them.
@@ -195,7 +198,7 @@ fn passes(least: i32, greatest: i32, outside: bool, z: i32) -> bool
     !outside
 }
 
-// COUNTIF and SUMIF, of any comparison that has these bounds: no cell asks which one it is. Sums as above.
+// COUNTIF and SUMIF, of any comparison that has these bounds: no cell asks which one it is.
 fn matching_of(
     wide: bool,
     counts: bool,

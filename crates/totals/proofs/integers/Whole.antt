@@ -197,7 +197,8 @@ module _ (image : List ℕ) (b : Bank) (i n : ℕ) (g : T (goodRange b i n)) whe
   all-narrow bytes w e k l =
       let h = range-in (layoutOf b .elements) i n g in
       rw (alike e k l)
-      (narrow-cell b _ w (packed-laws .get-below image b (i + k) (eqb-true (length image) imageSize (sym (has k l) ∙ alike e k l)) (omega (arith, h .1)) bytes))
+      (narrow-cell b _ w
+      (packed-laws .get-below image b (i + k) (eqb-true (length image) imageSize (sym (has k l) ∙ alike e k l)) (omega (arith, h .1)) bytes))
 
   pub none-read : hasCell image b (i + (n - 1)) ≡ false → readRule image b (i + 0) ≡ Stopped IndexError
   none-read e = let h = range-in (layoutOf b .elements) i n g in rw (alike e 0 (omega (arith, h .0)))

@@ -15,7 +15,7 @@ use Rattle.values.specs.declared.Value.the-variants.{Int}
 use Rattle.values.specs.declared.Outcome.{Outcome}
 use Rattle.values.specs.declared.Outcome.the-variants.{Done}
 use Rattle.values.specs.Integers.{inRange, exactInt}
-use Rattle.values.proofs.Ranges.{range-sfits}
+use Rattle.values.proofs.Ranges.{range-sfits, widen}
 use Rattle.values.proofs.integers.Results.{wide, cast-wide}
 use Rattle.memory.specs.Cells.{readRule}
 use Rattle.totals.specs.declared.Step.the-variants as S
@@ -30,9 +30,9 @@ use Rattle.totals.proofs.integers.sum_of.Tie as tie
 abbrev Inv-loop : tie.InvT-loop
 Inv-loop wide image bank first count a₀ k₀ a k =
     (k ≤ count)
-    × (inRange (toZ w64 a) ≡ true)
-    × (wide ≡ false → natAbs (toZ w64 a) ≤ k * 65536)
-    × Held S.Add (readRule image bank) (runOver S.Add K.Int (readRule image bank) first count) first count (toZ w64 a) k
+    × (inRange (toZ w32 a) ≡ true)
+    × (wide ≡ false → natAbs (toZ w32 a) ≤ k * 65536)
+    × Held S.Add (readRule image bank) (runOver S.Add K.Int (readRule image bank) first count) first count (toZ w32 a) k
 
 abbrev μ-loop : tie.MeasureT-loop
 μ-loop wide image bank first count a₀ k₀ a k = count - k
@@ -44,17 +44,23 @@ abbrev cells : tie.After-whole-at Inv-loop μ-loop → ℕ → Outcome
 cells c = readRule (now (start c .args .image)) (start c .args .bank)
 
 abbrev held : tie.After-whole-at Inv-loop μ-loop → ℤ
-held c = toZ w64 (c .before .before .loop .a)
-
--- the sum with y more, at 64 bits
-abbrev next : tie.After-whole-at Inv-loop μ-loop → ℤ → ℤ
-next c y = toZ w64 (ofZ w64 (held c +ℤ wide y))
+held c = toZ w32 (c .before .before .loop .a)
 
 held-fits : (c : tie.After-whole-at Inv-loop μ-loop) → SFits w32 (held c)
 held-fits c = range-sfits (held c) (c .before .before .loop .inv .1)
 
 cell-fits : (c : tie.After-whole-at Inv-loop μ-loop) → SFits w32 (c .whole-at .result)
 cell-fits c = search needs
+
+-- the sum with the cell, at 64 bits
+abbrev next : tie.After-whole-at Inv-loop μ-loop → ℤ
+next c = toZ w64 (ofZ w64 (toZ w64 (ofZ w64 (held c)) +ℤ wide (c .whole-at .result)))
+
+held-back : (c : tie.After-whole-at Inv-loop μ-loop) → toZ w64 (ofZ w64 (held c)) ≡ held c
+held-back c = toZ-ofZ w64 (held c) (widen (held c) (held-fits c))
+
+sum-is : (c : tie.After-whole-at Inv-loop μ-loop) → next c ≡ held c +ℤ c .whole-at .result
+sum-is c = rw (held-back c) (wide-back (held c) (c .whole-at .result) (held-fits c) (cell-fits c))
 
 cell-read : (c : tie.After-whole-at Inv-loop μ-loop) → cells c (start c .args .first + c .before .before .loop .k) ≡ Done (Int (c .whole-at .result))
 cell-read c =
@@ -104,6 +110,9 @@ loop-holds c =
           (sum-begins (readRule (now (a .image)) (a .bank)) (a .first) (a .count)),
     )
 
+cast-sum : tie.Need-cast-sum Inv-loop μ-loop
+cast-sum c = widen (toZ w32 (c .before .loop .a)) (range-sfits _ (c .before .loop .inv .1))
+
 add-whole-at : tie.Need-add-whole-at Inv-loop μ-loop
 add-whole-at c =
     let h = total-laws .range-small (c .before .before .before .before .before .args .bank) (c .before .before .before .before .before .args .first)
@@ -115,11 +124,11 @@ whole-at-requires c κs =
     all-there (now (s .args .image)) (s .args .bank) (s .args .first) (s .args .count) (s .pre .0)
     (sym (c .before .before .before .has-cell .ensures) ∙ not-false _ (c .before .before .if1 .left)) (c .before .loop .k) (c .loop-test .taken)
 
-cast-a : tie.Need-cast-a Inv-loop μ-loop
-cast-a c = cast-wide (c .whole-at .result) (cell-fits c)
+cast-sum-2 : tie.Need-cast-sum-2 Inv-loop μ-loop
+cast-sum-2 c = cast-wide (c .whole-at .result) (cell-fits c)
 
-add-a : tie.Need-add-a Inv-loop μ-loop
-add-a c = wide-sum (held c) (c .whole-at .result) (held-fits c) (cell-fits c)
+add-sum : tie.Need-add-sum Inv-loop μ-loop
+add-sum c = rw (held-back c) (wide-sum (held c) (c .whole-at .result) (held-fits c) (cell-fits c))
 
 add-k : tie.Need-add-k Inv-loop μ-loop
 add-k c =
@@ -138,18 +147,40 @@ returns-2 c =
     let t = c .before .before .before .before in
     c .ended .ensures
     ∙ leaves S.Add (cells t) _ (start t .args .first) (start t .args .count) (t .before .before .loop .inv .3) (t .before .loop-test .taken)
-    (t .whole-at .result) (cell-read t) (next t (t .whole-at .result))
-    (ap exactInt (sym (wide-back (held t) (t .whole-at .result) (held-fits t) (cell-fits t))))
+    (t .whole-at .result) (cell-read t) (next t) (ap exactInt (sym (sum-is t)))
     (sym (c .before .before .in-range .ensures) ∙ not-true _ (c .before .if3 .taken))
 
 -- the sum so far with the cell, if that stays within 32 bits
-on : (t : tie.After-whole-at Inv-loop μ-loop) → inRange (next t (t .whole-at .result)) ≡ true
+on : (t : tie.After-whole-at Inv-loop μ-loop) → inRange (next t) ≡ true
     → Held S.Add (cells t) (runOver S.Add K.Int (cells t) (start t .args .first) (start t .args .count)) (start t .args .first) (start t .args .count)
-    (next t (t .whole-at .result)) (t .before .before .loop .k + 1)
+    (next t) (t .before .before .loop .k + 1)
 on t e =
     stays S.Add (cells t) _ (start t .args .first) (start t .args .count) (t .before .before .loop .inv .3) (t .before .loop-test .taken)
-    (t .whole-at .result) (cell-read t) (next t (t .whole-at .result))
-    (ap exactInt (sym (wide-back (held t) (t .whole-at .result) (held-fits t) (cell-fits t)))) e
+    (t .whole-at .result) (cell-read t) (next t) (ap exactInt (sym (sum-is t))) e
+
+-- tested
+kept : (c : tie.Else3 Inv-loop μ-loop) → inRange (next (c .before .before .before)) ≡ true
+kept c = sym (c .before .in-range .ensures) ∙ not-false _ (c .if3 .left)
+
+-- or of a narrow bank
+narrow : (c : tie.Else2 Inv-loop μ-loop) → natAbs (next (c .before)) ≤ (c .before .before .before .loop .k + 1) * 65536
+narrow c =
+    let t = c .before in
+    rw (held-back t) (narrow-sum (held t) (t .whole-at .result) (t .before .before .loop .k) (held-fits t) (cell-fits t)
+    (t .before .before .loop .inv .2 (c .if2 .left)) (cell-narrow t (c .if2 .left)))
+
+small : (c : tie.Else2 Inv-loop μ-loop) → inRange (next (c .before)) ≡ true
+small c =
+    let t = c .before in
+    let s = start t in
+    let h = total-laws .range-small (s .args .bank) (s .args .first) (s .args .count) (s .pre .0) in
+    narrow-range (next t) (omega (arith, narrow c, h .1, t .before .loop-test .taken))
+
+cast-a : tie.Need-cast-a Inv-loop μ-loop
+cast-a c = range-sfits _ (kept c)
+
+cast-a-2 : tie.Need-cast-a-2 Inv-loop μ-loop
+cast-a-2 c = range-sfits _ (small c)
 
 loop-less : tie.Need-loop-less Inv-loop μ-loop
 loop-less c = omega arith
@@ -157,25 +188,14 @@ loop-less c = omega arith
 loop-again : tie.Need-loop-again Inv-loop μ-loop
 loop-again c =
     let t = c .before .before .before in
-    let e : inRange (next t (t .whole-at .result)) ≡ true = sym (c .before .in-range .ensures) ∙ not-false _ (c .if3 .left) in
-    (omega arith, e, λ w. absurd (false≢true (sym w ∙ c .before .before .if2 .taken)), on t e)
+    rw (toZ-ofZ w32 (next t) (range-sfits _ (kept c)))
+    (omega arith, kept c, λ w. absurd (false≢true (sym w ∙ c .before .before .if2 .taken)), on t (kept c))
 
 loop-less-2 : tie.Need-loop-less-2 Inv-loop μ-loop
 loop-less-2 c = omega arith
 
 loop-again-2 : tie.Need-loop-again-2 Inv-loop μ-loop
-loop-again-2 c =
-    let t = c .before in
-    let s = start t in
-    let h = total-laws .range-small (s .args .bank) (s .args .first) (s .args .count) (s .pre .0) in
-    let n = narrow-sum (held t) (t .whole-at .result) (t .before .before .loop .k) (held-fits t) (cell-fits t) (t .before .before .loop .inv .2
-    (c .if2 .left))
-    (cell-narrow t (c .if2 .left)) in
-    let e = narrow-range (next t (t .whole-at .result)) (omega (arith, n, h .1, t .before .loop-test .taken)) in
-    (omega arith, e, λ w. n, on t e)
-
-cast-held : tie.Need-cast-held Inv-loop μ-loop
-cast-held c = range-sfits _ (c .before .loop .inv .1)
+loop-again-2 c = rw (toZ-ofZ w32 (next (c .before)) (range-sfits _ (small c))) (omega arith, small c, λ w. narrow c, on (c .before) (small c))
 
 ended-requires-2 : tie.Need-ended-requires-2 Inv-loop μ-loop
 ended-requires-2 c κs = search needs
@@ -184,7 +204,6 @@ returns-3 : tie.Need-returns-3 Inv-loop μ-loop
 returns-3 c =
     let a = c .before .before .before .before .before .before .args in
     c .ended2 .ensures
-    ∙ ap (λ (z : ℤ). record { result = Done (Int z); cells = a .count }) (toZ-ofZ w32 _ (range-sfits _ (c .before .before .loop .inv .1)))
     ∙ held-ends S.Add (readRule (now (a .image)) (a .bank)) _ (a .first) (a .count) (c .before .before .loop .inv .3) (c .before .loop-test .left)
     (c .before .before .loop .inv .0)
 
@@ -200,18 +219,20 @@ sum-of-spec =
     no-cells-requires
     returns
     loop-holds
+    cast-sum
     add-whole-at
     whole-at-requires
-    cast-a
-    add-a
+    cast-sum-2
+    add-sum
     add-k
     in-range-requires
     ended-requires
     returns-2
+    cast-a
     loop-less
     loop-again
+    cast-a-2
     loop-less-2
     loop-again-2
-    cast-held
     ended-requires-2
     returns-3)
