@@ -1,6 +1,6 @@
 -- What an opcode and a word decode to: the one instruction whose number they make, or Unknown.
 use mathlib.Core.Path.{_≡_, refl, sym, ap, _∙_, subst}
-use mathlib.Core.Bool.{Bool, true, false, not, cond}
+use mathlib.Core.Bool.{true, false, not}
 use mathlib.Core.List.{List, [], _∷_, _++_}
 use Prim.Native.Nat.{ℕ, suc, _+_, _^_, _<_}
 use native.Mathlib.Nat.{add-zero, zero-add, add-suc}
@@ -28,6 +28,7 @@ use Rattle.memory.specs.declared.numbers.BankOf.{BankOf}
 use Rattle.memory.specs.declared.numbers.BankOf.the-variants as BankOf
 use Rattle.memory.specs.Numbers.{banks, bankNumbered, bankNumber}
 use Rattle.values.specs.declared.CompareOp.the-variants.{Eq}
+use Rattle.operators.proofs.Gives.{picked}
 use Rattle.totals.specs.declared.TotalOp.the-variants as TotalOp
 use Rattle.totals.specs.declared.MatchOp.the-variants as MatchOp
 use Rattle.totals.specs.Totals.{goodRange}
@@ -45,10 +46,6 @@ use Rattle.code.proofs.Numbers.{bank-forth, unary-forth, binary-forth, 
 pub data Decodes (n : ℕ) : Instr → Type 0 where
   none : Decodes n Unknown
   one : {i : Instr} → Encodable i → codeWord i ≡ n → Decodes n i
-
-when : {A : Type 0} (P : A → Type 0) (t : Bool) (x y : A) → (t ≡ true → P x) → P y → P (cond t x y)
-when P true x y h g = h refl
-when P false x y h g = g
 
 -- ---- one opcode
 -- at every word of 32 bits
@@ -72,13 +69,13 @@ real w h = by (ofBits binary32 w) (ofBits-fits binary32 w) (toBits-ofBits binary
 
 element : (b : Bank) → Right (LOAD + bankNumber b) (loadElement b)
 element b w h =
-    when (Decodes (joinWord (LOAD + bankNumber b) w)) (ltb w (layoutOf b .elements)) (Load b w) Unknown
+    picked (Decodes (joinWord (LOAD + bankNumber b) w)) (ltb w (layoutOf b .elements)) (Load b w) Unknown
     (λ g. one (load b w (ltb-true w (layoutOf b .elements) g)) refl)
     none
 
 -- without a word
 alone : (o : ℕ) (i : Instr) → Encodable i → codeWord i ≡ joinWord o 0 → Right o (λ w. ifZero w i)
-alone o i e q w h = when (Decodes (joinWord o w)) (eqb w 0) i Unknown (λ g. one e (q ∙ ap (joinWord o) (sym (eqb-true w 0 g)))) none
+alone o i e q w h = picked (Decodes (joinWord o w)) (eqb w 0) i Unknown (λ g. one e (q ∙ ap (joinWord o) (sym (eqb-true w 0 g)))) none
 
 -- over a range, which the word has
 range-whole : (w b : ℕ) → b ≡ rangeBank w → joinRange b (rangeFirst w) (rangeCount w) ≡ w
@@ -90,7 +87,7 @@ ranges o f e q w h = by (bankNumbered (rangeBank w)) refl
   where
     by : (x : BankOf) → bankNumbered (rangeBank w) ≡ x → Decodes (joinWord o w) (overRange f x (rangeFirst w) (rangeCount w))
     by (BankOf.Is b) is =
-        when (Decodes (joinWord o w)) (goodRange b (rangeFirst w) (rangeCount w)) (f b (rangeFirst w) (rangeCount w)) Unknown
+        picked (Decodes (joinWord o w)) (goodRange b (rangeFirst w) (rangeCount w)) (f b (rangeFirst w) (rangeCount w)) Unknown
         (λ g. one (e b (rangeFirst w) (rangeCount w) (rw g tt))
         (q b (rangeFirst w) (rangeCount w) ∙ ap (joinWord o) (range-whole w (bankNumber b) (bank-number (rangeBank w) b is))))
         none
@@ -131,7 +128,7 @@ page-right =
 lookup-right : {rs : List Row} → Rights rs → (o : ℕ) → Right o (lookup rs o)
 lookup-right end o w h = none
 lookup-right (next {r} {rs} g gs) o w h =
-    when (Decodes (joinWord o w)) (eqb o (r .opcode)) (r .instr w) (lookup rs o w) (λ e. rw (eqb-true o (r .opcode) e) (g w h)) (lookup-right gs o w h)
+    picked (Decodes (joinWord o w)) (eqb o (r .opcode)) (r .instr w) (lookup rs o w) (λ e. rw (eqb-true o (r .opcode) e) (g w h)) (lookup-right gs o w h)
 
 pub number-decodes : (n : ℕ) → n < 2 ^ 64 → Decodes n (instructionOf n)
 unfolding instruction

@@ -61,7 +61,7 @@ low-below : (z : ℤ) → lowBits 32 z < 2 ^ 32
 low-below (pos n) = omega arith
 low-below (negsuc n) = omega arith
 
-elements-most : (b : Bank) → layoutOf b .elements ≤ 256
+pub elements-most : (b : Bank) → layoutOf b .elements ≤ 256
 elements-most X = lit≤ tt
 elements-most C = lit≤ tt
 elements-most «V» = lit≤ tt

@@ -3,8 +3,8 @@ pub mod Laws
 pub mod Page
 pub mod Parts
 pub mod Finite
+pub mod Numbers
 mod Classes
 mod Decodes
 mod Fetches
-mod Numbers
 mod Reals

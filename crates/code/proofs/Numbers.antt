@@ -118,7 +118,7 @@ pub match-below : (o : MatchOp) → matchNumber o < 12
 match-below o = found-below (matchNumber o) 12 _ MatchOf.Nothing (MatchOf.Is o) (λ e. cc) (match-back o)
 
 -- ---- the number of the operand at a place
-abbrev from : ℕ → ℕ → List ℕ
+abbrev pub from : ℕ → ℕ → List ℕ
 from k zero = []
 from k (suc m) = k ∷ from (suc k) m
 
@@ -129,7 +129,7 @@ from-at k (suc m) (suc n) d h = from-at (suc k) m n d (le-of-suc-le-suc h) ∙ o
 
 -- a list is in order where its numbers are 0, 1, 2 and so on, which `refl` shows
 module _ {A : Type 0} (number : A → ℕ) (l : List A) (d : A) (in-order : map number l ≡ from 0 (length l)) where
-  number-at : (n : ℕ) → n < length l → number (getD l n d) ≡ n
+  pub number-at : (n : ℕ) → n < length l → number (getD l n d) ≡ n
   number-at n h = sym (List·getD-map number l n d) ∙ rw in-order (from-at 0 (length l) n (number d) h) ∙ zero-add n
 
 pub bank-forth : (n : ℕ) → n < 6 → bankNumber (getD banks n X) ≡ n

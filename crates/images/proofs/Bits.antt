@@ -2,12 +2,13 @@
 use mathlib.Core.Path.{_≡_, refl, sym, ap, _∙_}
 use mathlib.Core.Bool.{Bool, true, false, cond}
 use mathlib.Core.List.{List}
-use Prim.Native.Nat.{ℕ, zero, suc, _+_, _*_, _/_, _%_, _^_, _<_}
+use Prim.Native.Nat.{ℕ, zero, suc, _+_, _^_, _<_}
 use native.Mathlib.Nat.{add-zero, add-suc, suc-add, pow-suc}
 use native.Mathlib.Omega.{arith}
 use lib.Dec.{eqb}
 use lib.ListN.{getD}
 use Rattle.words.specs.Bits.{bit}
+use Rattle.words.proofs.Digits.{upper, lower}
 use Rattle.images.specs.Conversions.{truthOf, byteOf}
 
 pub truth-below : (n : ℕ) → truthOf n < 2
@@ -23,18 +24,12 @@ truth-digit zero h = refl
 truth-digit (suc zero) h = refl
 truth-digit (suc (suc d)) h = absurd (omega arith)
 
-half : (y d : ℕ) → d < 2 → (y * 2 + d) / 2 ≡ y
-half y d h = omega arith
-
-lowest : (y d : ℕ) → d < 2 → (y * 2 + d) % 2 ≡ d
-lowest y d h = omega arith
-
 pub byte-digit : (m : List ℕ) (a n j : ℕ) → j < n → bit (byteOf m a n) j ≡ truthOf (getD m (a + j) 0)
 byte-digit m a zero j h = absurd (omega arith)
 byte-digit m a (suc n) zero h =
-    lowest (byteOf m (suc a) n) (truthOf (getD m a 0)) (truth-below (getD m a 0)) ∙ ap (λ (k : ℕ). truthOf (getD m k 0)) (sym (add-zero a))
+    lower (byteOf m (suc a) n) (truthOf (getD m a 0)) (truth-below (getD m a 0)) ∙ ap (λ (k : ℕ). truthOf (getD m k 0)) (sym (add-zero a))
 byte-digit m a (suc n) (suc j) h =
-    ap (λ (y : ℕ). bit y j) (half (byteOf m (suc a) n) (truthOf (getD m a 0)) (truth-below (getD m a 0))) ∙ byte-digit m (suc a) n j (omega arith)
+    ap (λ (y : ℕ). bit y j) (upper (byteOf m (suc a) n) (truthOf (getD m a 0)) (truth-below (getD m a 0))) ∙ byte-digit m (suc a) n j (omega arith)
     ∙ ap (λ (k : ℕ). truthOf (getD m k 0)) (suc-add a j ∙ sym (add-suc a j))
 
 pub byte-below : (m : List ℕ) (a n : ℕ) → byteOf m a n < 2 ^ n

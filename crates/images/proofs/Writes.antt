@@ -10,6 +10,7 @@ use lib.Seq.{getD-set-same, getD-set-other}
 use borrow.Author.Tests.{eq-eqb}
 use Rattle.values.specs.declared.Value.{Value}
 use Rattle.values.specs.declared.Fault.{Fault}
+use Rattle.words.proofs.Digits.{remainder-digit}
 use Rattle.memory.specs.declared.Bank.{Bank}
 use Rattle.memory.specs.declared.Bank.the-variants.{X, C, «V», N, D, R}
 use Rattle.memory.specs.Numbers.{bankNumber, banks}
@@ -48,9 +49,6 @@ which b i c j = by (ℕ-discrete (bankNumber b) (bankNumber c)) (ℕ-discrete i 
         (subst (λ (x : Bank). Which b i x i) (sym (number-back b) ∙ ap (λ (n : ℕ). getD banks n X) e ∙ number-back c) same)
 
 -- ---- a number that a cell of the bank can hold is normalized
-remainder-digit : (p : ℕ) → p % 2 < 2
-remainder-digit p = omega arith
-
 is-normalized : (b : Bank) (p : ℕ) → normalized b (p % modulus b) ≡ p % modulus b
 is-normalized X p = truth-digit (p % 2) (remainder-digit p)
 is-normalized C p = truth-digit (p % 2) (remainder-digit p)

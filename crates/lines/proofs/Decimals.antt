@@ -7,10 +7,10 @@ use Prim.Native.Nat.{ℕ, zero, suc, _+_, _-_, _*_, _/_, _%_, _≤_, _<_}
 use native.Mathlib.Omega.{arith}
 use lib.Dec.{eqb}
 use borrow.Author.Tests.{lt-ltb, le-leb, eq-eqb, ne-eqb}
+use Rattle.words.proofs.Tests.{both, false-true}
 use Rattle.memory.specs.Names.{isDigit, allDigits, noLeadingZero, decimalFrom, decimalValue}
 use Rattle.memory.proofs.names.Decimals.{digit-range}
 use Rattle.lines.specs.Printing.{widthOf, decimalText}
-use Rattle.lines.proofs.Tests.{both, no}
 use Rattle.lines.proofs.printing.Widths.{one, more, few-or-many}
 use Rattle.lines.proofs.printing.Digits.{digits-last}
 
@@ -39,7 +39,7 @@ extend n p (c ∷ s) z e d =
     extend (n * 10 + (c - 48)) (p ++ (c ∷ [])) s (omega arith) next (h .1) ∙ append-assoc p (c ∷ []) s
 
 not-zero : (c : ℕ) → cond (eqb c 48) false true ≡ true → c ≡ 48 → ⊥
-not-zero c e z = no (rw (eq-eqb c 48 z) at e)
+not-zero c e z = false-true (rw (eq-eqb c 48 z) at e)
 
 first : (c : ℕ) → isDigit c ≡ true → decimalText (0 * 10 + (c - 48)) ≡ c ∷ []
 first c e =
@@ -48,7 +48,7 @@ first c e =
     rw n (single (c - 48) (b .0) ∙ rw (b .1))
 
 pub text-of : (cs : List ℕ) → noLeadingZero cs ≡ true → allDigits cs ≡ true → decimalText (decimalValue cs) ≡ cs
-text-of [] p d = no p
+text-of [] p d = false-true p
 text-of (c ∷ []) p d = first c (both (isDigit c) true d .0)
 text-of (c ∷ e ∷ s) p d =
     let h = both (isDigit c) (allDigits (e ∷ s)) d in
@@ -65,7 +65,7 @@ from-last n [] c = refl
 from-last n (b ∷ s) c = from-last (n * 10 + (b - 48)) s c
 
 plain-last : (s : List ℕ) (c : ℕ) → noLeadingZero s ≡ true → 0 < decimalValue s → noLeadingZero (s ++ (c ∷ [])) ≡ true
-plain-last [] c p z = no p
+plain-last [] c p z = false-true p
 plain-last (b ∷ []) c p z = rw (ne-eqb b 48 (λ e. omega arith))
 plain-last (b ∷ d ∷ s) c p z = p
 

@@ -7,6 +7,7 @@ use native.Mathlib.Omega.{arith}
 use lib.Dec.{eqb, ltb, lit<}
 use borrow.Author.Tests.{not-true, ltb-true, ltb-false, lt-ltb, le-ltb, ne-eqb, eqb-true, eqb-false}
 use Rattle.values.specs.Patterns.{signedOf}
+use Rattle.words.proofs.Tests.{both, false-true}
 use Rattle.memory.specs.declared.Bank.{Bank}
 use Rattle.memory.specs.declared.Bank.the-variants.{X, C, «V», N, D, R}
 use Rattle.memory.specs.Names.{isDigit, allDigits, noLeadingZero, decimalValue, numberBelow}
@@ -19,7 +20,6 @@ use Rattle.lines.specs.private.Steps.{halfText}
 use Rattle.lines.specs.Laws.{patterns, FormLaws}
 use Rattle.lines.proofs.Decimals.{text, text-of}
 use Rattle.lines.proofs.Patterns.{pattern-back}
-use Rattle.lines.proofs.Tests.{both, no}
 use Rattle.lines.proofs.forms.Integers.{picked}
 use Rattle.lines.proofs.forms.Hexadecimals as Hexadecimals
 use Rattle.lines.proofs.printing.Signs.{half-text}
@@ -40,6 +40,10 @@ number-read m cs n t e =
     let g = both (noLeadingZero cs) (allDigits cs) (h .0) in
     record { below = omega (arith, ltb-true (decimalValue cs) m (h .1)); same-text = sym (text-of cs (g .0) (g .1)) ∙ ap decimalText e }
 
+-- a number is the text of its value
+pub number-text : (m : ℕ) (cs : List ℕ) → numberBelow m cs ≡ true → cs ≡ decimalText (decimalValue cs)
+number-text m cs t = number-read m cs (decimalValue cs) t refl .same-text
+
 natural-only : (m : ℕ) (cs : List ℕ) (n : ℕ) → naturalForm m cs ≡ Pattern n → Read m cs n
 natural-only m cs n e =
     let h = picked (numberBelow m cs) (decimalValue cs) n (sym e) in number-read m cs n (h .0) (h .1)
@@ -59,7 +63,7 @@ bit-only cs n e =
 
 -- ---- a number with a sign
 no-sign : (half : ℕ) (cs : List ℕ) → noLeadingZero cs ≡ true → allDigits cs ≡ true → signedForm half cs ≡ naturalForm half cs
-no-sign half [] p d = no p
+no-sign half [] p d = false-true p
 no-sign half (c ∷ cs) p d =
     let r = digit-range c (both (isDigit c) (allDigits cs) d .0) in
     rw (ne-eqb c 45 (λ e. omega (arith, r)))

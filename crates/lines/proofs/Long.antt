@@ -7,6 +7,7 @@ use native.Mathlib.Omega.{arith}
 use lib.Dec.{eqb, ltb}
 use lib.ListN.{length, drop}
 use borrow.Author.Tests.{ltb-true, ltb-false, ne-eqb}
+use Rattle.words.proofs.Tests.{both}
 use Rattle.memory.specs.declared.Bank.{Bank}
 use Rattle.memory.specs.declared.Bank.the-variants.{X, C, «V», N, D, R}
 use Rattle.memory.specs.declared.names.Letter.{Letter}
@@ -21,7 +22,6 @@ use Rattle.lines.specs.declared.forms.Form.the-variants as Form
 use Rattle.lines.specs.Forms.{naturalForm, negativeForm, signedForm, hexForm, cellPattern}
 use Rattle.lines.specs.Printing.{widthOf}
 use Rattle.lines.proofs.Decimals.{text-of}
-use Rattle.lines.proofs.Tests.{both}
 use Rattle.lines.proofs.printing.Digits.{length-digits}
 use Rattle.lines.proofs.printing.Widths.{at-most}
 
@@ -42,7 +42,7 @@ no-number k n cs h l = by (numberBelow n cs) refl
     by false e = refl
 
 -- ---- a name has at most four bytes
-few : (b : Bank) → layoutOf b .elements ≤ 1000
+pub few : (b : Bank) → layoutOf b .elements ≤ 1000
 few X = omega arith
 few C = omega arith
 few «V» = omega arith

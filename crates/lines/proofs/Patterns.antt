@@ -8,12 +8,12 @@ use native.Mathlib.Omega.{arith}
 use lib.Dec.{ltb}
 use lib.ListN.{length}
 use borrow.Author.Tests.{ltb-true, ltb-false, le-leb, lt-leb}
+use Rattle.words.proofs.Tests.{both}
 use Rattle.tokens.specs.Bytes.{all, isHex}
 use Rattle.tokens.specs.Numerals.{hexDigit, hexFrom}
 use Rattle.lines.specs.declared.forms.Form.the-variants.{Pattern}
 use Rattle.lines.specs.Forms.{hexForm}
 use Rattle.lines.specs.Printing.{numeralByte, lowDigits}
-use Rattle.lines.proofs.Tests.{both}
 use Rattle.lines.proofs.printing.Digits.{digits-last, length-digits}
 
 -- a digit's byte is one of the digits, and stands for it

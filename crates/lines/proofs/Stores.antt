@@ -1,6 +1,6 @@
 -- Bytes that go into a list one by one, from the first on or from the last on, and texts that are put one behind the other. Assumes nothing.
 use mathlib.Core.Path.{_≡_, refl, sym, ap, subst, _∙_}
-use mathlib.Core.List.{List, [], _∷_, _++_}
+use mathlib.Core.List.{List, [], _∷_, _++_, append-nil}
 use Prim.Native.Nat.{ℕ, suc, _+_, _≤_}
 use native.Mathlib.Nat.{add-zero}
 use native.Mathlib.Numerals.{add-one}
@@ -56,3 +56,10 @@ then {l} {m} {n} {at} {b} {c} {s} {t} p q =
 
 pub as-text : {l m : List ℕ} {at b : ℕ} {s t : List ℕ} → s ≡ t → Puts l at m b s → Puts l at m b t
 as-text {l} {m} {at} {b} e p = subst (λ (x : List ℕ). Puts l at m b x) e p
+
+-- nothing is put, and nothing behind a text
+pub none-put : (l : List ℕ) (at : ℕ) → Puts l at l at []
+none-put l at = record { bytes = refl; end = sym (add-zero at) }
+
+pub behind-none : {l m : List ℕ} {at b : ℕ} {s : List ℕ} → Puts l at m b s → Puts l at m b (s ++ [])
+behind-none {s = s} p = as-text (sym (append-nil s)) p

@@ -5,13 +5,13 @@ pub mod Cut
 pub mod Signed
 pub mod Grid
 pub mod Scaled
+pub mod Values
 mod Near
 mod Closer
 mod Kept
 mod Round
 mod Same
 mod Rising
-mod Values
 mod Pattern
 mod Evens
 mod Sum

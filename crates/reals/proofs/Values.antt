@@ -96,7 +96,7 @@ factor-in k nan s a c v = v
 factor-in k (inf t) s a c v = v
 factor-in k (fin t m e) s a c (sign, same) = (sign, sym (mul-assoc (m * up e) c k) ∙ ap (λ (z : ℕ). z * k) same ∙ mul-right-comm a (down e) k)
 
-factor-out : (k : ℕ) → 0 < k → (x : Float) (s : Bool) (a c : ℕ) → HasValue x s (a * k) (c * k) → HasValue x s a c
+pub factor-out : (k : ℕ) → 0 < k → (x : Float) (s : Bool) (a c : ℕ) → HasValue x s (a * k) (c * k) → HasValue x s a c
 factor-out k K nan s a c v = v
 factor-out k K (inf t) s a c v = v
 factor-out k K (fin t m e) s a c (sign, same) = (

@@ -7,5 +7,5 @@ pub mod Tests
 pub mod Below
 pub mod Runs
 pub mod Readings
-mod Same
+pub mod Same
 mod Samples

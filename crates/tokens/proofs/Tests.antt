@@ -1,18 +1,16 @@
 -- A test that holds, taken apart: what it says of its byte, and of the digit that the byte stands for.
-use mathlib.Core.Path.{_≡_, refl, sym, subst}
+use mathlib.Core.Path.{_≡_, refl}
 use mathlib.Core.Logic.{_⊎_, inl, inr}
-use mathlib.Core.Bool.{Bool, true, false, _&&_, _||_, cond}
+use mathlib.Core.Bool.{Bool, true, false, _||_, cond}
 use Prim.Native.Nat.{ℕ, _-_, _≤_, _<_}
 use native.Mathlib.Omega.{arith}
-use lib.Dec.{T, leb}
+use lib.Dec.{leb}
 use borrow.Author.Tests.{leb-true, le-leb, lt-leb}
+pub use Rattle.words.proofs.Tests.{both, false-true as no}
 use Rattle.memory.specs.Names.{isDigit}
 use Rattle.memory.proofs.names.Decimals.{digit-range}
 use Rattle.tokens.specs.Bytes.{byteBetween, isHex}
 use Rattle.tokens.specs.Numerals.{hexDigit}
-
-pub no : {A : Type 0} → false ≡ true → A
-no e = absurd (subst T (sym e) tt)
 
 -- by the two ways that a test can come out
 pub by-test : {A : Type 0} (t : Bool) → (t ≡ true → A) → (t ≡ false → A) → A
@@ -23,10 +21,6 @@ by-test false f g = g refl
 pub choose : {A : Type 0} (P : A → Type 0) (t : Bool) (a b : A) → (t ≡ true → P a) → (t ≡ false → P b) → P (cond t a b)
 choose P true a b f g = f refl
 choose P false a b f g = g refl
-
-pub both : (a b : Bool) → (a && b) ≡ true → (a ≡ true) × (b ≡ true)
-both true b e = (refl, e)
-both false b e = no e
 
 pub either : (a b : Bool) → (a || b) ≡ true → (a ≡ true) ⊎ (b ≡ true)
 either true b e = inl refl

@@ -30,17 +30,17 @@ use Rattle.tokens.proofs.numerals.Values.{real-literal}
 use Rattle.tokens.proofs.symbols.Longest.{Front, front, in-table, some-byte, most, front-matches}
 
 -- ---- classes of bytes
-letter-range : (c : ℕ) → isLetter c ≡ true → 57 < c
+pub letter-range : (c : ℕ) → isLetter c ≡ true → 57 < c
 letter-range c e = go (either (byteBetween 65 90 c) (byteBetween 97 122 c) e)
   where
     go : (byteBetween 65 90 c ≡ true) ⊎ (byteBetween 97 122 c ≡ true) → 57 < c
     go (inl u) = omega (arith, within 65 90 c u)
     go (inr l) = omega (arith, within 97 122 c l)
 
-letter-no-digit : (c : ℕ) → isLetter c ≡ true → isDigit c ≡ false
+pub letter-no-digit : (c : ℕ) → isLetter c ≡ true → isDigit c ≡ false
 letter-no-digit c e = rw (lt-leb c 57 (letter-range c e), and-false)
 
-no-space : (c : ℕ) → 33 ≤ c → isSpace c ≡ false
+pub no-space : (c : ℕ) → 33 ≤ c → isSpace c ≡ false
 no-space c h = rw (ne-eqb c 32 (λ e. omega arith), ne-eqb c 9 (λ e. omega arith))
 
 -- ---- the symbols
@@ -164,17 +164,17 @@ run-lexeme : (class : ℕ → Bool) (f : List ℕ → Scanned) (w r : List ℕ) 
     → runLexeme class f (w ++ r) p ≡ lexeme p (length w) (f w)
 run-lexeme class f w r p e s = rw (run-length class w r e s, take-append-seam w r)
 
-letter-lexeme : (c : ℕ) (cs : List ℕ) (p : ℕ) → isLetter c ≡ true → lexemeOf (c ∷ cs) p ≡ runLexeme isWord wordToken (c ∷ cs) p
+pub letter-lexeme : (c : ℕ) (cs : List ℕ) (p : ℕ) → isLetter c ≡ true → lexemeOf (c ∷ cs) p ≡ runLexeme isWord wordToken (c ∷ cs) p
 unfolding lexemeOf
 letter-lexeme c cs p l =
     let Is : Lexeme → Type 0 = λ x. x ≡ runLexeme isWord wordToken (c ∷ cs) p in
     choose Is (isDigit c) _ _ (λ d. no (sym (letter-no-digit c l) ∙ d)) (λ d. choose Is (isLetter c) _ _ (λ m. refl) (λ m. no (sym m ∙ l)))
 
-digit-lexeme : (s : List ℕ) (p : ℕ) → Starts isDigit s → lexemeOf s p ≡ numeralLexeme s p
+pub digit-lexeme : (s : List ℕ) (p : ℕ) → Starts isDigit s → lexemeOf s p ≡ numeralLexeme s p
 unfolding lexemeOf
 digit-lexeme (c ∷ cs) p (first d) = choose (λ (x : Lexeme). x ≡ numeralLexeme (c ∷ cs) p) (isDigit c) _ _ (λ m. refl) (λ m. no (sym m ∙ d))
 
-longer-start : (w r : List ℕ) → Starts isDigit w → Starts isDigit (w ++ r)
+pub longer-start : (w r : List ℕ) → Starts isDigit w → Starts isDigit (w ++ r)
 longer-start (c ∷ cs) r (first d) = first d
 
 word-lexeme : (w r : List ℕ) (p : ℕ) → Starts isLetter w → all isWord w ≡ true → Stops isWord r → lexemeOf (w ++ r) p ≡ lexeme p (length w) (wordToken w)
@@ -185,7 +185,7 @@ numeral-lexeme {w} {r} p h =
     digit-lexeme (w ++ r) p (longer-start w r (run-starts h))
     ∙ ap (λ (n : ℕ). lexeme p n (numeralOf (take n (w ++ r)))) (run-len h) ∙ ap (λ (v : List ℕ). lexeme p (length w) (numeralOf v)) (take-append-seam w r)
 
-symbol-lexeme : (c : ℕ) (cs : List ℕ) (p : ℕ) → isDigit c ≡ false → isLetter c ≡ false → lexemeOf (c ∷ cs) p ≡ symbolLexeme p (longest (c ∷ cs))
+pub symbol-lexeme : (c : ℕ) (cs : List ℕ) (p : ℕ) → isDigit c ≡ false → isLetter c ≡ false → lexemeOf (c ∷ cs) p ≡ symbolLexeme p (longest (c ∷ cs))
 unfolding lexemeOf
 symbol-lexeme c cs p d l = rw (d, l)
 

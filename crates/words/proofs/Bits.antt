@@ -1,31 +1,11 @@
 -- The bits of a byte by their weights: one computed test over every byte and every bit of it, on and off. Assumes nothing.
-use mathlib.Core.Path.{_≡_, refl, sym, subst}
-use mathlib.Core.Bool.{Bool, true, false, _&&_}
-use Prim.Native.Nat.{ℕ, zero, suc, _+_, _-_, _*_, _/_, _%_, _^_, _≤_, _<_}
-use native.Mathlib.Decide.{decLt}
-use native.Mathlib.Omega.{arith}
-use lib.Dec.{T, eqb, leb, ltb}
+use mathlib.Core.Path.{_≡_, refl}
+use mathlib.Core.Bool.{Bool, true, _&&_}
+use Prim.Native.Nat.{ℕ, _+_, _-_, _*_, _/_, _%_, _^_, _≤_, _<_}
+use lib.Dec.{eqb, leb, ltb}
 use borrow.Author.Tests.{eqb-true, leb-true, ltb-true}
 use Rattle.words.specs.Bits.{bit, withBit}
-
-both : (a b : Bool) → (a && b) ≡ true → (a ≡ true) × (b ≡ true)
-both true b e = (refl, e)
-both false b e = absurd (subst T (sym e) tt)
-
--- ---- every number below a bound passes a test
-abbrev everyBelow : (ℕ → Bool) → ℕ → Bool
-everyBelow f zero = true
-everyBelow f (suc n) = f n && everyBelow f n
-
-at-each : (f : ℕ → Bool) (n : ℕ) → everyBelow f n ≡ true → (k : ℕ) → k < n → f k ≡ true
-at-each f zero t k h = absurd (omega arith)
-at-each f (suc n) t k h =
-    let b = both (f n) (everyBelow f n) t in
-    by (decLt k n) (b .0) (λ l. at-each f n (b .1) k l)
-  where
-    by : Dec (k < n) → f n ≡ true → (k < n → f k ≡ true) → f k ≡ true
-    by (yes l) last before = before l
-    by (no l) last before = subst (λ (m : ℕ). f m ≡ true) (omega arith) last
+use Rattle.words.proofs.Tests.{both, everyBelow, at-each}
 
 -- ---- the bit k of the byte x, whose weight is w
 pub record Weighs (x k w : ℕ) : Type 0 where

@@ -8,17 +8,17 @@ use Rattle.words.specs.Bits.{bit, withBit}
 use Rattle.words.specs.Laws.{DigitLaws}
 
 -- ---- a number with a digit behind it
-upper : (y d : ℕ) → d < 2 → (y * 2 + d) / 2 ≡ y
+pub upper : (y d : ℕ) → d < 2 → (y * 2 + d) / 2 ≡ y
 upper y d h = omega arith
 
-lower : (y d : ℕ) → d < 2 → (y * 2 + d) % 2 ≡ d
+pub lower : (y d : ℕ) → d < 2 → (y * 2 + d) % 2 ≡ d
 lower y d h = omega arith
 
-small : (x : ℕ) → x % 2 < 2
-small x = omega arith
+pub remainder-digit : (x : ℕ) → x % 2 < 2
+remainder-digit x = omega arith
 
 below : (x k : ℕ) → bit x k < 2
-below x zero = small x
+below x zero = remainder-digit x
 below x (suc k) = below (x / 2) k
 
 -- a digit above the lowest, of a number with a digit behind it
@@ -27,13 +27,13 @@ above y d k h = ap (λ (z : ℕ). bit z k) (upper y d h)
 
 written : (x k d : ℕ) → d < 2 → bit (withBit x k d) k ≡ d
 written x zero d h = lower (x / 2) d h
-written x (suc k) d h = above (withBit (x / 2) k d) (x % 2) k (small x) ∙ written (x / 2) k d h
+written x (suc k) d h = above (withBit (x / 2) k d) (x % 2) k (remainder-digit x) ∙ written (x / 2) k d h
 
 kept : (x k j d : ℕ) → d < 2 → k ≢ j → bit (withBit x k d) j ≡ bit x j
 kept x zero zero d h n = absurd (n refl)
 kept x zero (suc j) d h n = above (x / 2) d j h
-kept x (suc k) zero d h n = lower (withBit (x / 2) k d) (x % 2) (small x)
-kept x (suc k) (suc j) d h n = above (withBit (x / 2) k d) (x % 2) j (small x) ∙ kept (x / 2) k j d h (λ e. n (ap suc e))
+kept x (suc k) zero d h n = lower (withBit (x / 2) k d) (x % 2) (remainder-digit x)
+kept x (suc k) (suc j) d h n = above (withBit (x / 2) k d) (x % 2) j (remainder-digit x) ∙ kept (x / 2) k j d h (λ e. n (ap suc e))
 
 -- ---- two digits that are written
 -- one above the lowest, of a number with a digit behind it
@@ -45,12 +45,12 @@ write-lowest y c d h = ap (λ (z : ℕ). z * 2 + d) (upper y c h)
 
 commute : (x k j c d : ℕ) → c < 2 → d < 2 → k ≢ j → withBit (withBit x k c) j d ≡ withBit (withBit x j d) k c
 commute x zero zero c d g h n = absurd (n refl)
-commute x zero (suc j) c d g h n = write-above (x / 2) c j d g ∙ sym (write-lowest (withBit (x / 2) j d) (x % 2) c (small x))
-commute x (suc k) zero c d g h n = write-lowest (withBit (x / 2) k c) (x % 2) d (small x) ∙ sym (write-above (x / 2) d k c h)
+commute x zero (suc j) c d g h n = write-above (x / 2) c j d g ∙ sym (write-lowest (withBit (x / 2) j d) (x % 2) c (remainder-digit x))
+commute x (suc k) zero c d g h n = write-lowest (withBit (x / 2) k c) (x % 2) d (remainder-digit x) ∙ sym (write-above (x / 2) d k c h)
 commute x (suc k) (suc j) c d g h n =
-    write-above (withBit (x / 2) k c) (x % 2) j d (small x)
+    write-above (withBit (x / 2) k c) (x % 2) j d (remainder-digit x)
     ∙ ap (λ (z : ℕ). z * 2 + x % 2) (commute (x / 2) k j c d g h (λ e. n (ap suc e)))
-    ∙ sym (write-above (withBit (x / 2) j d) (x % 2) k c (small x))
+    ∙ sym (write-above (withBit (x / 2) j d) (x % 2) k c (remainder-digit x))
 
 -- ---- a number is known by its digits
 known : (k x y : ℕ) → x < 2 ^ k → y < 2 ^ k → ((j : ℕ) → j < k → bit x j ≡ bit y j) → x ≡ y

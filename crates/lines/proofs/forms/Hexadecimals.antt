@@ -5,42 +5,30 @@ use mathlib.Core.List.{List, [], _∷_}
 use Prim.Native.Nat.{ℕ, suc, _+_, _-_, _*_, _^_, _≤_, _<_}
 use native.Mathlib.Nat.{lt-of-lt-of-le, mul-le-mul-right, mul-assoc, mul-one, one-mul, pow-succ'}
 use native.Mathlib.Omega.{arith}
-use lib.Dec.{eqb, leb}
+use lib.Dec.{eqb}
 use lib.ListN.{length, getD, take, drop, length-drop}
 use lib.Seq.{take-all}
-use borrow.Author.Tests.{leb-true, leb-false, lt-leb, eq-eqb, ne-eqb, eqb-true}
+use borrow.Author.Tests.{eq-eqb, ne-eqb, eqb-true}
 use Rattle.values.specs.declared.Value.the-variants.{Int}
 use Rattle.values.specs.Patterns.{signedOf}
 use Rattle.values.proofs.patterns.Readings.{low-signed}
+use Rattle.words.proofs.Tests.{both}
 use Rattle.tokens.specs.declared.Token.the-variants.{Number}
 use Rattle.tokens.specs.declared.Scanned.the-variants.{Good, Bad}
 use Rattle.tokens.specs.Bytes.{all, isHex}
 use Rattle.tokens.specs.Numerals.{nonEmpty, hexDigit, hexFrom, hexOf, isHexRun}
+use Rattle.tokens.proofs.Tests.{hex-small}
 use Rattle.lines.specs.declared.forms.Form.the-variants.{Pattern, Other}
 use Rattle.lines.specs.Forms.{hexForm}
 use Rattle.lines.specs.private.Steps.{scannedForm}
-use Rattle.lines.proofs.Tests.{both, no}
 use Rattle.lines.proofs.forms.Integers.{picked}
-
--- ---- a digit is below 16
-beyond : (c : ℕ) → 102 < c → isHex c ≡ false
-beyond c h = rw (lt-leb c 57 (omega arith), lt-leb c 70 (omega arith), lt-leb c 102 h, and-false, and-false, and-false)
-
-small : (c : ℕ) → isHex c ≡ true → hexDigit c < 16
-small c e = by (leb c 57) (leb c 70) (leb c 102) refl refl refl
-  where
-    by : (t u w : Bool) → leb c 57 ≡ t → leb c 70 ≡ u → leb c 102 ≡ w → cond t (c - 48) (cond u (c - 55) (c - 87)) < 16
-    by true u w p q r = omega (arith, leb-true c 57 p)
-    by false true w p q r = omega (arith, leb-true c 70 q)
-    by false false true p q r = omega (arith, leb-true c 102 r)
-    by false false false p q r = no (sym (beyond c (leb-false c 102 r)) ∙ e)
 
 -- ---- digits after those that make n
 bound : (n : ℕ) (cs : List ℕ) → all isHex cs ≡ true → hexFrom n cs < (n + 1) * 16 ^ length cs
 bound n [] e = rw mul-one (omega arith)
 bound n (c ∷ cs) e =
     let h = both (isHex c) (all isHex cs) e in
-    let d : n * 16 + hexDigit c + 1 ≤ (n + 1) * 16 = omega (arith, small c (h .0)) in
+    let d : n * 16 + hexDigit c + 1 ≤ (n + 1) * 16 = omega (arith, hex-small c (h .0)) in
     rw (pow-succ', ← mul-assoc) (lt-of-lt-of-le (bound (n * 16 + hexDigit c) cs (h .1)) (mul-le-mul-right (16 ^ length cs) d))
 
 eight : (cs : List ℕ) → length cs ≡ 8 → all isHex cs ≡ true → hexFrom 0 cs < 2 ^ 32

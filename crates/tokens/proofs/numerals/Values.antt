@@ -64,7 +64,7 @@ real-literal w x q = subst (Rounds (scaledDecimal (literalNumber w) (literalScal
     (literal-laws .rounds (literalNumber w) (literalScale w))
 
 -- ---- the number of at most nine digits
-as-all : (ds : List ℕ) → allDigits ds ≡ true → all isDigit ds ≡ true
+pub as-all : (ds : List ℕ) → allDigits ds ≡ true → all isDigit ds ≡ true
 as-all [] e = refl
 as-all (d ∷ ds) e = let h = both (isDigit d) (allDigits ds) e in rw (h .0, as-all ds (h .1))
 

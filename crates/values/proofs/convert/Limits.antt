@@ -22,7 +22,7 @@ or-true : (b : Bool) → (b || true) ≡ true
 or-true true = refl
 or-true false = refl
 
-or-false : (b c : Bool) → (b || c) ≡ false → (b ≡ false) × (c ≡ false)
+pub or-false : (b c : Bool) → (b || c) ≡ false → (b ≡ false) × (c ≡ false)
 or-false true c e = absurd (true≢false e)
 or-false false c e = (refl, e)
 

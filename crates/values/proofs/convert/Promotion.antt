@@ -1,22 +1,23 @@
 -- A number of 24 + d binary digits as the nearest single: its 24 leading digits, rounded by the rest, times 2 ^ d.
 use mathlib.Core.Path.{_≡_, sym, ap, _∙_}
 use mathlib.Core.Logic.{_⊎_, inl, inr}
-use mathlib.Core.Bool.{Bool, false}
+use mathlib.Core.Bool.{false}
 use Prim.Native.Nat.{ℕ, suc, _+_, _-_, _*_, _/_, _%_, _^_, _≤_, _<_, compare}
 use native.Mathlib.Nat.{le-trans, le-antisymm, lt-of-lt-of-le, lt-of-le-of-lt, lt-of-not-le, not-le-of-lt, zero-lt-suc, mul-one, one-mul, div-one}
-use native.Mathlib.Nat.{mul-comm, mul-assoc, mul-right-comm, mul-pos, mul-le-mul-right, mul-lt-mul-of-pos-right, eq-of-mul-eq-mul-right}
+use native.Mathlib.Nat.{mul-comm, mul-assoc, mul-pos, mul-le-mul-right, mul-lt-mul-of-pos-right}
 use native.Mathlib.Nat.{eq-or-lt-of-le, le-div-iff-mul-le}
 use native.Mathlib.Omega.{arith}
 use lib.IntN.{pos}
 use lib.Dec.{T, lit<, lit≤, le→leb}
 use lib.Pow.{pow-add, pow-pos, pow-mono, pow-lt, shr-lt}
-use lib.Ieee.{Float, nan, inf, fin, binary32, up, down, size, units, round, mul, ofInt, inFloat}
+use lib.Ieee.{binary32, up, size, units, round, mul, ofInt, inFloat}
 use lib.Ieee.Digits.{size-lt, size-le}
 use lib.Ieee.Fits.{core, round-is, nearest-le, round-fits, ofInt-fits}
 use lib.Ieee.Exact.{HasValue, units-val, round-exact}
 use lib.Ieee.Nearest.{closest, closest-same, nearest-ge}
 use lib.Ieee.Back.{round-whole, whole-unique}
 use lib.Ieee.Positive.{positive-of-value, mul-at}
+use Rattle.reals.proofs.Values.{factor-out}
 use Rattle.values.proofs.convert.Digits.{Digits}
 
 -- up to 2 ^ 24 a single holds every whole number
@@ -31,13 +32,6 @@ of-whole n h = round-whole binary32 false n h
 size-is : (n z : ℕ) → 2 ^ z ≤ n → n < 2 ^ suc z → size n ≡ suc z
 size-is n z lo hi =
     le-antisymm (size-le n (suc z) hi) (lt-of-not-le (λ (g : size n ≤ z). not-le-of-lt (lt-of-lt-of-le (size-lt n) (pow-mono g)) lo))
-
--- a factor k of both parts of a fraction can be left out
-without : (k : ℕ) → 0 < k → (x : Float) (s : Bool) (a c : ℕ) → HasValue x s (a * k) (c * k) → HasValue x s a c
-without k K nan s a c v = v
-without k K (inf t) s a c v = v
-without k K (fin t m e) s a c (sign, same) =
-    (sign, eq-of-mul-eq-mul-right k K (m * up e * c) (a * down e) (mul-assoc (m * up e) c k ∙ same ∙ mul-right-comm a k (down e)))
 
 -- a number up to 2 ^ 24 as a significand of 24 digits at a place
 record Significand (k : ℕ) : Type 0 where
@@ -110,7 +104,7 @@ module _ {m d : ℕ} (h : Digits m d) where
   value =
       let k = closest m (2 ^ d) in
       let found = units-val binary32 false k (d + 149) (room k closest-le) in
-      without (2 ^ 149) (pow-pos 149) (round binary32 false m 1) false (k * 2 ^ d) 1 (rw (rounds, ← in-units k closest-le) found)
+      factor-out (2 ^ 149) (pow-pos 149) (round binary32 false m 1) false (k * 2 ^ d) 1 (rw (rounds, ← in-units k closest-le) found)
 
   pub product-is : mul binary32 (ofInt binary32 (pos (closest m (2 ^ d)))) (ofInt binary32 (pos (2 ^ d))) ≡ ofInt binary32 (pos m)
   product-is =
