@@ -1,1 +1,2 @@
-mod Turns
+-- Reading card after card; other crates cite the count of words.
+pub mod Turns

@@ -31,9 +31,10 @@ use Rattle.tokens.specs.Scan.{Tok, Scan, tokens, wrong, consToken, scan}
 use Rattle.tokens.specs.Theorems.{LongestLexeme, word, numeral, symbol, stray, Scans, end, token, stop}
 use Rattle.tokens.proofs.Tests.{both, no}
 use Rattle.tokens.proofs.Theorems.{token-theorems}
+use Rattle.tokens.proofs.Same.{equal as same-bytes}
 use Rattle.lines.specs.Lines.{except}
 use Rattle.card_laws.specs.Lines.{Lacks, lacks}
-use Rattle.card_laws.proofs.Lines.{lacks-append, lacks-left, lacks-right, lacks-cons, same-bytes}
+use Rattle.card_laws.proofs.Lines.{lacks-append, lacks-left, lacks-right, lacks-cons}
 
 -- every name of a list of functions lacks the byte
 abbrev namesLack : ℕ → List Function → Bool

@@ -14,6 +14,7 @@ use Rattle.memory.specs.Names.{isDigit, allDigits, noLeadingZero, decimalValue,
 use Rattle.memory.proofs.names.Decimals.{digit-range}
 use Rattle.tokens.specs.Symbols.{equalBytes}
 use Rattle.tokens.proofs.Tests.{both, no}
+use Rattle.tokens.proofs.Same.{equal as same-bytes}
 use Rattle.lines.specs.Forms.{naturalForm}
 use Rattle.lines.specs.Printing.{numeralByte, lowDigits, decimalText}
 use Rattle.lines.specs.declared.forms.Form.the-variants as Natural
@@ -27,7 +28,7 @@ use Rattle.card_laws.specs.declared.Verdict.{Verdict}
 use Rattle.card_laws.specs.declared.Verdict.the-variants.{Fine, Refusal}
 use Rattle.card_laws.specs.Reading.{CardRead, taken, refused, unlessRefused, judged, readCard, GoodCard, good-card}
 use Rattle.card_laws.specs.Theorems.{JudgeLaws}
-use Rattle.card_laws.proofs.Lines.{lacks-append, lacks-cons, same-bytes, same-itself, field-is, field-there}
+use Rattle.card_laws.proofs.Lines.{lacks-append, lacks-cons, same-itself, field-is, field-there}
 
 -- ---- digits
 pub digits-lack : (s : List ℕ) → allDigits s ≡ true → Lacks 10 s

@@ -11,8 +11,9 @@ use borrow.Author.Tests.{eqb-true, eq-eqb, ne-eqb, lt-ltb, ltb-true, not-true, n
 use Rattle.tokens.specs.Bytes.{runLen, all}
 use Rattle.tokens.specs.Symbols.{equalBytes}
 use Rattle.tokens.specs.Theorems.{Stops, other}
-use Rattle.tokens.proofs.Tests.{both, no}
+use Rattle.tokens.proofs.Tests.{both}
 use Rattle.tokens.proofs.Runs.{all-append, run-every, run-stops, run-length}
+use Rattle.tokens.proofs.Same.{equal as same-bytes}
 use Rattle.lines.specs.Lines.{except}
 use Rattle.card_laws.specs.Lines.{ended, Lacks, begins, Field, field, wrong, toEnd, restOfLine, fieldOf}
 
@@ -38,12 +39,6 @@ is-except : (b c : ℕ) → except b c ≡ false → c ≡ b
 is-except b c e = eqb-true c b (not-false (eqb c b) e)
 
 -- ---- equal bytes
-pub same-bytes : (s t : List ℕ) → equalBytes s t ≡ true → s ≡ t
-same-bytes [] [] e = refl
-same-bytes [] (d ∷ t) e = no e
-same-bytes (c ∷ s) [] e = no e
-same-bytes (c ∷ s) (d ∷ t) e = let h = both (eqb c d) (equalBytes s t) e in rw (eqb-true c d (h .0), same-bytes s t (h .1))
-
 pub same-itself : (s : List ℕ) → equalBytes s s ≡ true
 same-itself [] = refl
 same-itself (c ∷ s) = rw (eq-eqb c c refl) (same-itself s)

@@ -41,7 +41,7 @@ empty-is : (s : List ℕ) → isEmpty s ≡ true → s ≡ []
 empty-is [] e = refl
 empty-is (c ∷ s) e = let z : _≡_ {A = ℕ} 0 1 = cc in absurd (omega arith)
 
-not-nothing : (s : List ℕ) → 0 < length s → isEmpty s ≡ false
+pub not-nothing : (s : List ℕ) → 0 < length s → isEmpty s ≡ false
 not-nothing [] h = absurd (omega arith)
 not-nothing (c ∷ s) h = refl
 

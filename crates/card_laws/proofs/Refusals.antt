@@ -10,6 +10,7 @@ use lib.Dec.{ltb}
 use lib.ListN.{length, length-append}
 use borrow.Author.Tests.{lt-ltb, le-ltb, ltb-true, ltb-false}
 use Rattle.tokens.specs.Symbols.{equalBytes}
+use Rattle.tokens.proofs.Same.{equal as same-bytes}
 use Rattle.card_laws.specs.Cards.{Card, card, numberOf, checkText, cardBytes, cardsBytes, Form, formed, out, cardForm}
 use Rattle.card_laws.specs.declared.Verdict.{Verdict}
 use Rattle.card_laws.specs.declared.Verdict.the-variants.{Fine, Refusal}
@@ -19,7 +20,7 @@ use Rattle.card_laws.specs.Writing.{CardsWritten, done, unwritten, writa
 use Rattle.card_laws.specs.Refusals.{Refused, out-of-form, wrong-check, FirstRefused, Unfit, no-lines, FirstUnfit, NotWritten, no-room, card-refused}
 use Rattle.card_laws.specs.Refusals as Why
 use Rattle.card_laws.specs.Theorems.{JudgeLaws}
-use Rattle.card_laws.proofs.Lines.{same-bytes, same-itself}
+use Rattle.card_laws.proofs.Lines.{same-itself}
 use Rattle.card_laws.proofs.Cards.{Stands, card-is}
 use Rattle.card_laws.proofs.Reading.{card-some, refused-behind}
 use Rattle.card_laws.proofs.Writing.{verdict-good, good-verdict}

@@ -11,6 +11,7 @@ use lib.ListN.{length, take, drop, set, getD, length-append}
 use borrow.Author.Tests.{lt-ltb}
 use Rattle.memory.specs.Names.{decimalValue}
 use Rattle.tokens.specs.Symbols.{equalBytes}
+use Rattle.tokens.proofs.Same.{equal as same-bytes}
 use Rattle.lines.specs.Printing.{lowDigits}
 use Rattle.card_laws.specs.Lines.{ended, Lacks}
 use Rattle.card_laws.specs.Cards.{Card, card, numberOf, targetKey, exprKey, checkKey, checkOf, checkedLines, checkText, cardLine, cardBytes}
@@ -21,7 +22,7 @@ use Rattle.card_laws.specs.Reading.{CardRead, taken, refused, unlessRefu
 use Rattle.card_laws.specs.Reading.{readFrom, readCards, GoodCard, good-card, Valid, none, next}
 use Rattle.card_laws.specs.Writing.{writtenBytes}
 use Rattle.card_laws.specs.Theorems.{JudgeLaws, Spoilt, linesAt, CardTheorems}
-use Rattle.card_laws.proofs.Lines.{lacks-append, same-bytes, same-line}
+use Rattle.card_laws.proofs.Lines.{lacks-append, same-line}
 use Rattle.card_laws.proofs.Cards.{Formed, form-is, five, check-lacks, check-is, number-there, bytes-before, ended-append}
 use Rattle.card_laws.proofs.Reading.{sound, back, refused-behind, cards-append}
 use Rattle.card_laws.proofs.Writing.{written, writes}

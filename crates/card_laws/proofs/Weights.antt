@@ -1,7 +1,7 @@
 -- The check of two lists that differ in one byte differs, up to the position 2,062. No product of 1 to 255 and 1 to 2,062 is a multiple of the modulus: one
 -- computed test. Assumes nothing.
 use mathlib.Core.Path.{_≡_, refl, sym, ap, subst, _∙_}
-use mathlib.Core.Bool.{Bool, true, false, _&&_, _||_, not}
+use mathlib.Core.Bool.{Bool, true, false, _||_, not}
 use mathlib.Core.List.{List, [], _∷_, _++_}
 use Prim.Native.Nat.{ℕ, zero, suc, _+_, _-_, _*_, _/_, _%_, _≤_, _<_}
 use native.Mathlib.Nat.{add-zero, add-suc, suc-add, mul-add, mul-comm, mul-mod-left, mul-div-left, mul-le-mul, mul-pos}
@@ -10,21 +10,8 @@ use native.Mathlib.Decide.{decLe}
 use lib.Dec.{eqb, leb}
 use lib.ListN.{length}
 use borrow.Author.Tests.{leb-true}
-use Rattle.tokens.proofs.Tests.{both}
+use Rattle.words.proofs.Tests.{everyBelow, at-each}
 use Rattle.card_laws.specs.Cards.{modulus, weigh, checkOf}
-
--- ---- every number below a bound passes a test
-abbrev everyBelow : (ℕ → Bool) → ℕ → Bool
-everyBelow f zero = true
-everyBelow f (suc n) = f n && everyBelow f n
-
-at-each : (f : ℕ → Bool) (n : ℕ) → everyBelow f n ≡ true → (k : ℕ) → k < n → f k ≡ true
-at-each f zero t k h = absurd (omega arith)
-at-each f (suc n) t k h = let b = both (f n) (everyBelow f n) t in go b (decLe (suc k) n) (λ l. at-each f n (b .1) k l)
-  where
-    go : (f n ≡ true) × (everyBelow f n ≡ true) → Dec (suc k ≤ n) → (suc k ≤ n → f k ≡ true) → f k ≡ true
-    go b (yes l) r = r l
-    go b (no l) r = subst (λ (m : ℕ). f m ≡ true) (omega arith) (b .0)
 
 -- a multiple of the modulus, divided by a difference of bytes, is no position that occurs
 abbrev farOff : ℕ → ℕ → Bool

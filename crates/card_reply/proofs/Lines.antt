@@ -1,8 +1,7 @@
 -- The lines of a reply, put one behind the other. Assumes nothing.
-use mathlib.Core.Path.{_≡_, refl, sym, _∙_}
+use mathlib.Core.Path.{_≡_, sym, _∙_}
 use mathlib.Core.List.{List, [], _∷_, _++_, append-nil, append-assoc}
 use Prim.Native.Nat.{ℕ, _+_, _-_, _<_}
-use native.Mathlib.Nat.{add-zero}
 use native.Mathlib.Omega.{arith}
 use lib.ListN.{length, take, drop, getD, length-drop, drop-of-length-le}
 use lib.Seq.{take-all}
@@ -10,13 +9,9 @@ use borrow.Author.Tests.{eq-eqb, ne-eqb}
 use Rattle.words.specs.Ascii.{ascii}
 use Rattle.lines.specs.Printing.{decimalText}
 use Rattle.answer_words.specs.Words.{wordsOf}
-use Rattle.lines.specs.private.Steps.{Puts}
 use Rattle.card_laws.specs.Cards.{cardKey}
 use Rattle.card_file.specs.Spans.{lineNumber}
 use Rattle.card_reply.specs.Reply.{resultLines, cardText, refusedLines, replyText}
-
-pub none-put : (l : List ℕ) (at : ℕ) → Puts l at l at []
-none-put l at = record { bytes = refl; end = sym (add-zero at) }
 
 -- ---- the lines
 pub result-lines : (a p n : ℕ)

@@ -10,13 +10,15 @@ use lib.Seq.{sets-eq, take-append-seam, drop-append-seam}
 use borrow.Author.Tests.{ltb-true, ltb-false}
 use Rattle.lines.specs.Printing.{widthOf}
 use Rattle.lines.proofs.printing.Digits.{length-digits}
-use Rattle.card_laws.specs.Cards.{Card, card, targetKey, exprKey, checkKey, checkText, checkOf, checkedLines, cardLine, cardBefore, cardBytes, cardsBytes}
+use Rattle.card_laws.specs.Cards.{Card, card, targetKey, exprKey, checkKey, checkText, cardLine, cardBefore, cardBytes, cardsBytes}
 use Rattle.card_laws.specs.Reading.{good, readCards, good-card, Valid, none, next}
 use Rattle.card_laws.specs.Formulas.{formulaAnswer}
 use Rattle.card_laws.proofs.Cards.{bytes-before}
 use Rattle.card_laws.proofs.Formulas.{judge-laws, formula-card-theorems}
+use Rattle.card_laws.proofs.Reading.{card-size}
 use Rattle.card_file.specs.Spans.{targetAt, exprAt}
 use Rattle.card_file.specs.Words.{cardsWords, readWords}
+use Rattle.card_file.proofs.read.Turns.{words-count}
 use Rattle.card_write.specs.Given.{part, firstCards, cardsIn}
 use Rattle.card_tables.specs.Tables.{TableTheorems}
 
@@ -29,16 +31,12 @@ few : (cs : List Card) → Valid formulaAnswer 0 cs → length cs ≤ 64
 few cs v = omega (arith, few-above 0 v (omega arith))
 
 -- ---- a table of words
-words-length : (at : ℕ) (cs : List Card) → length (cardsWords at cs) ≡ 5 * length cs
-words-length at [] = refl
-words-length at (card n t e ∷ cs) = omega (arith, words-length (at + length (cardBytes (card n t e))) cs)
-
 table : (cs : List Card) → length cs ≤ 64 → take (5 * length cs) (drop 3 (readWords (good cs))) ≡ cardsWords 0 cs
 unfolding readWords
 table cs h =
     let ws = cardsWords 0 cs in
     let l = replicate {A = ℕ} 323 0 in
-    let n : length ws ≡ 5 * length cs = words-length 0 cs in
+    let n : length ws ≡ 5 * length cs = words-count 0 cs in
     let room : 0 + length (0 ∷ 0 ∷ length cs ∷ ws) ≤ length l = omega (arith, n) in
     ap (λ (x : List ℕ). take (5 * length cs) (drop 3 x)) (sets-eq (0 ∷ 0 ∷ length cs ∷ ws) l 0 room)
     ∙ ap (λ (k : ℕ). take k (ws ++ drop (0 + length (0 ∷ 0 ∷ length cs ∷ ws)) l)) (sym n)
@@ -118,26 +116,12 @@ handed : (s : List ℕ) (cs : List Card) → readCards formulaAnswer s ≡ good 
 unfolding cardsIn
 handed s cs h =
     let g = formula-card-theorems .sound s cs h in
-    let count : length (cardsWords 0 cs) / 5 ≡ length cs = omega (arith, words-length 0 cs) in
+    let count : length (cardsWords 0 cs) / 5 ≡ length cs = omega (arith, words-count 0 cs) in
     ap (λ (ws : List ℕ). firstCards s (length ws / 5) ws) (table cs (few cs (g .1)))
     ∙ ap (λ (k : ℕ). firstCards s k (cardsWords 0 cs)) count
     ∙ first-cards s [] cs (g .0)
 
 -- ---- the longest file
-card-size : (n : ℕ) (t e : List ℕ) → length (cardBytes (card n t e)) ≡ 32 + widthOf n + length t + length e
-unfolding checkText
-card-size n t e =
-    let k = checkKey ++ checkText t e in
-    omega (
-      arith,
-      length-append (cardLine n) (10 ∷ ((targetKey ++ t) ++ 10 ∷ ((exprKey ++ e) ++ 10 ∷ (k ++ 10 ∷ [])))),
-      line-width n,
-      length-append (targetKey ++ t) (10 ∷ ((exprKey ++ e) ++ 10 ∷ (k ++ 10 ∷ []))),
-      length-append (exprKey ++ e) (10 ∷ (k ++ 10 ∷ [])),
-      length-append k (10 ∷ []),
-      length-digits 10 5 (checkOf (checkedLines t e)),
-    )
-
 -- the most bytes of j cards, the last numbered 64
 abbrev most : ℕ → ℕ
 most zero = 0

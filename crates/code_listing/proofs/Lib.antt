@@ -1,4 +1,3 @@
 -- Laws for the proofs of the functions.
-mod Numbers
 mod Texts
 mod Lines

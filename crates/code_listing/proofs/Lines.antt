@@ -3,7 +3,7 @@ use mathlib.Core.Path.{_≡_, refl, sym, ap, _∙_}
 use mathlib.Core.Bool.{true, false, false≢true}
 use mathlib.Core.List.{List, [], _++_, append-nil, append-assoc}
 use Prim.Native.Nat.{ℕ, zero, suc, _+_, _-_, _*_, _≤_, _<_}
-use native.Mathlib.Nat.{add-zero, zero-add}
+use native.Mathlib.Nat.{zero-add}
 use native.Mathlib.Numerals.{add-one}
 use native.Mathlib.Omega.{arith}
 use lib.ListN.{length}
@@ -27,17 +27,11 @@ use Rattle.verifier.specs.Accepts.{instrAt, Accepts, CorrectVerdict}
 use Rattle.verifier.proofs.Verdicts.{verdict-laws}
 use Rattle.lines.specs.Printing.{decimalText, cellName}
 use Rattle.lines.specs.private.Steps.{Puts}
-use Rattle.lines.proofs.Stores.{then, as-text}
+use Rattle.lines.proofs.Stores.{then, as-text, none-put}
 use Rattle.text_tables.specs.Tables.{rowAt}
 use Rattle.code_listing.specs.Listing.{rangeText, instrText, lineText, linesFrom, listingRoom, verdictListed, listed}
 use Rattle.code_listing.specs.private.Parts.{letterOf, cellOf, rangeOf, KnownCode}
 use Rattle.code_listing.proofs.Texts.{letter-row}
-
-pub none-put : (l : List ℕ) (at : ℕ) → Puts l at l at []
-none-put l at = record { bytes = refl; end = sym (add-zero at) }
-
-pub behind-none : {l m : List ℕ} {at b : ℕ} {s : List ℕ} → Puts l at m b s → Puts l at m b (s ++ [])
-behind-none {s = s} p = as-text (sym (append-nil s)) p
 
 -- ---- one line
 pub line-is : (p : ℕ) (i : Instr) → ((decimalText p ++ ascii " ") ++ instrText p i) ++ ascii "\n" ≡ lineText p i

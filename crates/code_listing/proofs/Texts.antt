@@ -2,7 +2,7 @@
 use mathlib.Core.Path.{_≡_, refl, sym, ap, _∙_}
 use mathlib.Core.Bool.{Bool, true, false, not, cond}
 use mathlib.Core.List.{List, [], _∷_, _++_}
-use Prim.Native.Nat.{ℕ, _+_, _^_, _≤_, _<_}
+use Prim.Native.Nat.{ℕ, _+_, _^_, _<_}
 use native.Mathlib.Omega.{arith}
 use lib.Dec.{T, eqb, ltb}
 use lib.ListN.{getD}
@@ -38,10 +38,11 @@ use Rattle.code.specs.Instructions.{instructionOf}
 use Rattle.code.specs.private.Classes.{classOf, ofBank, ofUnary, ofBinary, ofTotal, ofMatch, numberOf, instrIn}
 use Rattle.code.proofs.Page.{number-class}
 use Rattle.lines.specs.Printing.{cellText, letterByte}
+use Rattle.lines.proofs.Long.{few}
 use Rattle.text_tables.specs.Tables.{rowAt}
+use Rattle.code.proofs.Numbers.{unary-forth, binary-forth, total-forth, match-forth}
 use Rattle.code_listing.specs.Listing.{unaryNames, binaryNames, totalNames, matchNames, jumpText, instrText}
 use Rattle.code_listing.specs.private.Parts.{letterOf, cellOf, rangeOf}
-use Rattle.code_listing.proofs.Numbers.{unary-number, binary-number, total-number, match-number}
 
 abbrev Known : Instr → Type 0
 Known i = i ≡ Unknown → ⊥
@@ -84,7 +85,7 @@ module _ (p : ℕ) where
     where
       by : (t : Bool) → ltb k 8 ≡ t → Known (ofUnary (cond t (UnaryOf.Is (getD unaryOps k Neg)) UnaryOf.Nothing) v)
           → rowAt k unaryNames ≡ instrText p (ofUnary (cond t (UnaryOf.Is (getD unaryOps k Neg)) UnaryOf.Nothing) v)
-      by true e h = when (eqb v 0) (Unary (getD unaryOps k Neg)) (ap (λ (n : ℕ). rowAt n unaryNames) (sym (unary-number k (ltb-true k 8 e)))) h
+      by true e h = when (eqb v 0) (Unary (getD unaryOps k Neg)) (ap (λ (n : ℕ). rowAt n unaryNames) (sym (unary-forth k (ltb-true k 8 e)))) h
       by false e h = absurd (h refl)
 
   binary-text : (k v : ℕ) → Known (ofBinary (binaryOf k) v) → rowAt k binaryNames ≡ instrText p (ofBinary (binaryOf k) v)
@@ -92,7 +93,7 @@ module _ (p : ℕ) where
     where
       by : (t : Bool) → ltb k 20 ≡ t → Known (ofBinary (cond t (BinaryOf.Is (getD binaryOps k (Arith Add))) BinaryOf.Nothing) v)
           → rowAt k binaryNames ≡ instrText p (ofBinary (cond t (BinaryOf.Is (getD binaryOps k (Arith Add))) BinaryOf.Nothing) v)
-      by true e h = when (eqb v 0) (Binary (getD binaryOps k (Arith Add))) (ap (λ (n : ℕ). rowAt n binaryNames) (sym (binary-number k (ltb-true k 20 e)))) h
+      by true e h = when (eqb v 0) (Binary (getD binaryOps k (Arith Add))) (ap (λ (n : ℕ). rowAt n binaryNames) (sym (binary-forth k (ltb-true k 20 e)))) h
       by false e h = absurd (h refl)
 
   -- over a range: the name, then the range
@@ -111,7 +112,7 @@ module _ (p : ℕ) where
           → rowAt k totalNames ++ spread v ≡ instrText p (ofTotal (cond t (TotalOf.Is (getD totalOps k TotalOp.Sum)) TotalOf.Nothing) v)
       by true e h =
           ranging-text (Total (getD totalOps k TotalOp.Sum)) (rowAt k totalNames)
-          (λ b i n. ap (λ (m : ℕ). rowAt m totalNames ++ rangeOf (BankOf.Is b) i n) (sym (total-number k (ltb-true k 4 e))))
+          (λ b i n. ap (λ (m : ℕ). rowAt m totalNames ++ rangeOf (BankOf.Is b) i n) (sym (total-forth k (ltb-true k 4 e))))
           (bankNumbered (rangeBank v)) (rangeFirst v) (rangeCount v) h
       by false e h = absurd (h refl)
 
@@ -122,19 +123,11 @@ module _ (p : ℕ) where
           → rowAt k matchNames ++ spread v ≡ instrText p (ofMatch (cond t (MatchOf.Is (getD matchOps k (MatchOp.Count Eq))) MatchOf.Nothing) v)
       by true e h =
           ranging-text (Match (getD matchOps k (MatchOp.Count Eq))) (rowAt k matchNames)
-          (λ b i n. ap (λ (m : ℕ). rowAt m matchNames ++ rangeOf (BankOf.Is b) i n) (sym (match-number k (ltb-true k 12 e))))
+          (λ b i n. ap (λ (m : ℕ). rowAt m matchNames ++ rangeOf (BankOf.Is b) i n) (sym (match-forth k (ltb-true k 12 e))))
           (bankNumbered (rangeBank v)) (rangeFirst v) (rangeCount v) h
       by false e h = absurd (h refl)
 
 -- a loaded element is below 1,000
-few : (b : Bank) → layoutOf b .elements ≤ 1000
-few X = omega arith
-few C = omega arith
-few «V» = omega arith
-few N = omega arith
-few D = omega arith
-few R = omega arith
-
 element-below : (x : BankOf) (v : ℕ) → Known (ofBank loadElement x v) → v < 1000
 element-below (BankOf.Is b) v h = by (ltb v (layoutOf b .elements)) refl h
   where

@@ -2,16 +2,16 @@
 use mathlib.Core.Path.{_≡_, refl, sym, ap, subst, _∙_}
 use mathlib.Core.Bool.{Bool, true, false, not, _&&_, cond}
 use mathlib.Core.List.{List, []}
-use Prim.Native.Nat.{ℕ, zero, suc, _*_, _≤_, _<_}
+use Prim.Native.Nat.{ℕ, _*_, _≤_, _<_}
 use native.Mathlib.Omega.{arith}
 use lib.Dec.{eqb, leb}
-use lib.ListN.{length, take, getD, replicate}
+use lib.ListN.{length, take}
 use lib.Seq.{sets}
 use borrow.Author.Tests.{lt-ltb, le-ltb, le-leb, lt-leb, leb-true, ltb-true, ltb-false, not-true, not-false, ne-eqb}
 use Rattle.tokens.proofs.Tests.{both}
 use Rattle.tokens.specs.Scan.{Scan, tokens, wrong, scan}
 use Rattle.token_table.specs.declared.Filled.the-variants.{Good, Wrong}
-use Rattle.token_table.specs.private.Table.{wordPlace, listed, Fills, blank, TokenWords}
+use Rattle.token_table.specs.private.Table.{wordPlace, listed, Fills}
 use Rattle.token_table.proofs.Laws.{filled-good, filled-wrong}
 use Rattle.grammar.specs.Tree.{Tree, Diagnostic, clear, at}
 use Rattle.grammar.specs.Parse.{parseFrom}
@@ -198,12 +198,3 @@ module _ (reals : Bool) (d : ℕ) (s code : List ℕ) where
 pub told-full : (s code : List ℕ) {a : Coded} {code′ : List ℕ} → Told code (compilingIn true 0 (length code) s) a code′
     → Told code (compiling (length code) s) a code′
 told-full s code {a} {code′} t = subst (λ (j : Judgement). Told code (inRoom (length code) j) a code′) (full 0 s) t
-
--- ---- a table without tokens
-pub no-tokens : (n : ℕ) → TokenWords (replicate n 0)
-no-tokens n i = rw (zeros n i) blank
-  where
-    zeros : (n i : ℕ) → _≡_ {A = ℕ} (getD (replicate n 0) i 0) 0
-    zeros zero i = refl
-    zeros (suc n) zero = refl
-    zeros (suc n) (suc i) = zeros n i

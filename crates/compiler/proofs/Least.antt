@@ -1,8 +1,8 @@
 -- A lexeme takes at least the bytes of its token, if it takes a byte at all.
 use mathlib.Core.Path.{_≡_, refl, ap, subst}
-use mathlib.Core.Bool.{Bool, true, false, cond, _&&_, false≢true}
+use mathlib.Core.Bool.{Bool, true, false, cond}
 use mathlib.Core.List.{List, [], _∷_}
-use Prim.Native.Nat.{ℕ, suc, _+_, _≤_, _<_}
+use Prim.Native.Nat.{ℕ, _+_, _≤_, _<_}
 use native.Mathlib.Omega.{arith}
 use lib.Dec.{eqb}
 use lib.ListN.{length, take, drop, length-take}
@@ -24,6 +24,7 @@ use Rattle.tokens.specs.Words.{nameOf, functionNamed, functions, letterWord, ce
 use Rattle.tokens.specs.Scan.{Lexeme, Found, Wrong, End, lexeme, runLexeme, numeralLexeme, lexemeOf, blanks, lexemeAt}
 use Rattle.tokens.proofs.Laws.{found}
 use Rattle.tokens.proofs.numerals.Values.{NumberOrRefused, number, refused, number-or-refused}
+use Rattle.tokens.proofs.Same.{equal}
 use Rattle.tree_code.specs.Demand.{bytesOfToken}
 
 -- n bytes, if they are any, have room for what they are judged to be
@@ -35,16 +36,6 @@ data Room (n : ℕ) : Scanned → Type 0 where
 when : {A : Type 0} (P : A → Type 0) (b : Bool) {x y : A} → (b ≡ true → P x) → P y → P (cond b x y)
 when P true f g = f refl
 when P false f g = g
-
-same-length : (cs ds : List ℕ) → equalBytes cs ds ≡ true → length cs ≡ length ds
-same-length [] [] e = refl
-same-length [] (d ∷ ds) e = absurd (false≢true e)
-same-length (c ∷ cs) [] e = absurd (false≢true e)
-same-length (c ∷ cs) (d ∷ ds) e = ap suc (same-length cs ds (after (eqb c d) e))
-  where
-    after : (b : Bool) → (b && equalBytes cs ds) ≡ true → equalBytes cs ds ≡ true
-    after true q = q
-    after false q = absurd (false≢true q)
 
 module _ (n : ℕ) where
   either : (b : Bool) {x y : Scanned} → Room n x → Room n y → Room n (cond b x y)
@@ -78,7 +69,7 @@ module _ (n : ℕ) where
 
   a-name : (fs : List Function) (cs : List ℕ) {o : Scanned} → length cs ≤ n → Room n o → Room n (functionNamed fs cs o)
   a-name [] cs l r = r
-  a-name (f ∷ fs) cs l r = when (Room n) (equalBytes (nameOf f) cs) (λ e. good (λ h. omega (arith, same-length (nameOf f) cs e))) (a-name fs cs l r)
+  a-name (f ∷ fs) cs l r = when (Room n) (equalBytes (nameOf f) cs) (λ e. good (λ h. omega (arith, ap length (equal (nameOf f) cs e)))) (a-name fs cs l r)
 
   a-word : (cs : List ℕ) → length cs ≤ n → Room n (wordToken cs)
   unfolding wordToken

@@ -1,6 +1,7 @@
--- Laws of drafts; the compiler cites Putting and Signing.
+-- Laws of drafts; the crates above cite Putting, Signing and Marks.
 pub mod Putting
 pub mod Signing
+pub mod Marks
 mod Numbers
 mod Typed
 mod Words

@@ -4,33 +4,22 @@ use mathlib.Core.List.{List, [], _∷_}
 use Prim.Native.Nat.{ℕ, zero, suc, _%_, _<_}
 use native.Mathlib.Nat.{not-suc-le-zero, le-of-suc-le-suc}
 use native.Mathlib.Omega.{arith}
-use lib.Dec.{ltb, lit<}
+use lib.Dec.{ltb}
 use lib.ListN.{length, getD}
 use borrow.Author.Tests.{lt-ltb}
-use Rattle.reals.specs.declared.ArithOp.the-variants.{Add, Sub, Mul, Div, Rem}
+use Rattle.reals.specs.declared.ArithOp.the-variants.{Add}
 use Rattle.values.specs.declared.Kind.{Kind}
 use Rattle.values.specs.declared.Kind.the-variants.{Int, Real}
-use Rattle.values.specs.declared.BitOp.the-variants.{And, Or, Xor}
-use Rattle.values.specs.declared.ShiftOp.the-variants.{Left, Right, RightZero}
-use Rattle.values.specs.declared.CompareOp.the-variants.{Lt, Gt, Le, Ge, Eq, Ne}
-use Rattle.values.specs.declared.ChoiceOp.the-variants.{Max, Min}
-use Rattle.operators.specs.declared.UnaryOp.{UnaryOp}
-use Rattle.operators.specs.declared.UnaryOp.the-variants as U
-use Rattle.operators.specs.declared.BinaryOp.{BinaryOp}
 use Rattle.operators.specs.declared.BinaryOp.the-variants as B
-use Rattle.operators.specs.Tables.{binaryOps, unaryNumber, binaryNumber, unaryOf, binaryOf}
+use Rattle.operators.specs.Tables.{binaryOps, unaryOf, binaryOf}
 use Rattle.operators.specs.Kinds.{isInt, join, numberKind, kindNumber, typed, unaryKind, unaryTakes, binaryKind, binaryTakes, unaryTyped, binaryTyped}
 use Rattle.operators.proofs.Typed.{kind-small, typed-taken, typed-kind}
 use Rattle.memory.specs.Cells.{bankKind}
 use Rattle.memory.specs.Numbers.{bankNumbered, bankTyped}
-use Rattle.totals.specs.declared.TotalOp.{TotalOp}
-use Rattle.totals.specs.declared.TotalOp.the-variants as T'
-use Rattle.totals.specs.declared.MatchOp.{MatchOp}
-use Rattle.totals.specs.declared.MatchOp.the-variants as M'
-use Rattle.totals.specs.Numbers.{totalNumber, matchNumber}
 use Rattle.tokens.specs.Words.{functionAt}
 use Rattle.grammar.specs.Symbols.{Form, plain, clock, ranged, matched, of-one, of-two, of-choice, of-since, formOf}
 use Rattle.grammar.specs.Functions.{formNumber, operatorNumber, functionForm, functionOperator}
+use Rattle.code.proofs.Numbers.{unary-below, binary-below, total-below, match-below}
 use Rattle.draft.specs.private.Words.{unaryAt, binaryAt, bankAt}
 
 pub number-kind : (k : Kind) → numberKind (kindNumber k) ≡ k
@@ -66,26 +55,6 @@ binary-typed n h {k = k} {l} e d b q =
     (typed-taken (binaryTakes o k l) (binaryKind o k l), typed-kind (binaryTakes o k l) (binaryKind o k l))
 
 -- ---- the operators of functions
-unary-below : (o : UnaryOp) → unaryNumber o < 8
-unary-below o = elim o [
-  | U.Neg ↦ lit< tt
-  | U.Complement ↦ lit< tt
-  | U.Not ↦ lit< tt
-  | U.Abs ↦ lit< tt
-  | U.ToReal ↦ lit< tt
-  | U.Trunc ↦ lit< tt
-  | U.Round ↦ lit< tt
-  | U.Frac ↦ lit< tt
-]
-
-binary-below : (o : BinaryOp) → binaryNumber o < 20
-binary-below B.Power = lit< tt
-binary-below (B.Arith o) = elim o [ Add ↦ lit< tt | Sub ↦ lit< tt | Mul ↦ lit< tt | Div ↦ lit< tt | Rem ↦ lit< tt ]
-binary-below (B.Shift o) = elim o [ Left ↦ lit< tt | Right ↦ lit< tt | RightZero ↦ lit< tt ]
-binary-below (B.Compare o) = elim o [ Lt ↦ lit< tt | Gt ↦ lit< tt | Le ↦ lit< tt | Ge ↦ lit< tt | Eq ↦ lit< tt | Ne ↦ lit< tt ]
-binary-below (B.Bits o) = elim o [ And ↦ lit< tt | Or ↦ lit< tt | Xor ↦ lit< tt ]
-binary-below (B.Choice o) = elim o [ Max ↦ lit< tt | Min ↦ lit< tt ]
-
 one-operator : (x : Form) → formNumber x ≡ 1 → operatorNumber x < 8
 one-operator (plain (of-one o)) e = unary-below o
 one-operator (plain (of-two o)) e = absurd (omega arith)
@@ -111,15 +80,6 @@ pub binary-function : (f : ℕ) → functionForm f ≡ 2 → functionOperator f 
 binary-function f e = two-operator (formOf (functionAt f)) e
 
 -- ---- the totals of functions
-total-below : (o : TotalOp) → totalNumber o < 4
-total-below T'.Sum = lit< tt
-total-below T'.Average = lit< tt
-total-below (T'.Choice o) = elim o [ Max ↦ lit< tt | Min ↦ lit< tt ]
-
-match-below : (o : MatchOp) → matchNumber o < 12
-match-below (M'.Count o) = elim o [ Lt ↦ lit< tt | Gt ↦ lit< tt | Le ↦ lit< tt | Ge ↦ lit< tt | Eq ↦ lit< tt | Ne ↦ lit< tt ]
-match-below (M'.Sum o) = elim o [ Lt ↦ lit< tt | Gt ↦ lit< tt | Le ↦ lit< tt | Ge ↦ lit< tt | Eq ↦ lit< tt | Ne ↦ lit< tt ]
-
 total-operator : (x : Form) → formNumber x ≡ 6 → operatorNumber x < 4
 total-operator (plain (of-one o)) e = absurd (omega arith)
 total-operator (plain (of-two o)) e = absurd (omega arith)

@@ -5,7 +5,7 @@ use mathlib.Core.List.{List, [], _∷_, _++_}
 use Prim.Native.Nat.{ℕ, suc, _≤_}
 use native.Mathlib.Omega.{arith}
 use lib.Dec.{eqb, ltb, leb}
-use lib.ListN.{getD, List·getD-eq-default}
+use lib.ListN.{getD}
 use borrow.Author.Tests.{ltb-true, ltb-false, eqb-true, ne-eqb, leb-true}
 use Rattle.values.specs.declared.ChoiceOp.the-variants as Choose
 use Rattle.operators.specs.declared.UnaryOp.{UnaryOp}
@@ -18,8 +18,9 @@ use Rattle.tokens.specs.declared.Function.the-variants.{Abs, ToReal, ToInt, Tru
 use Rattle.tokens.specs.Symbols.{symbolCount}
 use Rattle.tokens.proofs.Below.{below, below-at}
 use Rattle.grammar.specs.Tree.{Tree, unary, binary, logic, choice, since}
-use Rattle.grammar.specs.Symbols.{groups, groupNumber, loosest, minus, tilde, bang, prefixSymbol, is, none, infixTree, Arguments, one, more, Callee}
+use Rattle.grammar.specs.Symbols.{groupNumber, loosest, minus, tilde, bang, prefixSymbol, is, none, infixTree, Arguments, one, more, Callee}
 use Rattle.grammar.specs.Symbols.{of-one, of-two, of-choice, of-since, plain, formOf, moreArguments, callTree}
+use Rattle.tree_code.proofs.Nodes.{no-group}
 use Rattle.format_laws.specs.Formatted.{lexeme, Notation, symbol, function, unaryNotation, binaryNotation, logicSymbol, notationGroup, top}
 use Rattle.format_laws.specs.Formatted.{prefixText, infixText, callText, unaryText, binaryText, formatted, withoutPlaces, namedBefore}
 use Rattle.format_laws.specs.Formatted.{spellings}
@@ -40,10 +41,6 @@ of-symbol : (n : ℕ) (m : Notation) → is-symbol n m ≡ true → m ≡ symbol
 unfolding is-symbol
 of-symbol n (symbol m) e = ap symbol (eqb-true m n e)
 of-symbol n function e = absurd (false≢true e)
-
-pub no-group : (n : ℕ) → symbolCount ≤ n → groupNumber n ≡ 0
-unfolding groupNumber
-no-group n h = List·getD-eq-default groups 0 h
 
 -- the symbol n, or the one of logic
 pub data Infix (n : ℕ) (p : ℕ) (t u : Tree) : Tree → Type 0 where

@@ -19,7 +19,7 @@ use Rattle.grammar.specs.Symbols.{groupNumber, minus, tilde, bang, openParen, c
 use Rattle.grammar.specs.Grammar.{tok}
 use Rattle.operators.specs.declared.UnaryOp.{UnaryOp}
 use Rattle.operators.specs.declared.UnaryOp.the-variants as U
-use Rattle.format_laws.proofs.Nodes.{no-group}
+use Rattle.tree_code.proofs.Nodes.{no-group}
 use Rattle.format_theorems.proofs.Lexemes.{continues, isNoSymbol, Spells}
 use Rattle.format_theorems.proofs.Lexed.{kept, Lexed, blank, sign, piece}
 

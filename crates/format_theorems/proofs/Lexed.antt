@@ -25,6 +25,7 @@ use Rattle.tokens.proofs.Tests.{no, both, by-test}
 use Rattle.tokens.proofs.Runs.{all-append}
 use Rattle.tokens.proofs.Below.{below, below-at}
 use Rattle.memory.specs.Names.{isDigit, allDigits}
+use Rattle.tokens.proofs.numerals.Values.{as-all}
 use Rattle.grammar.specs.Symbols.{openParen, closeParen, openIndex, closeIndex, Form, plain, clock, ranged, matched, formOf}
 use Rattle.grammar.specs.Grammar.{tok}
 use Rattle.grammar.specs.Parse.{mostOpen}
@@ -165,12 +166,8 @@ module _ (P : ℕ → Bool) (a : P (byte "(") ≡ false) (b : P (byte "[") ≡ f
   not-brackets [] e = refl
   not-brackets (x ∷ xs) e = let h = both (P x) (all P xs) e in rw (not-bracket x (h .0)) (not-brackets xs (h .1))
 
-digits-all : (ds : List ℕ) → allDigits ds ≡ true → all isDigit ds ≡ true
-digits-all [] e = refl
-digits-all (c ∷ cs) e = let h = both (isDigit c) (allDigits cs) e in rw (h .0) (digits-all cs (h .1))
-
 digits-plain : (ds : List ℕ) → decimalDigits ds ≡ true → all isNoBracket ds ≡ true
-digits-plain ds e = not-brackets isDigit refl refl refl refl ds (digits-all ds (both (nonEmpty ds) (allDigits ds) e .1))
+digits-plain ds e = not-brackets isDigit refl refl refl refl ds (as-all ds (both (nonEmpty ds) (allDigits ds) e .1))
 
 mantissa-plain : {m : List ℕ} → Mantissa m → all isNoBracket m ≡ true
 mantissa-plain (whole ds e) = digits-plain ds e

@@ -1,15 +1,14 @@
 -- Words and numerals: a spelling that stands in one text stands before any bytes that do not go on with it, and `lexeme` finds it.
 use mathlib.Core.Path.{_≡_, refl, sym, ap, subst, _∙_}
-use mathlib.Core.Logic.{_⊎_, inl, inr}
-use mathlib.Core.Bool.{Bool, true, false, _||_, and-false}
+use mathlib.Core.Bool.{Bool, true, false, _||_}
 use mathlib.Core.List.{List, _∷_, _++_}
-use Prim.Native.Nat.{ℕ, _+_, _-_, _≤_, _<_}
+use Prim.Native.Nat.{ℕ, _+_, _-_}
 use native.Mathlib.Omega.{arith}
 use native.Mathlib.Nat.{add-zero}
 use lib.Dec.{eqb}
 use lib.ListN.{length, take, drop}
 use lib.Seq.{take-append-seam}
-use borrow.Author.Tests.{lt-leb, ne-eqb}
+use Rattle.values.proofs.convert.Limits.{or-false as split-or}
 use Rattle.words.specs.Ascii.{byte}
 use Rattle.memory.specs.Names.{isDigit}
 use Rattle.memory.proofs.names.Decimals.{digit-range}
@@ -17,16 +16,17 @@ use Rattle.tokens.specs.declared.Token.{Token}
 use Rattle.tokens.specs.declared.Token.the-variants.{Number, Cell, Letter, Name, Symbol}
 use Rattle.tokens.specs.declared.Scanned.{Scanned}
 use Rattle.tokens.specs.declared.Scanned.the-variants.{Good}
-use Rattle.tokens.specs.Bytes.{byteBetween, isLetter, isSpace, isWord, isRun, runLen, all}
+use Rattle.tokens.specs.Bytes.{isLetter, isSpace, isWord, isRun, runLen, all}
 use Rattle.tokens.specs.Numerals.{isSign, numeralOf}
 use Rattle.tokens.specs.Words.{wordToken}
-use Rattle.tokens.specs.Scan.{Found, runLexeme, numeralLexeme, lexemeOf, blanks, lexemeAt}
+use Rattle.tokens.specs.Scan.{Found, lexemeOf, blanks, lexemeAt}
 use Rattle.tokens.specs.Scan as Scan
 use Rattle.tokens.specs.Theorems.{Starts, first, Stops, nothing, other, LongestRun, Mantissa, NumeralRun, plain, past-sign, LongestLexeme, word}
 use Rattle.tokens.specs.Theorems.{numeral, symbol, stray}
-use Rattle.tokens.proofs.Tests.{no, either, within}
+use Rattle.tokens.proofs.Tests.{no}
 use Rattle.tokens.proofs.Runs.{run-length}
 use Rattle.tokens.proofs.numerals.Runs.{run-starts, run-len}
+use Rattle.tokens.proofs.Theorems.{letter-range, no-space, letter-lexeme, digit-lexeme, longer-start}
 use Rattle.format_laws.specs.Formatted.{lexemeBytes, lexeme}
 use Rattle.format_theorems.proofs.Words.{Spelling, word-spelling, numeral-spelling}
 
@@ -59,11 +59,6 @@ spells (numeral h) e n = of-run h e
 spells {x} (symbol m q h) e n = let s : x ≡ Symbol m = cc in no (ap isNoSymbol (sym s) ∙ n)
 spells (stray c q s l d k) e n = let z : _≡_ {A = ℕ} 0 1 = cc in absurd (omega arith)
 
--- what stops both stops each
-split-or : (a b : Bool) → (a || b) ≡ false → (a ≡ false) × (b ≡ false)
-split-or true b e = no (sym e)
-split-or false b e = (refl, e)
-
 run-stops : {r : List ℕ} → Stops continues r → Stops isRun r
 run-stops nothing = nothing
 run-stops (other {c = c} e) = other (split-or (isRun c) (isSign c) e .0)
@@ -90,23 +85,6 @@ spelling (as-run {w = w} s a e) = subst (Spelling w) e (numeral-spelling w)
 spelling (as-signed m c v h s a e) = subst (Spelling (m ++ (byte "E" ∷ c ∷ v))) e (numeral-spelling (m ++ (byte "E" ∷ c ∷ v)))
 
 -- ---- `lexeme` finds them
-letter-range : (c : ℕ) → isLetter c ≡ true → 57 < c
-letter-range c e = go (either (byteBetween 65 90 c) (byteBetween 97 122 c) e)
-  where
-    go : (byteBetween 65 90 c ≡ true) ⊎ (byteBetween 97 122 c ≡ true) → 57 < c
-    go (inl u) = omega (arith, within 65 90 c u)
-    go (inr l) = omega (arith, within 97 122 c l)
-
-no-digit : (c : ℕ) → isLetter c ≡ true → isDigit c ≡ false
-no-digit c e = rw (lt-leb c 57 (letter-range c e), and-false)
-
-no-space : (c : ℕ) → 33 ≤ c → isSpace c ≡ false
-no-space c h = rw (ne-eqb c 32 (λ e. omega arith), ne-eqb c 9 (λ e. omega arith))
-
-letter-lexeme : (c : ℕ) (cs : List ℕ) (p : ℕ) → isLetter c ≡ true → lexemeOf (c ∷ cs) p ≡ runLexeme isWord wordToken (c ∷ cs) p
-unfolding lexemeOf
-letter-lexeme c cs p l = rw (no-digit c l, l)
-
 word-lexeme : (w r : List ℕ) (p : ℕ) → LongestRun isLetter isWord w r → lexemeOf (w ++ r) p ≡ Scan.lexeme p (length w) (wordToken w)
 word-lexeme w r p h = go w (h .starts) (h .every)
   where
@@ -115,13 +93,6 @@ word-lexeme w r p h = go w (h .starts) (h .every)
         letter-lexeme c (cs ++ r) p l
         ∙ ap (λ (n : ℕ). Scan.lexeme p n (wordToken (take n ((c ∷ cs) ++ r)))) (run-length isWord (c ∷ cs) r a (h .stops))
         ∙ ap (λ (v : List ℕ). Scan.lexeme p (length (c ∷ cs)) (wordToken v)) (take-append-seam (c ∷ cs) r)
-
-digit-lexeme : (s : List ℕ) (p : ℕ) → Starts isDigit s → lexemeOf s p ≡ numeralLexeme s p
-unfolding lexemeOf
-digit-lexeme (c ∷ cs) p (first d) = rw d
-
-longer-start : (w r : List ℕ) → Starts isDigit w → Starts isDigit (w ++ r)
-longer-start (c ∷ cs) r (first d) = first d
 
 numeral-lexeme : (w r : List ℕ) (p : ℕ) → NumeralRun w r → lexemeOf (w ++ r) p ≡ Scan.lexeme p (length w) (numeralOf w)
 numeral-lexeme w r p h =

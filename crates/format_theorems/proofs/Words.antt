@@ -1,19 +1,17 @@
 -- A word has one spelling: the name of its function, the letter of its bank, the name of its cell.
 use mathlib.Core.Path.{_≡_, refl, sym, ap}
-use mathlib.Core.Bool.{Bool, true, false, _&&_}
+use mathlib.Core.Bool.{Bool, true, false}
 use mathlib.Core.List.{List, [], _∷_}
-use Prim.Native.Nat.{ℕ, _≤_, _<_}
-use native.Mathlib.Omega.{arith}
-use lib.Dec.{eqb, ltb}
-use borrow.Author.Tests.{eqb-true, ltb-true, lt-ltb}
+use Prim.Native.Nat.{ℕ}
+use lib.Dec.{eqb}
+use borrow.Author.Tests.{eqb-true}
 use Rattle.words.specs.Ascii.{byte}
 use Rattle.values.specs.declared.Value.{Value}
 use Rattle.memory.specs.declared.Bank.{Bank}
-use Rattle.memory.specs.declared.Bank.the-variants.{X, C, «V», N, D, R}
 use Rattle.memory.specs.Layout.{layoutOf}
 use Rattle.memory.specs.declared.names.Letter.{Letter as BankLetter}
 use Rattle.memory.specs.declared.names.Letter.the-variants as L
-use Rattle.memory.specs.Names.{letterBank, noLeadingZero, allDigits, decimalValue, numberBelow, cellAfterLetter, namedRule}
+use Rattle.memory.specs.Names.{letterBank, decimalValue, numberBelow, cellAfterLetter, namedRule}
 use Rattle.tokens.specs.declared.Function.{Function}
 use Rattle.tokens.specs.declared.Token.the-variants.{Number, Cell, Letter, Name}
 use Rattle.tokens.specs.declared.Scanned.{Scanned}
@@ -21,23 +19,12 @@ use Rattle.tokens.specs.declared.Scanned.the-variants.{Good, Bad}
 use Rattle.tokens.specs.Symbols.{equalBytes}
 use Rattle.tokens.specs.Numerals.{numeralOf}
 use Rattle.tokens.specs.Words.{nameOf, letterWord, cellWord, otherWord, functionNamed, functions, wordToken}
-use Rattle.tokens.proofs.Tests.{no, both, choose}
+use Rattle.tokens.proofs.Tests.{choose}
 use Rattle.tokens.proofs.numerals.Values.{NumberOrRefused, number-or-refused}
 use Rattle.tokens.proofs.numerals.Values as Values
-use Rattle.lines.specs.declared.forms.Form.the-variants.{Pattern}
-use Rattle.lines.specs.Forms.{cellPattern}
+use Rattle.tokens.proofs.Same.{equal}
 use Rattle.lines.specs.Printing.{decimalText, letterByte, cellName}
-use Rattle.lines.proofs.Laws.{form-laws}
-
-equal-bytes : (s t : List ℕ) → equalBytes s t ≡ true → s ≡ t
-equal-bytes [] [] e = refl
-equal-bytes [] (d ∷ ds) e = no e
-equal-bytes (c ∷ cs) [] e = no e
-equal-bytes (c ∷ cs) (d ∷ ds) e =
-    let b = both (eqb c d) (equalBytes cs ds) e in
-    let x : c ≡ d = eqb-true c d (b .0) in
-    let y : cs ≡ ds = equal-bytes cs ds (b .1) in
-    cc
+use Rattle.lines.proofs.Laws.{number-text}
 
 -- what the bytes w are, by what they are judged as
 pub data Spelling (w : List ℕ) : Scanned → Type 0 where
@@ -64,26 +51,11 @@ letter-is c =
     (λ _. other))))))
 
 -- ---- cells: a number without a leading zero is its decimal
-small : (b : Bank) → layoutOf b .elements ≤ 65536
-small X = omega arith
-small C = omega arith
-small «V» = omega arith
-small N = omega arith
-small D = omega arith
-small R = omega arith
-
-decimal-is : (n : ℕ) (cs : List ℕ) → n ≤ 65536 → numberBelow n cs ≡ true → cs ≡ decimalText (decimalValue cs)
-decimal-is n cs h e =
-    let b = both (noLeadingZero cs && allDigits cs) (ltb (decimalValue cs) n) e in
-    let l : decimalValue cs < 65536 = omega (arith, ltb-true (decimalValue cs) n (b .1)) in
-    let reads : cellPattern «V» cs ≡ Pattern (decimalValue cs) = rw (b .0, lt-ltb (decimalValue cs) 65536 l) in
-    form-laws .only «V» cs (decimalValue cs) (λ q. let z : _≡_ {A = ℕ} 0 1 = cc in omega arith) reads
-
 cell-after : (c : ℕ) (cs : List ℕ) (l : BankLetter) → LetterIs c l → Spelling (c ∷ cs) (cellWord (cellAfterLetter cs l))
 cell-after c cs (L.Of b) (of e) = go (numberBelow (layoutOf b .elements) cs) refl
   where
     spelled : numberBelow (layoutOf b .elements) cs ≡ true → c ∷ cs ≡ cellName b (decimalValue cs)
-    spelled q = let d : cs ≡ decimalText (decimalValue cs) = decimal-is (layoutOf b .elements) cs (small b) q in cc
+    spelled q = let d : cs ≡ decimalText (decimalValue cs) = number-text (layoutOf b .elements) cs q in cc
 
     go : (x : Bool) → numberBelow (layoutOf b .elements) cs ≡ x → Spelling (c ∷ cs) (cellWord (cellAfterLetter cs (L.Of b)))
     go true q = rw q (cell (spelled q))
@@ -102,7 +74,7 @@ another (c ∷ d ∷ cs) = cell-after c (d ∷ cs) (letterBank c) (letter-is c)
 
 a-name : (fs : List Function) (w : List ℕ) (o : Scanned) → Spelling w o → Spelling w (functionNamed fs w o)
 a-name [] w o h = h
-a-name (f ∷ fs) w o h = choose (Spelling w) (equalBytes (nameOf f) w) _ _ (λ e. name (sym (equal-bytes (nameOf f) w e))) (λ _. a-name fs w o h)
+a-name (f ∷ fs) w o h = choose (Spelling w) (equalBytes (nameOf f) w) _ _ (λ e. name (sym (equal (nameOf f) w e))) (λ _. a-name fs w o h)
 
 pub word-spelling : (w : List ℕ) → Spelling w (wordToken w)
 unfolding wordToken

@@ -21,7 +21,7 @@ use Rattle.grammar.specs.Parse.{Result, ok, starved, andThen, symbolNumber, bin
 use Rattle.format_laws.specs.Formatted.{lexeme, Notation, symbol, binaryNotation, logicSymbol, notationGroup, infixText, binaryText, top, formatted}
 use Rattle.formatter.specs.private.Walk.{Says, says, SaysExpression, SaysOperand}
 use Rattle.tokens.proofs.Tests.{by-test}
-use Rattle.formatter.proofs.Inversion.{Through, through}
+use Rattle.formatter.proofs.Inversion.{Through, through, ok-tree}
 
 -- ---- the text of a binary operator
 pub record Infixed (s : List ℕ) (n p : ℕ) (t u : Tree) : Type 0 where
@@ -118,9 +118,6 @@ pub record Stopped (s : List ℕ) (t : Tree) (ts : List Tok) (x : List ℕ) (g :
   pub text : x ≡ formatted s t
   pub group : g ≡ top t
   pub left : ts ≡ r
-
-ok-tree : {t u : Tree} {r z : List Tok} → ok t r ≡ ok u z → (t ≡ u) × (r ≡ z)
-ok-tree e = (cc, cc)
 
 pub stopped : (l : ℕ) (s : List ℕ) (t : Tree) (ts : List Tok) {x : List ℕ} {g : ℕ} {r : List Tok} → headBinds l ts ≡ false → Climbs l s t ts x g r
     → Stopped s t ts x g r

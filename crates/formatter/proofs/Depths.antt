@@ -1,5 +1,5 @@
 -- Brackets open at once, byte by byte.
-use mathlib.Core.Path.{_≡_, refl, sym, ap, subst, _∙_}
+use mathlib.Core.Path.{_≡_, sym, ap, subst, _∙_}
 use mathlib.Core.Bool.{Bool, true, false, not, _||_}
 use mathlib.Core.List.{List, [], _∷_}
 use Prim.Native.Nat.{ℕ, suc, _+_, _-_, _≤_, _<_, max}
@@ -8,10 +8,10 @@ use native.Mathlib.Omega.{arith}
 use lib.Dec.{eqb, leb}
 use lib.ListN.{length, getD, drop, drop-of-length-le}
 use lib.Seq.{drop-cons}
-use borrow.Author.Tests.{leb-true, leb-false}
+use borrow.Author.Tests.{leb-true, leb-false, not-true, not-false}
 use native.Mathlib.Numerals.{add-one}
 use Rattle.words.specs.Ascii.{byte}
-use Rattle.tokens.proofs.Tests.{by-test, no}
+use Rattle.tokens.proofs.Tests.{by-test}
 use Rattle.format_laws.specs.Formatted.{openBehind, levelsFrom}
 
 abbrev Opens : ℕ → Bool
@@ -23,23 +23,15 @@ Closes c = eqb c (byte ")") || eqb c (byte "]")
 pub opened : (d c : ℕ) → Opens c ≡ true → d + 1 ≡ openBehind d c
 opened d c e = rw e (add-one d)
 
-untrue : (r : Bool) → not r ≡ true → r ≡ false
-untrue true e = no e
-untrue false e = refl
-
-unfalse : (r : Bool) → not r ≡ false → r ≡ true
-unfalse true e = refl
-unfalse false e = no (sym e)
-
 module _ (d c : ℕ) (o : Opens c ≡ false) {r : Bool} (q : r ≡ Closes c) where
   pub passed : not r ≡ true → d ≡ openBehind d c
-  passed e = rw (o, sym q ∙ untrue r e)
+  passed e = rw (o, sym q ∙ not-true r e)
 
   pub closed-none : not r ≡ false → d ≡ 0 → 0 ≡ openBehind d c
-  closed-none e z = rw (o, sym q ∙ unfalse r e) (omega arith)
+  closed-none e z = rw (o, sym q ∙ not-false r e) (omega arith)
 
   pub closed-one : not r ≡ false → d - 1 ≡ openBehind d c
-  closed-one e = rw (o, sym q ∙ unfalse r e)
+  closed-one e = rw (o, sym q ∙ not-false r e)
 
 pub open-most : (d c : ℕ) → openBehind d c ≤ d + 1
 open-most d c =

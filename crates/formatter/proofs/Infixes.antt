@@ -2,13 +2,12 @@
 use mathlib.Core.Path.{_≡_, refl, sym, ap, subst, _∙_}
 use mathlib.Core.Bool.{Bool, true, false, _&&_, and-false}
 use mathlib.Core.List.{List, [], _∷_, _++_, append-assoc}
-use Prim.Native.Nat.{ℕ, zero, suc, _+_, _-_, _≤_, _<_}
+use Prim.Native.Nat.{ℕ, _+_, _-_, _≤_, _<_}
 use native.Mathlib.Omega.{arith}
-use lib.Dec.{eqb, leb, ltb}
-use lib.ListN.{length, getD}
-use lib.Seq.{getD-drop}
-use borrow.Author.Tests.{lt-leb, ltb-true, ltb-false}
-use Rattle.tokens.proofs.Tests.{by-test, no}
+use lib.Dec.{eqb, leb}
+use lib.ListN.{length}
+use borrow.Author.Tests.{lt-leb}
+use Rattle.tokens.proofs.Tests.{no}
 use Rattle.words.specs.Ascii.{ascii}
 use Rattle.tokens.specs.declared.Token.{Token}
 use Rattle.tokens.specs.declared.Token.the-variants.{Number, Cell, Letter, Name, Symbol}
@@ -17,9 +16,10 @@ use Rattle.tokens.specs.Scan.{Tok}
 use Rattle.token_table.specs.private.Table.{wordOperand, wordPlace, wordAt, tokensFrom}
 use Rattle.grammar.specs.Tree.{Tree}
 use Rattle.grammar.specs.Grammar.{tok}
-use Rattle.grammar.specs.Symbols.{group as tokenGroup, groups, groupNumber, infixTree}
+use Rattle.grammar.specs.Symbols.{group as tokenGroup, groupNumber, infixTree}
 use Rattle.grammar.specs.Parse.{binds}
 use Rattle.draft.specs.private.Words.{groupIn}
+use Rattle.draft.proofs.Marks.{few-groups}
 use Rattle.format_laws.specs.Formatted.{lexeme, parenthesized, isInfix, isOtherInfix, infixText, top, formatted}
 use Rattle.format_writer.specs.private.Scratch.{Holds, Counted, StartsBehind}
 use Rattle.format_writer.specs.private.Spelling.{StandsAt}
@@ -67,23 +67,6 @@ climb-starts {l} {s} {table} {at} {buf} {out} {n} {j} {e} {h} p f =
         record { tree = m .first; onward = subst (λ (ts : List Tok). Climbs l s (m .first) ts x g r) (sym (v .next)) (m .onward); top = v .top; text = v .text }
 
 -- ---- no operator comes next
-few-groups : (n : ℕ) → (groupNumber n ≡ 0 → ⊥) → n < 20
-unfolding groupNumber
-few-groups n z = by-test (ltb n 20) (λ e. ltb-true n 20 e) (λ e. absurd (z (late (ltb-false n 20 e))))
-  where
-    zeros : (k : ℕ) → _≡_ {A = ℕ} (getD (0 ∷ 0 ∷ 0 ∷ 0 ∷ 0 ∷ 0 ∷ 0 ∷ []) k 0) 0
-    zeros zero = refl
-    zeros (suc zero) = refl
-    zeros (suc (suc zero)) = refl
-    zeros (suc (suc (suc zero))) = refl
-    zeros (suc (suc (suc (suc zero)))) = refl
-    zeros (suc (suc (suc (suc (suc zero))))) = refl
-    zeros (suc (suc (suc (suc (suc (suc zero)))))) = refl
-    zeros (suc (suc (suc (suc (suc (suc (suc k))))))) = refl
-
-    late : 20 ≤ n → getD groups n 0 ≡ 0
-    late l = let e : 20 + (n - 20) ≡ n = omega arith in ap (λ (i : ℕ). getD groups i 0) (sym e) ∙ sym (getD-drop 20 groups (n - 20) 0) ∙ zeros (n - 20)
-
 no-group : (l : ℕ) (ts : List Tok) → headGroup ts ≡ 0 → headBinds l ts ≡ false
 no-group l [] e = refl
 no-group l (x ∷ xs) e = rw e

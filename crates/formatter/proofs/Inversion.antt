@@ -72,7 +72,7 @@ pub record Ranged (ts : List Tok) (k : Bank → ℕ → ℕ → ℤ → Tree) (t
   pub is : ts ≡ tok (Cell bank element) o ∷ tok (Symbol comma) q ∷ tok (Number (Int count)) p ∷ tok (Symbol closeParen) c ∷ r
   pub tree : t ≡ k bank element p count
 
-ok-tree : {t u : Tree} {r z : List Tok} → ok t r ≡ ok u z → (t ≡ u) × (r ≡ z)
+pub ok-tree : {t u : Tree} {r z : List Tok} → ok t r ≡ ok u z → (t ≡ u) × (r ≡ z)
 ok-tree e = (cc, cc)
 
 counted : (b : Bank) (i o q : ℕ) (ts : List Tok) (k : Bank → ℕ → ℕ → ℤ → Tree) {t : Tree} {r : List Tok}

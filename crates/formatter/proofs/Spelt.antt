@@ -1,13 +1,13 @@
 -- How a token that stands in a text is spelt: symbols, names, cells and bank letters have one spelling.
 use mathlib.Core.Path.{_≡_, refl, sym, ap, subst, _∙_}
-use mathlib.Core.Bool.{Bool, true, false, _&&_}
+use mathlib.Core.Bool.{Bool, false, _&&_}
 use mathlib.Core.List.{List, [], _∷_, _++_}
-use Prim.Native.Nat.{ℕ, suc, _+_, _-_, _≤_, _<_}
+use Prim.Native.Nat.{ℕ, suc, _+_, _-_, _<_}
 use native.Mathlib.Omega.{arith}
-use lib.Dec.{eqb, leb, ltb, lit<}
+use lib.Dec.{eqb, leb, lit<}
 use lib.ListN.{length, getD, take, drop}
 use lib.Seq.{take-append-seam}
-use borrow.Author.Tests.{eqb-true, ltb-true, lt-ltb}
+use borrow.Author.Tests.{eqb-true}
 use Rattle.words.specs.Ascii.{byte}
 use Rattle.values.specs.declared.Value.{Value}
 use Rattle.memory.specs.declared.Bank.{Bank}
@@ -15,7 +15,7 @@ use Rattle.memory.specs.declared.Bank.the-variants.{X, C, «V», N, D, R}
 use Rattle.memory.specs.declared.names.Letter.{Letter as BankLetter}
 use Rattle.memory.specs.declared.names.Letter.the-variants as L
 use Rattle.memory.specs.Layout.{layoutOf}
-use Rattle.memory.specs.Names.{isDigit, noLeadingZero, allDigits, decimalValue, numberBelow, cellAfterLetter, letterBank, namedRule}
+use Rattle.memory.specs.Names.{isDigit, decimalValue, numberBelow, cellAfterLetter, letterBank, namedRule}
 use Rattle.tokens.specs.declared.Function.{Function}
 use Rattle.tokens.specs.declared.Token.{Token}
 use Rattle.tokens.specs.declared.Token.the-variants.{Number, Cell, Letter, Name, Symbol}
@@ -26,14 +26,17 @@ use Rattle.tokens.specs.Symbols.{equalBytes, symbolCount, symbolBytes, longest}
 use Rattle.tokens.specs.Numerals.{nonEmpty, decimalDigits, isHexRun, mantissaDigits, behindMantissa, isExponent, exponentSize, numeralLen, numeralOf}
 use Rattle.tokens.specs.Words.{nameOf, functionNamed, functions, letterWord, cellWord, otherWord, wordToken}
 use Rattle.tokens.specs.Scan.{Lexeme, Found, lexeme as judgedAs, lexemeAt}
-use Rattle.tokens.proofs.Tests.{by-test, choose, both, no}
+use Rattle.tokens.specs.Theorems.{first as starts}
+use Rattle.tokens.proofs.Tests.{by-test, choose}
 use Rattle.tokens.proofs.symbols.Longest.{front-matches, front as longest-front}
+use Rattle.tokens.proofs.Theorems.{digit-lexeme, letter-lexeme}
+use Rattle.tokens.proofs.Same.{equal}
 use Rattle.token_table.proofs.Laws.{tokenOperand}
-use Rattle.lines.specs.Printing.{decimalText, letterByte, cellName}
-use Rattle.lines.proofs.Laws.{form-laws}
+use Rattle.lines.specs.Printing.{letterByte, cellName}
+use Rattle.lines.proofs.Laws.{number-text}
 use Rattle.format_laws.specs.Formatted.{lexeme}
 use Rattle.format_writer.specs.private.Spelling.{Stands, StandsAt}
-use Rattle.format_writer.proofs.spelling.Ends.{judged-end, digit-lexeme, letter-lexeme, lexed, front, split, inside, symbol-found, symbol-is, symbol-known}
+use Rattle.format_writer.proofs.spelling.Ends.{judged-end, lexed, front, split, inside, symbol-found, symbol-is, symbol-known}
 
 -- ---- a run that starts with a digit is a number, or none
 data Numeralish : Scanned → Type 0 where
@@ -56,14 +59,6 @@ data Wordish (cs : List ℕ) : Scanned → Type 0 where
   cell : (b : Bank) (i : ℕ) → cs ≡ cellName b i → Wordish cs (Good (Cell b i))
   bad : (a : ℕ) → Wordish cs (Bad a)
 
-equal : (s t : List ℕ) → equalBytes s t ≡ true → s ≡ t
-equal [] [] e = refl
-equal [] (d ∷ ds) e = no e
-equal (c ∷ cs) [] e = no e
-equal (c ∷ cs) (d ∷ ds) e =
-    let h = both (eqb c d) (equalBytes cs ds) e in
-    ap (λ (x : ℕ). x ∷ cs) (eqb-true c d (h .0)) ∙ ap (λ (x : List ℕ). d ∷ x) (equal cs ds (h .1))
-
 data Lettered (c : ℕ) : BankLetter → Type 0 where
   of : (b : Bank) → c ≡ letterByte b → Lettered c (L.Of b)
   other : Lettered c L.Other
@@ -78,21 +73,6 @@ lettered c =
     (λ _. choose (Lettered c) (eqb c (byte "D")) _ _ (λ e. of D (eqb-true c _ e))
     (λ _. choose (Lettered c) (eqb c (byte "R")) _ _ (λ e. of R (eqb-true c _ e)) (λ _. other))))))
 
-few : (b : Bank) → layoutOf b .elements ≤ 65536
-few X = omega arith
-few C = omega arith
-few «V» = omega arith
-few N = omega arith
-few D = omega arith
-few R = omega arith
-
-plain-number : (n : ℕ) (cs : List ℕ) → n ≤ 65536 → numberBelow n cs ≡ true → cs ≡ decimalText (decimalValue cs)
-plain-number n cs h e =
-    let a = both (noLeadingZero cs && allDigits cs) (ltb (decimalValue cs) n) e in
-    let l = ltb-true (decimalValue cs) n (a .1) in
-    let k : numberBelow 65536 cs ≡ true = rw (a .0, lt-ltb (decimalValue cs) 65536 (omega arith)) in
-    form-laws .only «V» cs (decimalValue cs) (λ q. let z : _≡_ {A = ℕ} 0 1 = cc in omega arith) (rw k)
-
 a-letter : (c : ℕ) (l : BankLetter) → Lettered c l → Wordish (c ∷ []) (letterWord l)
 a-letter c l (of b e) = letter b (ap (λ (x : ℕ). x ∷ []) e)
 a-letter c l other = bad 6
@@ -100,7 +80,7 @@ a-letter c l other = bad 6
 a-cell : (c : ℕ) (cs : List ℕ) (l : BankLetter) → Lettered c l → Wordish (c ∷ cs) (cellWord (cellAfterLetter cs l))
 a-cell c cs l (of b e) =
     by-test (numberBelow (layoutOf b .elements) cs)
-    (λ k. rw k (cell b (decimalValue cs) (ap (λ (x : ℕ). x ∷ cs) e ∙ ap (λ (x : List ℕ). letterByte b ∷ x) (plain-number (layoutOf b .elements) cs (few b) k))))
+    (λ k. rw k (cell b (decimalValue cs) (ap (λ (x : ℕ). x ∷ cs) e ∙ ap (λ (x : List ℕ). letterByte b ∷ x) (number-text (layoutOf b .elements) cs k))))
     (λ k. rw k (bad 6))
 a-cell c cs l other = bad 6
 
@@ -150,11 +130,11 @@ module _ (s : List ℕ) (t : Token) (p e : ℕ) (h : Stands s t p e) where
   unfolding stands-at
   spelling =
       by-test (isDigit (getD s p 0))
-      (λ d. let m = sym (digit-lexeme (getD s p 0) (drop (suc p) s) p d) ∙ lexed k in
+      (λ d. let m = sym (digit-lexeme (front k) p (starts d)) ∙ lexed k in
       let w = take (numeralLen (front k)) (front k) in
       numeral (subst Numeralish (judged-token p (numeralLen (front k)) (numeralOf w) m) (numeralish w)))
       (λ d. by-test (isLetter (getD s p 0))
-      (λ l. let m = sym (letter-lexeme (getD s p 0) (drop (suc p) s) p d l) ∙ lexed k in
+      (λ l. let m = sym (letter-lexeme (getD s p 0) (drop (suc p) s) p l) ∙ lexed k in
       let n = runLen isWord (front k) in
       let w = take n (front k) in
       let j = judged-token p n (wordToken w) m in

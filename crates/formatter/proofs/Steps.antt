@@ -14,7 +14,7 @@ use Rattle.tokens.specs.Symbols.{symbolBytes}
 use Rattle.tokens.specs.Scan.{Tok}
 use Rattle.token_table.specs.private.Table.{wordClass, wordOperand, wordPlace, wordAt, tokensFrom, TokenWords}
 use Rattle.token_table.proofs.Laws.{tokenClass, tokenOperand}
-use Rattle.grammar.specs.Tree.{Tree, unary}
+use Rattle.grammar.specs.Tree.{unary}
 use Rattle.grammar.specs.Grammar.{tok}
 use Rattle.grammar.specs.Symbols.{minus, tilde, bang, prefixSymbol, prefixOf, is, none, isSymbol}
 use Rattle.grammar.specs.Parse.{Result, ok, bad, starved, andThen, operand, primary}
@@ -24,7 +24,7 @@ use Rattle.format_writer.specs.private.Spelling.{Stands, StandsAt}
 use Rattle.formatter.specs.private.Walk.{Typed, none as untyped, some, Position, Says, says, SaysOperand, SaysPrimary, primaryOf, Some}
 use Rattle.formatter.specs.private.Walk.{SignsText, none as no-signs, more}
 use Rattle.formatter.proofs.Words.{Word, word-of, behind, class-is, operand-is, place-is, mark-head, is-symbol}
-use Rattle.formatter.proofs.Inversion.{through}
+use Rattle.formatter.proofs.Inversion.{through, ok-tree}
 use Rattle.formatter.proofs.Spelt.{stands-at, symbol-spelt}
 
 pub record Here (s table : List ℕ) (at : ℕ) (x : Tok) (xs : List Tok) : Type 0 where
@@ -60,9 +60,6 @@ here s table at {x} {xs} p q = go (subst (Typed s) q (p .typed))
         }
 
 -- ---- unary operators
-ok-tree : {t u : Tree} {r z : List Tok} → ok t r ≡ ok u z → (t ≡ u) × (r ≡ z)
-ok-tree e = (cc, cc)
-
 data Sign (u : Token) : Type 0 where
   sign : (n : ℕ) (o : UnaryOp) → u ≡ Symbol n → prefixSymbol n ≡ is o → unaryNotation o ≡ symbol n → Sign u
 

@@ -2,10 +2,10 @@
 use mathlib.Core.Path.{_≡_, refl, sym, ap, subst, _∙_}
 use mathlib.Core.Bool.{Bool, true, false, _&&_, cond}
 use mathlib.Core.List.{List, [], _∷_, _++_}
-use Prim.Native.Nat.{ℕ, zero, suc, _+_, _-_, _≤_, _<_}
+use Prim.Native.Nat.{ℕ, _+_, _-_, _≤_, _<_}
 use native.Mathlib.Omega.{arith}
 use lib.Dec.{leb, ltb}
-use lib.ListN.{length, getD, take, drop, replicate}
+use lib.ListN.{length, take, drop}
 use lib.Seq.{sets, drop-drop, length-take-le}
 use borrow.Author.Tests.{leb-true, lt-ltb, le-ltb}
 use Rattle.tokens.specs.declared.Token.{Token}
@@ -16,13 +16,14 @@ use Rattle.tokens.proofs.Laws.{found, rest, at-found, at-wrong, at-end}
 use Rattle.tokens.proofs.Runs.{run-stops}
 use Rattle.tokens.proofs.Tests.{both}
 use Rattle.token_table.specs.declared.Filled.the-variants as Filled
-use Rattle.token_table.specs.private.Table.{listed, tokensFrom, Fills, blank, TokenWords}
+use Rattle.token_table.specs.private.Table.{listed, tokensFrom, Fills, TokenWords}
 use Rattle.token_table.proofs.Laws.{filled-good, filled-wrong}
 use Rattle.grammar.specs.Tree.{Tree, Diagnostic, clear, at, diagnosticOf}
 use Rattle.grammar.specs.Grammar.{tok}
 use Rattle.grammar.specs.Symbols.{loosest}
 use Rattle.grammar.specs.Parse.{Result, ok, bad, deep, starved, mostOpen, fuel, expression, parseFrom}
 use Rattle.text.specs.Judge.{Judgement, accepted, refused, judgeTree, judgeParse, judgeScan, judgeFrom, judge}
+use Rattle.profile_text.proofs.Judging.{same-tokens}
 use Rattle.compiler.specs.declared.Coded.{Coded}
 use Rattle.compiler.specs.declared.Coded.the-variants as Coded
 use Rattle.compiler.specs.Compile.{codedAnswer}
@@ -118,25 +119,14 @@ module _ (s table : List ℕ) (f : Fills (scan s) table Filled.Good) where
   unfolding parseFrom
   whole-says {t} e =
       let h = judged s e .1 in
-      let same : h .toks ≡ listed table = by (sym (h .is) ∙ filled-good f) in
+      let same : h .toks ≡ listed table = same-tokens (sym (h .is) ∙ filled-good f) in
       says (fuel (h .toks)) (mostOpen - 0) (ap (expression (fuel (h .toks)) (mostOpen - 0) loosest) (sym same) ∙ h .parses)
-    where
-      by : {v w : List Tok} → tokens v ≡ tokens w → v ≡ w
-      by q = cc
 
   pub whole-some : Accepted s → Some (SaysExpression loosest s (tokensFrom table 0))
   whole-some a = record { text = formatted s (a .tree); group = top (a .tree); left = []; is = whole-says (a .is) }
 
 pub no-wrong : (s table : List ℕ) {a p : ℕ} → Accepted s → Fills (scan s) table (Filled.Wrong a p) → ⊥
 no-wrong s table k f = let h = judged s (k .is) .1 in let q = sym (h .is) ∙ filled-wrong f in let z : _≡_ {A = ℕ} 0 1 = cc in omega arith
-
-pub no-tokens : (n : ℕ) → TokenWords (replicate n 0)
-no-tokens n i = rw (zeros n i) blank
-  where
-    zeros : (n i : ℕ) → _≡_ {A = ℕ} (getD (replicate n 0) i 0) 0
-    zeros zero i = refl
-    zeros (suc n) zero = refl
-    zeros (suc n) (suc i) = zeros n i
 
 pub from-nothing : (buf : List ℕ) → Holds [] buf 0
 from-nothing buf = kept (omega arith) refl

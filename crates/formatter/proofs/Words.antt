@@ -1,23 +1,22 @@
 -- The word of a token that is listed: what the code asks of it.
 use mathlib.Core.Path.{_≡_, refl, sym, ap, subst, _∙_}
-use mathlib.Core.Bool.{Bool, true, false, cond}
+use mathlib.Core.Bool.{Bool, true, false}
 use mathlib.Core.List.{List, [], _∷_}
-use Prim.Native.Nat.{ℕ, zero, suc, _+_, _*_, _%_, _<_}
+use Prim.Native.Nat.{ℕ, zero, suc, _+_, _*_, _<_}
 use native.Mathlib.Omega.{arith}
-use lib.Dec.{eqb, lit<}
 use lib.ListN.{length}
-use borrow.Author.Tests.{eqb-true, eqb-false, eq-eqb, ne-eqb}
-use Rattle.tokens.proofs.Tests.{by-test, no}
+use borrow.Author.Tests.{eqb-true, ne-eqb}
+use Rattle.tokens.proofs.Tests.{no}
 use native.Mathlib.Numerals.{add-one}
 use Rattle.tokens.specs.declared.Token.{Token}
 use Rattle.tokens.specs.declared.Token.the-variants.{Number, Cell, Letter, Name, Symbol}
 use Rattle.tokens.specs.Scan.{Tok}
-use Rattle.token_table.specs.private.Table.{Entry, Is, End, functionNumber, packToken, wordClass, wordOperand, wordPlace, entryOf, entryAt, wordAt}
+use Rattle.token_table.specs.private.Table.{Entry, Is, End, packToken, wordClass, wordOperand, wordPlace, entryOf, entryAt, wordAt}
 use Rattle.token_table.specs.private.Table.{tokensFrom, Sound, TokenWord, blank, token, TokenWords}
 use Rattle.token_table.proofs.Laws.{tokenClass, tokenOperand, class-packed, operand-packed, place-packed, unpacked, blank-end, from-is, from-head, from-none}
-use Rattle.memory.specs.Numbers.{bankNumber}
-use Rattle.grammar.specs.Symbols.{group, groupNumber, isSymbol}
+use Rattle.grammar.specs.Symbols.{group, isSymbol}
 use Rattle.draft.specs.private.Words.{isMark, groupIn}
+use Rattle.draft.proofs.Marks.{low-half, mark-sound, group-sound}
 
 pub record Word (table : List ℕ) (at : ℕ) (x : Tok) : Type 0 where
   pub sound : Sound (x .token)
@@ -75,32 +74,6 @@ headIs n (x ∷ xs) = isSymbol n (x .token)
 abbrev pub headGroup : List Tok → ℕ
 headGroup [] = 0
 headGroup (x ∷ xs) = group (x .token)
-
-low-half : (w : ℕ) → w % 65536 ≡ wordClass w + 256 * wordOperand w
-low-half w = omega arith
-
-same-mark : (m n : ℕ) → eqb (6 + 256 * m) (6 + 256 * n) ≡ eqb m n
-same-mark m n = by-test (eqb m n) (λ e. eq-eqb _ _ (ap (λ (i : ℕ). 6 + 256 * i) (eqb-true m n e)) ∙ sym e)
-    (λ e. ne-eqb (6 + 256 * m) (6 + 256 * n) (λ (q : 6 + 256 * m ≡ 6 + 256 * n). eqb-false m n e (omega arith)) ∙ sym e)
-
-other-mark : (c x n : ℕ) → c < 256 → (c ≡ 6 → ⊥) → eqb (c + 256 * x) (6 + 256 * n) ≡ false
-other-mark c x n h k = ne-eqb (c + 256 * x) (6 + 256 * n) (λ e. k (omega arith))
-
-mark-sound : {t : Token} → Sound t → (n : ℕ) → eqb (tokenClass t + 256 * tokenOperand t) (6 + 256 * n) ≡ isSymbol n t
-mark-sound (Sound.int z h) n = other-mark 1 0 n (lit< tt) (λ e. omega arith)
-mark-sound (Sound.real x h) n = other-mark 2 0 n (lit< tt) (λ e. omega arith)
-mark-sound (Sound.cell b i h) n = other-mark 3 (bankNumber b) n (lit< tt) (λ e. omega arith)
-mark-sound (Sound.letter b) n = other-mark 4 (bankNumber b) n (lit< tt) (λ e. omega arith)
-mark-sound (Sound.name f) n = other-mark 5 (functionNumber f) n (lit< tt) (λ e. omega arith)
-mark-sound (Sound.symbol m h) n = same-mark m n
-
-group-sound : {t : Token} → Sound t → cond (eqb (tokenClass t) 6) (groupNumber (tokenOperand t)) 0 ≡ group t
-group-sound (Sound.int z h) = refl
-group-sound (Sound.real x h) = refl
-group-sound (Sound.cell b i h) = refl
-group-sound (Sound.letter b) = refl
-group-sound (Sound.name f) = refl
-group-sound (Sound.symbol m h) = refl
 
 module _ (table : List ℕ) (at : ℕ) (words : TokenWords table) where
   pub mark-head : (n : ℕ) → isMark n (wordAt table at) ≡ headIs n (tokensFrom table at)

@@ -9,7 +9,7 @@ use native.Mathlib.Omega.{arith}
 use native.Mathlib.Decide.{ℕ-discrete, decLt}
 use lib.Dec.{eqb, ltb}
 use lib.ListN.{length, set, getD, length-set}
-use borrow.Author.Tests.{eq-eqb, ltb-true, le-ltb}
+use borrow.Author.Tests.{ltb-true, le-ltb}
 use Rattle.values.specs.declared.Value.{Value}
 use Rattle.values.specs.declared.Fault.{Fault}
 use Rattle.values.specs.declared.Fault.the-variants.{OutOfRange, IndexError}
@@ -32,10 +32,11 @@ use Rattle.text.specs.Targets.{Target, toCell, toIndexed, noTarget}
 use Rattle.machine.specs.declared.Ended.{Ended}
 use Rattle.machine.specs.declared.Ended.the-variants as Ended
 use Rattle.machine.specs.Machine.{endOf}
-use Rattle.read_set.specs.Cells.{Cells, sameBank, oneCell, cellList}
+use Rattle.read_set.specs.Cells.{Cells, sameBank, cellList}
+use Rattle.read_set.proofs.Intervals.{bank-same}
 use Rattle.read_laws.specs.Formulas.{treeCells, targetCells}
 use Rattle.read_laws.specs.Theorems.{AlikeOn, Listed as InList}
-use Rattle.read_laws.proofs.Environments.{first, second}
+use Rattle.read_laws.proofs.Environments.{first, second, cell-same}
 use Rattle.read_laws.proofs.Laws.{read-theorems}
 use Rattle.read_answers.proofs.Laws.{answer-theorems}
 use Rattle.operations.specs.Operations.{Destination, cell, fault, lost, atElement, reached, destinationOf, Arrival, arrivalOf, arrivedMemory, memoryAfter}
@@ -109,12 +110,6 @@ pub data Into (f : Cells) : Effect → Type 0 where
   into-cell : (b : Bank) (i : ℕ) (v : Value) → i < layoutOf b .elements → f b i ≡ true → Into f (puts b i v)
   into-flag : (g : Fault) → Into f (flags g)
   into-none : Into f leaves
-
-bank-same : (b : Bank) → sameBank b b ≡ true
-bank-same b = eq-eqb (bankNumber b) (bankNumber b) refl
-
-cell-same : (b : Bank) (i : ℕ) → oneCell b i b i ≡ true
-cell-same b i = rw (bank-same b) (eq-eqb i i refl)
 
 bank-reached : (c : Bank) (x : Ended) (b : Bank) (i : ℕ) → reached c x ≡ cell b i → sameBank c b ≡ true
 bank-reached c (Ended.Done v) b i e = by (positionRule c v) e

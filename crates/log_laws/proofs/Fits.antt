@@ -44,6 +44,7 @@ use Rattle.lines.specs.private.Steps.{halfText}
 use Rattle.lines.proofs.printing.Digits.{length-digits}
 use Rattle.lines.proofs.printing.Widths.{at-most}
 use Rattle.lines.proofs.printing.Signs.{half-text}
+use Rattle.lines.proofs.Long.{few}
 use Rattle.program.specs.Cases.{zeros}
 use Rattle.program.specs.Reply.{answerKey, placeKey, reportText, cellLine, storedText, answerText}
 use Rattle.card_laws.specs.Lines.{ended}
@@ -91,14 +92,6 @@ value-short «V» n h = omega (arith, decimal-short 9 n (omega arith))
 value-short N n h = subst (λ (t : List ℕ). length t ≤ 11) (half-text 16 n (omega arith) h) (half-short 32768 n (omega arith) (omega arith))
 value-short D n h = subst (λ (t : List ℕ). length t ≤ 11) (half-text 32 n (omega arith) h) (half-short 2147483648 n (omega arith) (omega arith))
 value-short R n h = omega (arith, length-digits 16 8 n)
-
-few : (b : Bank) → layoutOf b .elements ≤ 1000
-few X = omega arith
-few C = omega arith
-few «V» = omega arith
-few N = omega arith
-few D = omega arith
-few R = omega arith
 
 four : (a b c d : List ℕ) → length (a ++ b ++ c ++ d) ≡ length a + length b + length c + length d
 four a b c d = omega (arith, length-append (a ++ b ++ c) d, length-append (a ++ b) c, length-append a b)

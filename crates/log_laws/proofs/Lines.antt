@@ -12,17 +12,9 @@ use Rattle.tokens.proofs.Tests.{both}
 use Rattle.lines.specs.Lines.{except}
 use Rattle.card_laws.specs.Lines.{lineEnd, ended, Lacks, field, wrong, toEnd}
 use Rattle.salvage_laws.specs.Cut.{ontoFirst, cut, joined}
-use Rattle.salvage_laws.proofs.Parts.{cut-joined}
+use Rattle.salvage_laws.proofs.Parts.{Some, some, onto-some, onto-append, cut-joined}
 use Rattle.log_laws.specs.Log.{bad, endsLine, logLines, endedEntry, logEntryOf}
 use Rattle.log_laws.specs.Theorems.{EndsInLine, nothing, behind}
-
--- ---- a list that is not empty
-data Some : List (List ℕ) → Type 0 where
-  some : (p : List ℕ) (ps : List (List ℕ)) → Some (p ∷ ps)
-
-onto-some : (c : ℕ) (ps : List (List ℕ)) → Some (ontoFirst c ps)
-onto-some c [] = some (c ∷ []) []
-onto-some c (p ∷ ps) = some (c ∷ p) ps
 
 lines-some : (c : ℕ) (cs : List ℕ) → Some (logLines (c ∷ cs))
 lines-some c cs = by (endsLine c cs)
@@ -34,9 +26,6 @@ lines-some c cs = by (endsLine c cs)
 ended-some : (l : List ℕ) → Some (logLines (ended l []))
 ended-some [] = lines-some 10 []
 ended-some (c ∷ l) = lines-some c (ended l [])
-
-onto-append : (c : ℕ) {ps : List (List ℕ)} (qs : List (List ℕ)) → Some ps → ontoFirst c (ps ++ qs) ≡ ontoFirst c ps ++ qs
-onto-append c qs (some p ps) = refl
 
 lines-behind : (l b : List ℕ) → logLines (ended l [] ++ b) ≡ logLines (ended l []) ++ logLines b
 lines-behind [] b = refl

@@ -17,12 +17,12 @@ use Rattle.memory.specs.Names.{decimalValue, namedRule}
 use Rattle.tokens.specs.Bytes.{all}
 use Rattle.tokens.specs.Symbols.{equalBytes}
 use Rattle.tokens.proofs.Tests.{both}
+use Rattle.tokens.proofs.Same.{equal as same-bytes}
 use Rattle.lines.specs.Lines.{except, keyLength, keyOf, valueOf}
 use Rattle.lines.specs.Forms.{hexForm}
 use Rattle.lines.proofs.Long.{no-number, no-name, no-value}
 use Rattle.card_laws.specs.Lines.{lineEnd, Lacks, field, wrong, toEnd}
 use Rattle.card_laws.specs.Cards.{cardNumber}
-use Rattle.card_laws.proofs.Lines.{same-bytes}
 use Rattle.salvage_laws.specs.Cut.{ontoFirst}
 use Rattle.log_laws.specs.Log.{LogEntry, bad, endsLine, logLines, tickEntry, runEntry, changeEntry, cellEntry, keyedEntry, textEntry}
 use Rattle.log_laws.specs.Log.{endedEntry, logEntryOf}

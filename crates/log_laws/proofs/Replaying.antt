@@ -16,7 +16,7 @@ use Rattle.log_laws.specs.Replay.{Room, lent, endless, lineRoom, isFull,
 use Rattle.log_laws.specs.Theorems.{thenBy, andThen}
 use Rattle.log_laws.proofs.Lines.{lines-rest}
 
-printed-twice : (o p : List ℕ) (r : Replay) → printed o (printed p r) ≡ printed (o ++ p) r
+pub printed-twice : (o p : List ℕ) (r : Replay) → printed o (printed p r) ≡ printed (o ++ p) r
 printed-twice o p r = ap (λ (t : List ℕ). record { text = t; state = r .state; at = r .at; pause = r .pause }) (sym (append-assoc o p (r .text)))
 
 pub printed-then : (o : List ℕ) (r : Replay) (f : ReplayState → ℕ → Replay) → printed o (andThen r f) ≡ andThen (printed o r) f

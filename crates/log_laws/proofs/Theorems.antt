@@ -1,11 +1,11 @@
 -- The theorems of the replay.
 use mathlib.Core.Path.{_≡_, refl, sym, ap, _∙_}
-use mathlib.Core.Bool.{true, false}
 use mathlib.Core.List.{List, [], _∷_, _++_, append-assoc}
 use Prim.Native.Nat.{ℕ, _+_, _-_, _≤_, _<_}
 use native.Mathlib.Omega.{arith}
 use lib.ListN.{length, drop, length-append}
 use lib.Seq.{drop-append-seam}
+use Rattle.words.proofs.Tests.{false-true}
 use Rattle.card_laws.specs.Lines.{lineEnd, ended, Lacks}
 use Rattle.card_laws.specs.Cards.{Card}
 use Rattle.card_laws.specs.Reading.{CardsRead}
@@ -117,11 +117,8 @@ call-theorems = record { calls = λ file log m t l k. calls replay-theorems file
 
 pub window-theorems : WindowTheorems
 window-theorems = record {
-  closes = λ cs size s at held log t w k. closes replay-theorems cs size w refl not-over k;
-  prints = λ file log t cs e k. closes replay-theorems cs windowSize (omega arith) refl not-over k ∙ ap (λ (x : CardsRead). replayedWith log x) (sym e);
+  closes = λ cs size s at held log t w k. closes replay-theorems cs size w refl false-true k;
+  prints = λ file log t cs e k. closes replay-theorems cs windowSize (omega arith) refl false-true k ∙ ap (λ (x : CardsRead). replayedWith log x) (sym e);
   fails = λ cs size s at held log t w k. fails replay-theorems cs size w refl refl k;
   long-line = long-bad;
 }
-  where
-    not-over : {log : List ℕ} → false ≡ true → log ≡ []
-    not-over e = let z : _≡_ {A = ℕ} 0 1 = cc in absurd (omega arith)

@@ -10,6 +10,7 @@ use lib.Dec.{eqb, ltb}
 use lib.ListN.{length, take, drop, length-append}
 use lib.Seq.{take-length, drop-nil, take-append-seam, drop-append-seam, drop-append-le, take-append-add}
 use borrow.Author.Tests.{eqb-true, le-ltb, lt-ltb, ltb-false, not-true}
+use Rattle.words.proofs.Tests.{false-true}
 use Rattle.card_laws.specs.Lines.{lineEnd, ended, Lacks}
 use Rattle.card_laws.specs.Cards.{Card}
 use Rattle.tokens.specs.Bytes.{all}
@@ -321,16 +322,13 @@ module _ (laws : ReplayTheorems) (cs : List Card) (size : ℕ) (wide : mostLine 
       subst (λ (x : Replay). x .pause ≡ logEnd → text s at (held ++ log) ≡ x .text ++ text (x .state) (x .at) (keptBytes at x held ++ log)) (sym (t .is))
       (on-end (t .room) (t .enough) s at held log) p
 
-  not-last : {log : List ℕ} → false ≡ true → log ≡ []
-  not-last e = let z : _≡_ {A = ℕ} 0 1 = cc in absurd (omega arith)
-
   pub closes : {e : Ending} {s : ReplayState} {at : ℕ} {held log t : List ℕ} {last : Bool} → e ≡ closed → (last ≡ true → log ≡ [])
       → Windows cs size e s at held log last t → t ≡ text s at (held ++ log)
   closes {s = s} {at = at} {held = held} {log = log} {last = last} q l (again r w p k) =
       ap (λ (x : List ℕ). r .text ++ x) (closes q l k) ∙ sym (step-full last s at held log r l w p)
   closes {s = s} {at = at} {held = held} {log = log} {last = last} q l (bad-line r w p) = sym (step-bad last s at held log r l w p)
   closes {s = s} {at = at} {held = held} q l (some-read {log = log} r bytes w p k) =
-      ap (λ (x : List ℕ). r .text ++ x) (closes q not-last k ∙ ap (text (r .state) (r .at)) (append-assoc (keptBytes at r held) bytes log))
+      ap (λ (x : List ℕ). r .text ++ x) (closes q false-true k ∙ ap (text (r .state) (r .at)) (append-assoc (keptBytes at r held) bytes log))
       ∙ sym (step-end s at held (bytes ++ log) r w p)
   closes {s = s} {at = at} {held = held} q l (none-read r w p k) =
       ap (λ (x : List ℕ). r .text ++ x) (closes q (λ e. refl) k) ∙ sym (step-end s at held [] r w p)

@@ -2,12 +2,10 @@
 use mathlib.Core.Path.{_≡_, refl, sym, ap, subst, _∙_}
 use mathlib.Core.Bool.{Bool, true, false, cond}
 use mathlib.Core.List.{List}
-use Prim.Native.Nat.{ℕ, zero, suc, _+_, _-_, _^_, _≤_, _<_}
-use native.Mathlib.Numerals.{add-one}
+use Prim.Native.Nat.{ℕ, zero, suc, _^_, _≤_, _<_}
 use native.Mathlib.Omega.{arith}
 use lib.Dec.{ltb}
-use lib.ListN.{length, take, drop, length-drop}
-use lib.Seq.{take-all}
+use lib.ListN.{length, take, drop}
 use borrow.Author.Tests.{lt-ltb, le-ltb}
 use Rattle.words.specs.Ascii.{ascii}
 use Rattle.memory.specs.declared.Bank.{Bank}
@@ -64,9 +62,6 @@ pub wide : (b : Bank) (v : List ℕ) (n : ℕ) → Pattern n ≡ cellPattern b v
 wide b v n e = to-width b n (form-laws .below b v n (sym e))
 
 -- ---- a line
-pub value-of : (l : List ℕ) (k : ℕ) → take (length l - (k + 1)) (drop (k + 1) l) ≡ drop (suc k) l
-value-of l k = take-all (length l - (k + 1)) (drop (k + 1) l) (rw length-drop (omega arith)) ∙ rw add-one
-
 module _ (l : List ℕ) {k : ℕ} (e : k ≡ keyLength l) where
   pub no-key : length l ≤ k → Bad ≡ entryIn (textEntry l)
   no-key h = rw (← e, le-ltb k (length l) h)

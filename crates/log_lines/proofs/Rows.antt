@@ -21,6 +21,7 @@ use Rattle.card_laws.proofs.Cards.{bytes-before}
 use Rattle.card_laws.proofs.Reading.{Sizes, sizes, sound}
 use Rattle.card_file.specs.Spans.{targetAt, exprAt}
 use Rattle.card_file.specs.Words.{cardWords, cardsWords, readWords}
+use Rattle.card_file.proofs.read.Turns.{words-count}
 use Rattle.log_laws.specs.Replay.{FoundCard, found, lacks, cardOf}
 use Rattle.log_lines.specs.private.Steps.{cardsIn, Book, Part, Finds, there, nowhere}
 
@@ -108,10 +109,6 @@ module _ (file words : List ℕ) where
       row (x .0) (x .1) (x .2)
       (rows b (p + 5) cs (f ∙ sym (append-assoc a (cardBytes (card n t e)) (cardsBytes cs)))
       (subst (λ (i : ℕ). Holds words (p + 5) (cardsWords i cs)) (sym (length-append a (cardBytes (card n t e)))) (x .3)))
-
-pub words-count : (at : ℕ) (cs : List Card) → length (cardsWords at cs) ≡ 5 * length cs
-words-count at [] = refl
-words-count at (card n t e ∷ cs) = omega (arith, words-count (at + length (cardBytes (card n t e))) cs)
 
 -- ---- what is left to be looked at
 pub record Seeks (file words : List ℕ) (f : FoundCard) (k p left : ℕ) : Type 0 where

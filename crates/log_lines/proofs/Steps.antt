@@ -2,7 +2,7 @@
 use mathlib.Core.Path.{_≡_, refl, sym, ap, subst, _∙_}
 use mathlib.Core.List.{List, [], _++_}
 use Prim.Native.Nat.{ℕ, suc, _+_, _-_, _≤_, _<_}
-use native.Mathlib.Nat.{add-zero, zero-add}
+use native.Mathlib.Nat.{zero-add}
 use native.Mathlib.Omega.{arith}
 use lib.Dec.{T}
 use lib.ListN.{length, take, drop, getD}
@@ -15,7 +15,7 @@ use Rattle.operations.specs.Operations.{request, requestAnswer, requestMemory}
 use Rattle.operations.proofs.Cells.{done-inside}
 use Rattle.lines.specs.Printing.{decimalText}
 use Rattle.lines.specs.private.Steps.{Puts}
-use Rattle.lines.proofs.Stores.{as-text}
+use Rattle.lines.proofs.Stores.{as-text, none-put}
 use Rattle.program.specs.Cases.{zeros}
 use Rattle.program.specs.Reply.{answerText, CellInside}
 use Rattle.program.proofs.reply.Whole.{front}
@@ -101,20 +101,17 @@ bad-only (tick t) q = let z : _≡_ {A = ℕ} 0 1 = cc in absurd (omega arith)
 bad-only (run k) q = let z : _≡_ {A = ℕ} 0 1 = cc in absurd (omega arith)
 bad-only bad q = refl
 
-nothing : (out : List ℕ) (at : ℕ) → Puts out at out at []
-nothing out at = record { bytes = refl; end = sym (add-zero at) }
-
 module _ (cs : List Card) (m : List ℕ) (t : ℕ) (out : List ℕ) (at : ℕ) where
   pub changed : {b : Bank} {i n : ℕ} {m′ : List ℕ} → m′ ≡ packed .put m b i n → (e : LogEntry) → Change b i n ≡ entryIn e
       → Takes (afterEntry cs (stateIn m t) e) m m′ out at out (On t at)
   changed {b} {i} {n} {m′} p e q =
       subst (λ (x : LogEntry). Takes (afterEntry cs (stateIn m t) x) m m′ out at out (On t at)) (change-only b i n e q)
-      (on (record { text = []; is = ap (λ (l : List ℕ). goes (stateIn l t) []) (sym p); puts = nothing out at; short = omega arith }))
+      (on (record { text = []; is = ap (λ (l : List ℕ). goes (stateIn l t) []) (sym p); puts = none-put out at; short = omega arith }))
 
   pub ticked : {u : ℕ} (e : LogEntry) → Tick u ≡ entryIn e → Takes (afterEntry cs (stateIn m t) e) m m out at out (On u at)
   ticked {u} e q =
       subst (λ (x : LogEntry). Takes (afterEntry cs (stateIn m t) x) m m out at out (On u at)) (tick-only u e q)
-      (on (record { text = []; is = refl; puts = nothing out at; short = omega arith }))
+      (on (record { text = []; is = refl; puts = none-put out at; short = omega arith }))
 
   pub played : {k : ℕ} {m′ bytes bytes′ out′ : List ℕ} {r end : ℕ} → lineRoom ≤ length bytes
       → Goes (afterRun k (stateIn m t) (cardOf k cs)) m′ t bytes 0 bytes′ r

@@ -20,6 +20,7 @@ use Rattle.card_laws.specs.Formulas.{formulaAnswer}
 use Rattle.card_laws.proofs.Formulas.{judge-laws}
 use Rattle.card_laws.proofs.Reading.{Sizes, sizes, sound}
 use Rattle.card_file.specs.Words.{cardsWords, readWords}
+use Rattle.card_file.proofs.read.Turns.{words-count}
 use Rattle.log_laws.specs.Replay.{ReplayState, Pause, full, logEnd, badLine, Replay, lent, lineRoom, refusalLines, replayFrom, stateAt, firstState}
 use Rattle.log_laws.specs.Replay.{CallWords, Called, isOver, doneAt, afterReplay, calledWith, replayCall}
 use Rattle.log_replay.specs.declared.Pause as Code
@@ -28,7 +29,6 @@ use Rattle.log_replay.specs.declared.ReplayWords.{ReplayWords}
 use Rattle.log_replay.specs.Replays.{pauseIn, Plays, callWords, CallGives}
 use Rattle.log_lines.specs.private.Steps.{cardsOf, cardsIn, stateIn, Book}
 use Rattle.log_replay.specs.private.Steps.{doneIn, stateFrom}
-use Rattle.log_lines.proofs.Rows.{words-count}
 
 -- ---- the state of a call's first line
 module _ (m : List ℕ) (at t : ℕ) where

@@ -1,14 +1,15 @@
 -- The replay line after line: what was played so far, and what the rest gives. Assumes nothing.
 use mathlib.Core.Path.{_≡_, refl, sym, ap, subst, _∙_}
 use mathlib.Core.Bool.{Bool, true, false, cond}
-use mathlib.Core.List.{List, [], _∷_, _++_, append-assoc, append-nil}
+use mathlib.Core.List.{List, [], _∷_, _++_, append-nil}
 use Prim.Native.Nat.{ℕ, suc, _+_, _-_, _≤_, _<_}
 use native.Mathlib.Nat.{add-zero}
 use native.Mathlib.Omega.{arith}
 use lib.Dec.{ltb}
 use lib.ListN.{length, take, drop, getD, length-drop, drop-of-length-le}
-use lib.Seq.{drop-cons, drop-drop, length-sets, length-take-le, take-all}
+use lib.Seq.{drop-cons, drop-drop, length-sets, length-take-le}
 use borrow.Author.Tests.{lt-ltb, le-ltb, ltb-true, ltb-false}
+use Rattle.words.proofs.Lists.{rest-of}
 use Rattle.memory.specs.Layout.{imageSize}
 use Rattle.operations.specs.declared.Answer.the-variants.{Refused}
 use Rattle.operations.specs.declared.Report.{Report}
@@ -22,6 +23,7 @@ use Rattle.card_laws.specs.Cards.{Card}
 use Rattle.log_laws.specs.Log.{LogEntry, logLines, logEntryOf}
 use Rattle.log_laws.specs.Replay.{ReplayState, AfterLine, goes, stops, afterEntry, afterLine, afterLineIn, Pause, full, logEnd, badLine, Replay, printed}
 use Rattle.log_laws.specs.Replay.{lent, lineRoom, refusalLines, onward, replayLines, replayFrom}
+use Rattle.log_laws.proofs.Replaying.{printed-twice}
 use Rattle.log_replay.specs.declared.Pause.the-variants.{Full, End, BadLine}
 use Rattle.log_replay.specs.Replays.{Plays}
 use Rattle.log_lines.specs.declared.entry.Entry.{Entry}
@@ -30,10 +32,6 @@ use Rattle.log_lines.specs.declared.Step.the-variants.{On, Stop}
 use Rattle.log_lines.specs.private.Steps.{entryIn, stateIn, Goes, Takes, TakesEntry}
 use Rattle.log_lines.proofs.Steps.{takes-on, takes-stop}
 use Rattle.log_lines.proofs.Cuts.{firstLine, behindFirst, first-line, entry-bad}
-
--- what follows a place, as the code takes it
-pub rest-of : (log : List ℕ) (from : ℕ) → take (length log - from) (drop from log) ≡ drop from log
-rest-of log from = take-all (length log - from) (drop from log) (omega (arith, length-drop from log))
 
 -- ---- a refusal
 pub refusal-put : {out out′ bytes bytes′ : List ℕ} {at m end answer place : ℕ} {r : Report} → r ≡ reportOf (Refused answer place)
@@ -158,15 +156,12 @@ module _ (cs : List Card) where
                     (printed o (replayLines cs (lent x) st (at₀ + from + length (firstLine s)) (logLines (behindFirst s))))) n
                     ∙ ap (λ (x : ℕ). printed (p .text) (printed o (replayLines cs (lent (length out₀ - next)) st x (logLines (behindFirst s))))) a
                     ∙ ap (λ (x : List ℕ). printed (p .text) (printed o (replayFrom cs (lent (length out₀ - next)) st (at₀ + (from + (k + 1))) x))) d
-                    ∙ twice (p .text) o (replayFrom cs (lent (length out₀ - next)) st (at₀ + (from + (k + 1))) (drop (from + (k + 1)) log));
+                    ∙ printed-twice (p .text) o (replayFrom cs (lent (length out₀ - next)) st (at₀ + (from + (k + 1))) (drop (from + (k + 1)) log));
                 puts = then (p .puts) (g .puts);
                 image = i;
                 inside = omega (arith, e, b, length-drop from log);
                 fits = omega (arith, g .short, r);
               }
-            where
-              twice : (x y : List ℕ) (z : Replay) → printed x (printed y z) ≡ printed (x ++ y) z
-              twice x y z = ap (λ (l : List ℕ). record { text = l; state = z .state; at = z .at; pause = z .pause }) (sym (append-assoc x y (z .text)))
 
 -- ---- as the code has it: the rest of the log is a part of it
 abbrev Rest : List ℕ → ℕ → List ℕ

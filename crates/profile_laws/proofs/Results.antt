@@ -11,7 +11,6 @@ use Rattle.values.specs.declared.Kind.the-variants as K
 use Rattle.values.specs.declared.Value.{Value}
 use Rattle.values.specs.declared.Value.the-variants.{Int, Real}
 use Rattle.values.specs.declared.Fault.{Fault}
-use Rattle.values.specs.declared.Fault.the-variants.{DividedByZero, Overflow, OutOfRange, IndexError}
 use Rattle.values.specs.Values.{faultNumber}
 use Rattle.memory.specs.Layout.{imageSize}
 use Rattle.text.specs.Judge.{Judgement}
@@ -37,6 +36,7 @@ use Rattle.promises.proofs.Promises.{promises}
 use Rattle.promises.proofs.Halves.{halves}
 use Rattle.profile.specs.Parts.{realValue}
 use Rattle.operations.specs.Profile.{gaveAnswerFor, gaveMemoryFor, evaluateAnswerFor}
+use Rattle.promises.proofs.Numbers.{fault-range}
 use Rattle.profile_laws.specs.Results.{resultFor, OfProfile, Profiled, as-full, refuses, ProfileFrame}
 use Rattle.profile_laws.proofs.Verdicts.{BothChecks, passes, fails, both-checks, same-runs}
 use Rattle.profile_laws.proofs.Goals.{two, fifteen, nineteen, Goals, both-stop, stops-alone, both-go, run-goals, store-goals, Alike, same}
@@ -158,16 +158,10 @@ module _ (m code index : List ℕ) where
   not-done (inr (inl e)) i = absurd (omega (arith, e, i))
   not-done (inr (inr e)) i = absurd (omega (arith, e, i))
 
-  between : (f : Fault) → (11 ≤ faultNumber f) × (faultNumber f ≤ 14)
-  between DividedByZero = (omega arith, omega arith)
-  between Overflow = (omega arith, omega arith)
-  between OutOfRange = (omega arith, omega arith)
-  between IndexError = (omega arith, omega arith)
-
   not-fault : {A : Type 0} {a : ℕ} (f : Fault) → OfProfile a → a ≡ faultNumber f → A
-  not-fault f (inl e) i = let h = between f in absurd (omega (arith, h .0, e, i))
-  not-fault f (inr (inl e)) i = let h = between f in absurd (omega (arith, h .1, e, i))
-  not-fault f (inr (inr e)) i = let h = between f in absurd (omega (arith, h .1, e, i))
+  not-fault f (inl e) i = let h = fault-range f in absurd (omega (arith, h .0, e, i))
+  not-fault f (inr (inl e)) i = let h = fault-range f in absurd (omega (arith, h .1, e, i))
+  not-fault f (inr (inr e)) i = let h = fault-range f in absurd (omega (arith, h .1, e, i))
 
   of-refusal : (a p : ℕ) → OfProfile a → ProfileFrame m code index (leaves code index (Refused a p) m)
   of-refusal a p o =

@@ -97,7 +97,7 @@ sized s e = let h = both (leb 1 (length s)) (leb (length s) 1024) e in record { 
 pub fit : (s : List ℕ) → Sized s → fits s ≡ true
 fit s h = rw (le-leb 1 (length s) (h .some), le-leb (length s) 1024 (h .short)) refl
 
-same-tokens : {ts w : List Tok} → tokens ts ≡ tokens w → ts ≡ w
+pub same-tokens : {ts w : List Tok} → tokens ts ≡ tokens w → ts ≡ w
 same-tokens e = cc
 
 pub judged : (d : ℕ) (s : List ℕ) → Judged d s (judgeIn false d s)

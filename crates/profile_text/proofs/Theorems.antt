@@ -14,7 +14,7 @@ use Rattle.text.specs.Judge.{Judgement, accepted, refused, judgeScan, judgeFrom
 use Rattle.text.specs.Targets.{Target, toCell, toIndexed, noTarget, targetOf, indexedBy}
 use Rattle.text.specs.Theorems.{Sized, HasJudgementFrom}
 use Rattle.text.specs.Theorems as Text
-use Rattle.text.proofs.Theorems.{text-from}
+use Rattle.text.proofs.Theorems.{text-from, refused-not}
 use Rattle.profile.specs.Parts.{realBank}
 use Rattle.profile.proofs.Tests.{both, not-true}
 use Rattle.profile_text.specs.Tokens.{noReal}
@@ -27,10 +27,7 @@ use Rattle.profile_text.proofs.Parts.{kind-int, part-only, late-six}
 use Rattle.profile_text.proofs.Answers.{scan-answers}
 use Rattle.profile_text.proofs.Judging.{full, Judged, as-full, real-token, judged, fit, found, none-clear}
 
--- no text is refused and accepted, nor for two reasons
-refused-not : {A : Type 0} {a p : ℕ} {t : Tree} → refused a p ≡ accepted t → A
-refused-not e = let z : _≡_ {A = ℕ} 0 1 = cc in absurd (omega arith)
-
+-- one text has one judgement
 same-tree : {t u : Tree} → accepted t ≡ accepted u → t ≡ u
 same-tree e = cc
 

@@ -8,7 +8,7 @@ mod Running
 mod Plain
 mod Finite
 mod Endings
-mod Numbers
+pub mod Numbers
 pub mod Targets
 pub mod Halves
 mod Alone

@@ -28,6 +28,7 @@ use Rattle.read_laws.specs.Theorems.{AgreeOn, AgreeOnListed}
 use Rattle.read_laws.proofs.Laws.{read-theorems}
 use Rattle.compiler.specs.Compile.{compiling, codedBytes}
 use Rattle.compiler.proofs.Theorems.{compile-theorems-from}
+use Rattle.read_laws.proofs.Environments.{or-left}
 use Rattle.targets.specs.Found.{byLetter, byName, foundToRun, indexBytes}
 use Rattle.targets.proofs.Theorems.{indexed}
 use Rattle.operations.specs.declared.Answer.the-variants.{Done, Refused}
@@ -40,10 +41,6 @@ use Rattle.read_answers.proofs.Requests.{answer}
 -- ---- to agree on more cells is to agree on fewer
 fewer : (f g : Cells) (m m′ : List ℕ) → ((b : Bank) (i : ℕ) → g b i ≡ true → f b i ≡ true) → AgreeOn packed f m m′ → AgreeOn packed g m m′
 fewer f g m m′ h a = record { size = a .size; size′ = a .size′; cells = λ b i e. a .cells b i (h b i e) }
-
-left : (s t : Bool) → s ≡ true → (s || t) ≡ true
-left true t e = refl
-left false t e = let z : _≡_ {A = ℕ} 0 1 = cc in absurd (omega arith)
 
 either : (s t u : Bool) → (t ≡ true → u ≡ true) → (s || t) ≡ true → (s || u) ≡ true
 either true t u h e = refl
@@ -84,7 +81,7 @@ module _ (tick : ℕ) (m m′ : List ℕ) where
       let mine = codeCells (instructions code n) in
       let its = codeCells (instructions index k) in
       evaluated tick code n m m′
-      (fewer (union mine its) mine m m′ (λ b i. left (mine b i) (its b i)) (read-theorems .agree-listed packed (union mine its) m m′ a))
+      (fewer (union mine its) mine m m′ (λ b i. or-left (mine b i) (its b i)) (read-theorems .agree-listed packed (union mine its) m m′ a))
 
   pub answer-listed : (target text code index : List ℕ) → AgreeOnListed packed (cellList (requestCells (request target text m code index))) m m′
       → requestAnswer tick m (request target text m code index) ≡ requestAnswer tick m′ (request target text m′ code index)

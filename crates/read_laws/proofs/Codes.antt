@@ -1,6 +1,6 @@
 -- A formula's code reads just the formula's cells.
 use mathlib.Core.Path.{_≡_, refl, sym, ap, _∙_}
-use mathlib.Core.Bool.{Bool, true, false, _||_}
+use mathlib.Core.Bool.{Bool, true, false, _||_, or-assoc, or-false}
 use mathlib.Core.List.{List, [], _∷_, _++_}
 use Prim.Native.Nat.{ℕ, _+_}
 use lib.ListN.{length}
@@ -17,22 +17,14 @@ use Rattle.tree_code.specs.Code.{codeOf, push, truthTail, branchTail, branchTai
 use Rattle.read_set.specs.Cells.{oneCell, cellRange, wholeBank, instrCells, codeCells}
 use Rattle.read_laws.specs.Formulas.{treeCells}
 
-assoc : (a b c : Bool) → ((a || b) || c) ≡ (a || (b || c))
-assoc true b c = refl
-assoc false b c = refl
-
-none : (a : Bool) → (a || false) ≡ a
-none true = refl
-none false = refl
-
 module _ (b : Bank) (j : ℕ) where
   joined : (c d : List Instr) → codeCells (c ++ d) b j ≡ (codeCells c b j || codeCells d b j)
   joined [] d = refl
-  joined (i ∷ c) d = ap (λ (x : Bool). instrCells i b j || x) (joined c d) ∙ sym (assoc (instrCells i b j) (codeCells c b j) (codeCells d b j))
+  joined (i ∷ c) d = ap (λ (x : Bool). instrCells i b j || x) (joined c d) ∙ sym (or-assoc (instrCells i b j) (codeCells c b j) (codeCells d b j))
 
   -- code and then what reads nothing, or an instruction
   then-nothing : (c d : List Instr) → codeCells d b j ≡ false → codeCells (c ++ d) b j ≡ codeCells c b j
-  then-nothing c d e = joined c d ∙ rw e (none (codeCells c b j))
+  then-nothing c d e = joined c d ∙ rw e (or-false (codeCells c b j))
 
   pushed : (v : Value) → instrCells (push v) b j ≡ false
   pushed (Value.Int z) = refl
@@ -55,8 +47,8 @@ module _ (b : Bank) (j : ℕ) where
   pub code-cells : (t : Tree) → codeCells (codeOf t) b j ≡ treeCells t b j
   unfolding codeOf treeCells
   code-cells (literal p v) = rw (pushed v)
-  code-cells (cell c i) = none (oneCell c i b j)
-  code-cells (indexed c t) = and-then (codeOf t) (LoadIndexed c ∷ []) (treeCells t b j) (wholeBank c b j) (code-cells t) (none (wholeBank c b j))
+  code-cells (cell c i) = or-false (oneCell c i b j)
+  code-cells (indexed c t) = and-then (codeOf t) (LoadIndexed c ∷ []) (treeCells t b j) (wholeBank c b j) (code-cells t) (or-false (wholeBank c b j))
   code-cells (unary p o t) = then-nothing (codeOf t) (Unary o ∷ []) refl ∙ code-cells t
   code-cells (binary p o t u) =
       and-then (codeOf t) (codeOf u ++ Binary o ∷ []) (treeCells t b j) (treeCells u b j) (code-cells t)
@@ -74,7 +66,7 @@ module _ (b : Bank) (j : ℕ) where
       (then-nothing (codeOf u) tail (branch-tail (treeKind t) (treeKind u)) ∙ code-cells u))
   code-cells tick = refl
   code-cells (since p t) = then-nothing (codeOf t) (Since ∷ []) refl ∙ code-cells t
-  code-cells (total p o c i n) = none (cellRange c i (spanOf c i n) b j)
+  code-cells (total p o c i n) = or-false (cellRange c i (spanOf c i n) b j)
   code-cells (matching p o t c i n) =
       and-then (codeOf t) (Match o c i (spanOf c i n) ∷ []) (treeCells t b j) (cellRange c i (spanOf c i n) b j) (code-cells t)
-      (none (cellRange c i (spanOf c i n) b j))
+      (or-false (cellRange c i (spanOf c i n) b j))

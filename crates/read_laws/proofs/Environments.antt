@@ -15,7 +15,6 @@ use Rattle.operators.specs.declared.Position.{Position}
 use Rattle.operators.specs.declared.Position.the-variants as P
 use Rattle.operators.specs.Operators.{sinceRule, truthRule, branchRule}
 use Rattle.memory.specs.declared.Bank.{Bank}
-use Rattle.memory.specs.Numbers.{bankNumber}
 use Rattle.memory.specs.Cells.{positionRule, atPosition}
 use Rattle.memory.specs.Environment.{Environment, indexedCell}
 use Rattle.totals.specs.declared.Visited.{Visited}
@@ -28,12 +27,13 @@ use Rattle.code.specs.declared.Instr.{Instr}
 use Rattle.code.specs.declared.Instr.the-variants.{PushInt, PushReal, Load, LoadIndexed, Unary, Binary, Jump, JumpIf, Tick, Since, Total, Match, Unknown}
 use Rattle.machine.specs.declared.Ran.{Ran}
 use Rattle.machine.specs.Machine.{Next, goes, halts, pushValue, pushOutcome, act, cellsBegun, cost, exec, counting}
-use Rattle.read_set.specs.Cells.{Cells, nothing, sameBank, oneCell, cellRange, wholeBank, union, instrCells, codeCells}
+use Rattle.read_set.specs.Cells.{Cells, nothing, oneCell, cellRange, wholeBank, union, instrCells, codeCells}
+use Rattle.read_set.proofs.Intervals.{bank-same}
 use Rattle.read_laws.specs.Formulas.{treeCells}
 use Rattle.read_laws.specs.Theorems.{AlikeOn}
 
 -- ---- sets
-or-left : (a b : Bool) → a ≡ true → (a || b) ≡ true
+pub or-left : (a b : Bool) → a ≡ true → (a || b) ≡ true
 or-left true b e = refl
 or-left false b e = let z : _≡_ {A = ℕ} 0 1 = cc in absurd (omega arith)
 
@@ -41,10 +41,7 @@ or-right : (a b : Bool) → b ≡ true → (a || b) ≡ true
 or-right true b e = refl
 or-right false b e = e
 
-bank-same : (b : Bank) → sameBank b b ≡ true
-bank-same b = eq-eqb (bankNumber b) (bankNumber b) refl
-
-cell-same : (b : Bank) (i : ℕ) → oneCell b i b i ≡ true
+pub cell-same : (b : Bank) (i : ℕ) → oneCell b i b i ≡ true
 cell-same b i = rw (bank-same b) (eq-eqb i i refl)
 
 range-same : (b : Bank) (i n k : ℕ) → i ≤ k → k < i + n → cellRange b i n b k ≡ true

@@ -17,6 +17,7 @@ use Rattle.memory.specs.Layout.{layoutOf}
 use Rattle.memory.specs.Numbers.{banks}
 use Rattle.memory.proofs.Runs.{run-written}
 use Rattle.read_set.specs.Cells.{Cells, Cell, cellsFrom, cellsOf, cellList, firstNumber, cellCount, cellNumbers}
+use Rattle.read_set.proofs.Numbering.{numbers-length}
 use Rattle.read_laws.specs.Theorems.{Listed, RisingFrom, end, next}
 
 abbrev named : Bank → ℕ → Cell
@@ -172,10 +173,6 @@ module _ (f : Cells) where
 
   pub cells-most : length (cellList f) ≤ cellCount
   cells-most = banks-most banks
-
-numbers-length : (cs : List Cell) → length (cellNumbers cs) ≡ length cs
-numbers-length [] = refl
-numbers-length (c ∷ cs) = ap suc (numbers-length cs)
 
 pub cells-fit : (f : Cells) (list : List ℕ) → cellCount ≤ length list
     → take (length (cellList f)) (sets list 0 (cellNumbers (cellList f))) ≡ cellNumbers (cellList f)

@@ -1,6 +1,6 @@
 -- The cells of a range of a bank are an interval of numbers: each bank's numbers follow those of the bank before it.
 use mathlib.Core.Path.{_≡_, refl, sym, ap, _∙_, subst}
-use mathlib.Core.Bool.{Bool, true, false, _&&_, cond}
+use mathlib.Core.Bool.{Bool, true, false, _&&_, cond, and-false}
 use Prim.Native.Nat.{ℕ, _+_, _≤_, _<_}
 use native.Mathlib.Omega.{arith}
 use lib.Dec.{T, ltb, leb, lit<, lit≤}
@@ -13,7 +13,7 @@ use Rattle.memory.specs.Numbers.{bankNumber}
 use Rattle.totals.specs.Totals.{goodRange}
 use Rattle.read_set.specs.Cells.{Cells, sameBank, oneCell, cellRange, wholeBank, firstNumber, cellCount, cellNumber}
 use Rattle.read_set.specs.private.Intervals.{inInterval, empty, within, Numbers}
-use Rattle.read_set.proofs.Tests.{and-false, leb-moved, ltb-moved, one-long}
+use Rattle.read_set.proofs.Tests.{leb-moved, ltb-moved, one-long}
 
 -- ---- the order of banks
 data Order (b c : Bank) : Type 0 where
@@ -40,10 +40,7 @@ order R = each (Order R) (behind refl (lit≤ tt)) (behind refl (lit≤ tt)) (be
 pub bank-end : (b : Bank) → firstNumber b + layoutOf b .elements ≤ cellCount
 bank-end = each (λ b. firstNumber b + layoutOf b .elements ≤ cellCount) (lit≤ tt) (lit≤ tt) (lit≤ tt) (lit≤ tt) (lit≤ tt) (lit≤ tt)
 
-pub elements-most : (b : Bank) → layoutOf b .elements ≤ 256
-elements-most = each (λ b. layoutOf b .elements ≤ 256) (lit≤ tt) (lit≤ tt) (lit≤ tt) (lit≤ tt) (lit≤ tt) (lit≤ tt)
-
-bank-same : (b : Bank) → sameBank b b ≡ true
+pub bank-same : (b : Bank) → sameBank b b ≡ true
 bank-same b = eq-eqb (bankNumber b) (bankNumber b) refl
 
 -- ---- ranges

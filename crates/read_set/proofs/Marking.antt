@@ -1,6 +1,6 @@
 -- The loop over the code: what is left to mark, besides what is reached, is what the whole code reads.
 use mathlib.Core.Path.{_≡_, refl, sym, ap, _∙_, subst}
-use mathlib.Core.Bool.{Bool, true, false, _||_, cond}
+use mathlib.Core.Bool.{Bool, true, false, _||_, cond, or-false, or-assoc}
 use mathlib.Core.List.{List}
 use Prim.Native.Nat.{ℕ, zero, suc, _+_, _-_, _/_, _≤_, _<_}
 use native.Mathlib.Numerals.{add-one}
@@ -17,7 +17,6 @@ use Rattle.read_set.specs.declared.Interval.{Interval}
 use Rattle.read_set.specs.Cells.{Cells, instrCells, codeCells, cellCount, cellNumber}
 use Rattle.read_set.specs.private.Intervals.{Numbers, Reads}
 use Rattle.read_set.specs.private.Reaches.{lesser, isReached, extended, Marks}
-use Rattle.read_set.proofs.Tests.{or-false, or-assoc}
 use Rattle.read_set.proofs.Reaches.{extended-reaches, extended-length}
 
 -- of the first n instructions of the code s, those from p on are left

@@ -101,7 +101,7 @@ same-long {rs} {list₀} {list} {number} {found} L =
     sym (length-sets list found (passing (isReached rs) number (cellCount - number))) ∙ ap length (L .written) ∙ length-sets list₀ 0 (reachedNumbers rs)
 
 -- ---- the numbers are the cells'
-numbers-length : (cs : List Cell) → length (cellNumbers cs) ≡ length cs
+pub numbers-length : (cs : List Cell) → length (cellNumbers cs) ≡ length cs
 numbers-length [] = refl
 numbers-length (c ∷ cs) = ap suc (numbers-length cs)
 

@@ -1,7 +1,7 @@
 -- What marks reach: one more mark reaches its interval besides.
 use mathlib.Core.Path.{_≡_, refl, sym, ap, _∙_}
 use mathlib.Core.Logic.{_≢_}
-use mathlib.Core.Bool.{Bool, true, false, _&&_, _||_, cond}
+use mathlib.Core.Bool.{Bool, true, false, _&&_, _||_, cond, or-false, or-assoc}
 use mathlib.Core.List.{List}
 use Prim.Native.Nat.{ℕ, zero, suc, _+_, _≤_, _<_}
 use native.Mathlib.Omega.{arith}
@@ -9,9 +9,10 @@ use lib.Dec.{ltb, leb, leb·suc-suc}
 use lib.ListN.{length, getD, set, replicate, length-set}
 use lib.Seq.{getD-set-same, getD-set-other}
 use borrow.Author.Tests.{ltb-true, ltb-false, lt-ltb, le-ltb}
+use Rattle.words.proofs.Lists.{zeros}
 use Rattle.read_set.specs.private.Intervals.{inInterval}
 use Rattle.read_set.specs.private.Reaches.{larger, reachedTo, isReached, extended}
-use Rattle.read_set.proofs.Tests.{or-false, or-assoc, or-swap}
+use Rattle.read_set.proofs.Tests.{or-swap}
 
 -- below the larger of two is below one of them
 below-larger : (m a b : ℕ) → ltb m (larger a b) ≡ (ltb m a || ltb m b)
@@ -121,11 +122,6 @@ extended-length rs s c = by (ltb (getD rs s 0) c)
     by false = refl
 
 -- ---- no marks
-zeros : (m k : ℕ) → _≡_ {A = ℕ} (getD (replicate m 0) k 0) 0
-zeros zero k = refl
-zeros (suc m) zero = refl
-zeros (suc m) (suc k) = zeros m k
-
 larger-small : (k a x : ℕ) → a ≤ k → x ≡ 0 → larger a (k + x) ≤ k
 larger-small k a x l z = by (ltb a (k + x))
   where

@@ -96,10 +96,10 @@ begins-within (c ∷ key) h [] r r′ =
     ap (λ (x : Bool). x && equalBytes key (take (length key) r)) n ∙ ap (λ (x : Bool). x && equalBytes key (take (length key) r′)) (sym n)
 begins-within (c ∷ key) h (d ∷ x) r r′ = ap (λ (b : Bool). eqb c d && b) (begins-within key (both (except 10 c) (all (except 10) key) h .1) x r r′)
 
-data Some : List (List ℕ) → Type 0 where
+pub data Some : List (List ℕ) → Type 0 where
   some : (p : List ℕ) (ps : List (List ℕ)) → Some (p ∷ ps)
 
-onto-some : (c : ℕ) (ps : List (List ℕ)) → Some (ontoFirst c ps)
+pub onto-some : (c : ℕ) (ps : List (List ℕ)) → Some (ontoFirst c ps)
 onto-some c [] = some (c ∷ []) []
 onto-some c (p ∷ ps) = some (c ∷ p) ps
 
@@ -114,7 +114,7 @@ ended-some : (p : List ℕ) → Some (parts (p ++ 10 ∷ []))
 ended-some [] = parts-some 10 []
 ended-some (c ∷ p) = parts-some c (p ++ 10 ∷ [])
 
-onto-append : (c : ℕ) {ps : List (List ℕ)} (qs : List (List ℕ)) → Some ps → ontoFirst c (ps ++ qs) ≡ ontoFirst c ps ++ qs
+pub onto-append : (c : ℕ) {ps : List (List ℕ)} (qs : List (List ℕ)) → Some ps → ontoFirst c (ps ++ qs) ≡ ontoFirst c ps ++ qs
 onto-append c qs (some p ps) = refl
 
 pub parts-append : (q : List ℕ) {r : List ℕ} → Follows r → parts (ended q [] ++ r) ≡ parts (ended q []) ++ parts r

@@ -1,6 +1,6 @@
 -- The bank of a text of the form `bank[..]`, test by test.
 use mathlib.Core.Path.{_≡_, refl, _∙_}
-use mathlib.Core.Bool.{Bool, true, false, _&&_, cond}
+use mathlib.Core.Bool.{Bool, true, false, _&&_, cond, and-false}
 use mathlib.Core.List.{List, [], _∷_}
 use Prim.Native.Nat.{ℕ, _-_, _≤_, _<_}
 use native.Mathlib.Decide.{decLt}
@@ -15,10 +15,6 @@ use Rattle.memory.specs.declared.names.Letter.the-variants as L
 use Rattle.memory.specs.Names.{letterBank}
 use Rattle.text.specs.Targets.{storedBank, isEnclosed}
 use Rattle.targets.specs.Found.{enclosedBank}
-
-and-false : (t : Bool) → (t && false) ≡ false
-and-false true = refl
-and-false false = refl
 
 -- one byte is not both brackets
 both : (c : ℕ) (t : Bool) → eqb c (byte "[") ≡ t → (t && eqb c (byte "]")) ≡ false

@@ -82,7 +82,7 @@ module _ (d : ℕ) (few : d ≤ mostOpen) where
       }
 
 -- a refusal is no formula
-refused-not : {A : Type 0} {a p : ℕ} {t : Tree} → refused a p ≡ accepted t → A
+pub refused-not : {A : Type 0} {a p : ℕ} {t : Tree} → refused a p ≡ accepted t → A
 refused-not e = let z : _≡_ {A = ℕ} 0 1 = cc in absurd (omega arith)
 
 module _ (d e : ℕ) (s : List ℕ) (t : Tree) (le : e ≤ d) where

@@ -4,17 +4,14 @@ use mathlib.Core.List.{List, []}
 use Prim.Native.Nat.{ℕ, zero, suc, _+_, _-_, _≤_, _<_}
 use native.Mathlib.Omega.{arith}
 use lib.ListN.{length, take, drop, length-drop, drop-of-length-le}
-use lib.Seq.{sets, take-all, take-take, drop-drop, length-take-le}
+use lib.Seq.{sets, take-take, drop-drop, length-take-le}
+use Rattle.words.proofs.Lists.{rest-of}
 use Rattle.text_tables.specs.Tables.{lineLength, rowAt}
 use Rattle.text_tables.proofs.Fits.{sets-front}
 
--- the part from a place on, as the code cuts it
-rest-is : (s : List ℕ) (at : ℕ) → take (length s - at) (drop at s) ≡ drop at s
-rest-is s at = take-all (length s - at) (drop at s) (omega (arith, length-drop at s))
-
 module _ (s : List ℕ) (at n : ℕ) (e : n ≡ lineLength (take (length s - at) (drop at s))) where
   line-is : n ≡ lineLength (drop at s)
-  line-is = e ∙ ap lineLength (rest-is s at)
+  line-is = e ∙ ap lineLength (rest-of s at)
 
   pub behind : at + n < length s → (drop (at + n + 1) s ≡ drop (suc (lineLength (drop at s))) (drop at s)) × (at + n + 1 ≤ length s)
   behind h =

@@ -4,7 +4,7 @@ use mathlib.Core.List.{List, [], _∷_}
 use Prim.Native.Nat.{ℕ, zero, suc, _<_}
 use native.Mathlib.Omega.{arith}
 use lib.Dec.{lit<}
-use lib.ListN.{length}
+use lib.ListN.{length, replicate}
 use lib.Ieee.{binary32, toBits}
 use lib.Ieee.Bits.{is-true, ofBits-toBits}
 use Rattle.values.specs.declared.Value.the-variants.{Int, Real}
@@ -12,6 +12,7 @@ use Rattle.values.specs.Integers.{inRange}
 use Rattle.values.specs.Patterns.{lowBits}
 use Rattle.values.proofs.Ranges.{range-sfits}
 use Rattle.values.proofs.patterns.Readings.{signed-low}
+use Rattle.words.proofs.Lists.{zeros}
 use Rattle.memory.specs.Cells.{finiteOrFault}
 use Rattle.memory.specs.Numbers.{bankNumber}
 use Rattle.tokens.specs.declared.Token.{Token}
@@ -20,7 +21,7 @@ use Rattle.tokens.specs.Scan.{Tok, Scan, tokens, wrong}
 use Rattle.token_table.specs.declared.Filled.the-variants as Filled
 use Rattle.token_table.specs.private.Table.{Entry, Is, End, functionNumber, packToken, wordClass, wordOperand, wordNumber, wordPlace, realEntry}
 use Rattle.token_table.specs.private.Table.{cellEntry, letterEntry, nameEntry, tokenOf, entryOf, entryAt, listed, tokensFrom, Fills, filled}
-use Rattle.token_table.specs.private.Table.{stopped, Sound}
+use Rattle.token_table.specs.private.Table.{stopped, Sound, blank, TokenWords}
 use Rattle.token_table.proofs.Fields.{Parts, parts, bank, function, finite-real}
 
 abbrev pub tok : Token → ℕ → Tok
@@ -142,3 +143,7 @@ filled-good (filled q) = ap tokens (sym q)
 
 pub filled-wrong : {z : Scan} {s : List ℕ} {a p : ℕ} → Fills z s (Filled.Wrong a p) → z ≡ wrong a p
 filled-wrong stopped = refl
+
+-- ---- a table without tokens
+pub no-tokens : (n : ℕ) → TokenWords (replicate n 0)
+no-tokens n i = rw (zeros n i) blank

@@ -12,6 +12,7 @@ use Rattle.code.specs.declared.Instr.{Instr}
 use Rattle.code.specs.declared.Instr.the-variants.{PushInt, PushReal, Load, LoadIndexed, Unary, Binary, Jump, JumpIf, Tick, Since, Total, Match, Unknown}
 use Rattle.verifier.specs.Typing.{Shape, Move, illTyped, next, jump, fork, moveOf, wellFormed}
 use Rattle.verifier.specs.Accepts.{MovesTo, next-place, jump-target, not-taken, taken, instrAt, Reached, start, onward, Accepts}
+use Rattle.verifier.proofs.Moves.{forward}
 
 -- the kinds r stand at the place n of the list
 pub data At : List Shape → ℕ → Shape → Type 0 where
@@ -81,12 +82,6 @@ led (fits-leap {d = d} a) jump-target = record { d = d; place = refl; kinds = a 
 led (fits-fork a b) not-taken = record { d = 0; place = omega arith; kinds = a }
 led (fits-fork {d = d} a b) taken = record { d = d; place = refl; kinds = b }
 
-later : {p q : ℕ} {m : Move} {r : Shape} → MovesTo p m q r → p < q
-later next-place = omega arith
-later jump-target = omega arith
-later not-taken = omega arith
-later taken = omega arith
-
 leaves : {m : Move} {l : List Shape} (p : ℕ) → Fits m l → (q : ℕ) × (r : Shape) × MovesTo p m q r
 leaves p (fits-next {r = r} a) = (suc p, r, next-place)
 leaves p (fits-leap {d = d} {r = r} a) = (suc p + d, r, jump-target)
@@ -143,7 +138,7 @@ module _ {c : List Instr} {l : List Shape} {k : Kind} (f : Flow c ([] ∷ l) ((k
       go true e ih =
           let lt = ltb-true p (length c) e in
           let x = leaves p (fits-at f (reached-at d) lt) in
-          ih (x .0) (x .1) (omega (arith, later (x .2))) (onward d lt (x .2))
+          ih (x .0) (x .1) (omega (arith, forward (x .2))) (onward d lt (x .2))
       go false e ih = (s, subst (λ (x : ℕ). Reached c x s) (omega (arith, inside d, ltb-false p (length c) e)) d)
 
   ended : Reached c (length c) (k ∷ [])

@@ -45,7 +45,7 @@ entries : below symbolCount entry ≡ true
 unfolding below entry groupNumber
 entries = refl
 
-no-group : (n : ℕ) → symbolCount ≤ n → groupNumber n ≡ 0
+pub no-group : (n : ℕ) → symbolCount ≤ n → groupNumber n ≡ 0
 unfolding groupNumber
 no-group n h = List·getD-eq-default groups 0 h
 

@@ -1,7 +1,7 @@
 -- A line looked for by its key at a place, and what is known of one that was found. Assumes nothing.
 use mathlib.Core.Path.{_≡_, refl, sym, ap, subst, _∙_}
-use mathlib.Core.Bool.{Bool, true, false, _&&_, cond, and-false}
-use mathlib.Core.List.{List, [], _∷_, _++_}
+use mathlib.Core.Bool.{Bool, true, false, _&&_, cond}
+use mathlib.Core.List.{List, _∷_, _++_}
 use Prim.Native.Nat.{ℕ, suc, _+_, _-_, _≤_, _<_}
 use native.Mathlib.Nat.{zero-add}
 use native.Mathlib.Omega.{arith}
@@ -9,24 +9,19 @@ use lib.Dec.{eqb, ltb}
 use lib.ListN.{length, take, drop, length-append, length-drop}
 use lib.Seq.{take-all, length-take-le, drop-drop, take-append-seam, drop-append-seam, drop-append-add}
 use borrow.Author.Tests.{eqb-true, eqb-false, eq-eqb, ne-eqb, lt-ltb, le-ltb}
+use Rattle.words.proofs.Lists.{rest-of}
 use Rattle.memory.specs.declared.names.Number.the-variants as Number
 use Rattle.memory.specs.Names.{allDigits, digitsOf, decimalValue, numberBelow, numberRule}
 use Rattle.memory.proofs.names.Decimals.{digits-all, digits-not}
 use Rattle.tokens.specs.Bytes.{runLen}
 use Rattle.tokens.specs.Symbols.{equalBytes}
+use Rattle.tokens.proofs.Same.{unlike}
 use Rattle.lines.specs.Lines.{except}
 use Rattle.card_laws.specs.Lines.{ended, Lacks, Field, field, wrong, toEnd, restOfLine, begins, fieldOf}
 use Rattle.card_laws.specs.Cards.{cardKey, cardNumber, isCheck}
 use Rattle.card_laws.proofs.Lines.{field-is}
 use Rattle.card_file.specs.declared.form.Field.the-variants.{Value, Wrong}
 use Rattle.card_file.specs.Spans.{lengthIn, numberIn, lineNumber}
-
--- lists of two lengths are two
-unlike : (s t : List ℕ) → (length s ≡ length t → ⊥) → equalBytes s t ≡ false
-unlike [] [] n = absurd (n refl)
-unlike [] (d ∷ t) n = refl
-unlike (c ∷ s) [] n = refl
-unlike (c ∷ s) (d ∷ t) n = rw (unlike s t (λ e. n (ap suc e)), and-false)
 
 module _ (s : List ℕ) (at : ℕ) (key : List ℕ) where
   d : List ℕ
@@ -36,14 +31,14 @@ module _ (s : List ℕ) (at : ℕ) (key : List ℕ) where
   short h =
       let size : length (drop at s) ≡ length s - at = length-drop at s in
       let t : begins key (drop at s) ≡ false = ap (equalBytes key) (take-all (length key) (drop at s) (omega arith))
-      ∙ unlike key (drop at s) (λ e. omega arith) in
+      ∙ sym (unlike key (drop at s) (λ e. omega arith)) in
       rw t
 
   part : take (at + length key - at) (drop at s) ≡ take (length key) (drop at s)
   part = let e : at + length key - at ≡ length key = omega arith in rw e
 
   rest : take (length s - (at + length key)) (drop (at + length key) s) ≡ drop (length key) (drop at s)
-  rest = take-all (length s - (at + length key)) (drop (at + length key) s) (rw length-drop (omega arith)) ∙ sym (drop-drop (length key) at s)
+  rest = rest-of s (at + length key) ∙ sym (drop-drop (length key) at s)
 
   pub other : false ≡ equalBytes key (take (at + length key - at) (drop at s)) → Wrong ≡ lengthIn (fieldOf key (drop at s))
   other e = let t : begins key (drop at s) ≡ false = sym (e ∙ ap (equalBytes key) part) in rw t

@@ -1,24 +1,25 @@
 -- Reading card after card: what was read so far, and what the rest gives. Assumes nothing.
 use mathlib.Core.Path.{_≡_, refl, sym, ap, subst, _∙_}
-use mathlib.Core.Bool.{Bool, true, false}
+use mathlib.Core.Bool.{Bool, true}
 use mathlib.Core.List.{List, [], _∷_, _++_, append-nil, append-assoc}
 use Prim.Native.Nat.{ℕ, zero, suc, _+_, _-_, _*_, _≤_, _<_}
 use native.Mathlib.Nat.{add-zero, add-assoc}
 use native.Mathlib.Omega.{arith}
 use lib.ListN.{length, take, drop, set, replicate, length-append, length-drop, length-replicate, drop-of-length-le}
-use lib.Seq.{sets, set-comm, take-all, drop-at, drop-drop, length-sets}
+use lib.Seq.{sets, set-comm, drop-at, drop-drop, length-sets}
+use Rattle.words.proofs.Lists.{rest-of}
 use Rattle.lines.specs.Printing.{widthOf}
 use Rattle.lines.specs.private.Steps.{Puts}
 use Rattle.lines.proofs.Stores.{then}
 use Rattle.card_laws.specs.declared.Verdict.the-variants.{Fine, Refusal}
 use Rattle.card_laws.specs.Cards.{Card, card, numberOf, cardBytes, cardsBytes, Form, formed, out, cardForm}
-use Rattle.card_laws.specs.Reading.{CardRead, taken, refused, CardsRead, good, bad, alsoCard, thenCards, lastOf, isEmpty, judged, readCard, readFrom}
+use Rattle.card_laws.specs.Reading.{CardRead, taken, refused, CardsRead, good, bad, alsoCard, thenCards, lastOf, judged, readCard, readFrom}
 use Rattle.card_laws.specs.Reading.{readCards, GoodCard, Valid, none, next}
 use Rattle.card_laws.specs.Formulas.{formulaAnswer}
 use Rattle.card_laws.proofs.Formulas.{judge-laws}
 use Rattle.card_laws.proofs.Cards.{Judged, judged-is, Stands, card-is}
 use Rattle.card_laws.proofs.Reading.{step, end, alsoCards, also-good, also-bad, also-append, last-append, cards-append, card-size, card-some}
-use Rattle.card_laws.proofs.Reading.{valid-append, Sizes, sizes, good-size}
+use Rattle.card_laws.proofs.Reading.{valid-append, Sizes, sizes, good-size, not-nothing}
 use Rattle.card_file.specs.declared.form.FourLines.{FourLines}
 use Rattle.card_file.specs.Spans.{spans, verdictIn}
 use Rattle.card_file.specs.Words.{cardWords, cardsWords, readWords, spanWords, SmallSpans}
@@ -92,17 +93,9 @@ words-append at (k ∷ ks) bs =
     ∙ ap (λ (n : ℕ). cardsWords (at + length (cardBytes k)) ks ++ cardsWords n bs) e)
     ∙ sym (append-assoc (cardWords at k) (cardsWords (at + length (cardBytes k)) ks) (cardsWords (at + length (cardBytes k ++ cardsBytes ks)) bs))
 
-word-count : (at : ℕ) (c : Card) → length (cardWords at c) ≡ 5
-word-count at (card n t e) = refl
-
-words-count : (at : ℕ) (cs : List Card) → length (cardsWords at cs) ≡ 5 * length cs
+pub words-count : (at : ℕ) (cs : List Card) → length (cardsWords at cs) ≡ 5 * length cs
 words-count at [] = refl
-words-count at (c ∷ cs) = omega (
-  arith,
-  length-append (cardWords at c) (cardsWords (at + length (cardBytes c)) cs),
-  word-count at c,
-  words-count (at + length (cardBytes c)) cs,
-)
+words-count at (card n t e ∷ cs) = omega (arith, words-count (at + length (cardBytes (card n t e))) cs)
 
 -- a word before others may be set last
 set-before : (l : List ℕ) (i : ℕ) (vs : List ℕ) (j a : ℕ) → j < i → set (sets l i vs) j a ≡ sets (set l j a) i vs
@@ -154,23 +147,15 @@ bounds {file} {words} {at} {to} {last} {count} g =
       to-is = omega (arith, g .stored .end, words-count 0 (g .cards), g .count-is);
     }
 
--- what follows the place, as the code takes it
-pub rest-of : (file : List ℕ) (at : ℕ) → take (length file - at) (drop at file) ≡ drop at file
-rest-of file at = take-all (length file - at) (drop at file) (omega (arith, length-drop at file))
-
 fuel-some : (file : List ℕ) (at fuel : ℕ) → at < length file → length (drop at file) ≤ fuel → fuel ≡ suc (fuel - 1)
 fuel-some file at fuel h e = omega (arith, length-drop at file)
-
-not-empty : (s : List ℕ) → 0 < length s → isEmpty s ≡ false
-not-empty [] h = absurd (omega arith)
-not-empty (c ∷ s) h = refl
 
 one-more : {file words : List ℕ} {at to last count : ℕ} → (g : Reading file words at to last count) → at < length file
     → readCards formulaAnswer file ≡ alsoCards (g .cards) (thenCards at (readCard formulaAnswer last (drop at file))
     (λ c r. readFrom formulaAnswer (g .fuel - 1) (numberOf c) (at + length (cardBytes c)) r))
 one-more {file} {words} {at} {to} {last} {count} g h =
     g .rest ∙ ap (λ (k : ℕ). alsoCards (g .cards) (readFrom formulaAnswer k last at (drop at file))) (fuel-some file at (g .fuel) h (g .enough))
-    ∙ ap (alsoCards (g .cards)) (step formulaAnswer (g .fuel - 1) last at (drop at file) (not-empty (drop at file) (omega (arith, length-drop at file))))
+    ∙ ap (alsoCards (g .cards)) (step formulaAnswer (g .fuel - 1) last at (drop at file) (not-nothing (drop at file) (omega (arith, length-drop at file))))
 
 pub stopped : {file words : List ℕ} {at to last count a : ℕ} → (g : Reading file words at to last count) → at < length file
     → Refusal a ≡ verdictIn (judged formulaAnswer last (cardForm (drop at file))) → readWords (bad a at) ≡ readWords (readCards formulaAnswer file)

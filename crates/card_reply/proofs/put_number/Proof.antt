@@ -1,7 +1,7 @@
 -- `put_number` meets its contract.
-use Rattle.card_reply.proofs.Lines.{none-put, no-number, number-line}
+use Rattle.card_reply.proofs.Lines.{no-number, number-line}
 use Rattle.lines.proofs.printing.Widths.{at-most}
-use Rattle.lines.proofs.Stores.{then, as-text}
+use Rattle.lines.proofs.Stores.{then, as-text, none-put}
 use native.Mathlib.Omega.{arith}
 use borrow.Author.Needs.{needs}
 use Rattle.card_reply.proofs.put_number.Statement.{statement}

@@ -10,9 +10,9 @@ use lib.ListN.{length, take, drop, getD, length-take, length-drop, drop-of-lengt
 use lib.Seq.{take-suc, drop-cons, getD-drop}
 use borrow.Author.Tests.{eq-eqb, ne-eqb}
 use Rattle.tokens.specs.Symbols.{equalBytes}
+use Rattle.tokens.proofs.Same.{equal as same-bytes}
 use Rattle.card_laws.specs.Lines.{begins}
 use Rattle.card_laws.specs.Cards.{cardKey}
-use Rattle.card_laws.proofs.Lines.{same-bytes}
 use Rattle.salvage_laws.specs.Cut.{ontoFirst}
 use Rattle.salvage_laws.specs.Salvage.{cardFollows, parts}
 use Rattle.card_salvage.specs.private.Steps.{PartTo}

@@ -10,6 +10,7 @@ use Rattle.card_laws.specs.Formulas.{formulaAnswer}
 use Rattle.salvage_laws.specs.Salvage.{parts, PartAnswer, keeps, leaves, lastKept, Part, part, keptBefore, keptBytes, nameLines, namedBefore}
 use Rattle.salvage_laws.specs.Salvage.{namedBytes, partAnswer, classifyParts}
 use Rattle.lines.specs.private.Steps.{Puts}
+use Rattle.lines.proofs.Stores.{none-put}
 use Rattle.salvage_laws.proofs.Names.{name-size}
 use Rattle.card_salvage.specs.declared.answers.Answer.{Answer}
 use Rattle.card_salvage.specs.declared.answers.Answer.the-variants.{Keeps, Leaves}
@@ -75,9 +76,6 @@ taken {f} last {at} {end} {a} p e =
     size-by (Leaves b) = refl
 
 -- ---- the two answers, and what each puts
-nothing-put : (l : List ℕ) (at : ℕ) → Puts l at l at []
-nothing-put l at = record { bytes = refl; end = omega arith }
-
 module _ {a : Answer} {n : ℕ} where
   pub kept-room : (p : List ℕ) (at : ℕ) {k : ℕ} → a ≡ Keeps n → at + length (keptOf a p) ≤ k → at + length p ≤ k
   kept-room p at {k} e h = subst (λ (b : Answer). at + length (keptOf b p) ≤ k) e h
@@ -86,7 +84,7 @@ module _ {a : Answer} {n : ℕ} where
   put-kept {l} {m} {p} {at} {b} e h = subst (λ (x : Answer). Puts l at m b (keptOf x p)) (sym e) h
 
   pub left-kept : (l p : List ℕ) (at : ℕ) → a ≡ Leaves n → Puts l at l at (keptOf a p)
-  left-kept l p at e = subst (λ (x : Answer). Puts l at l at (keptOf x p)) (sym e) (nothing-put l at)
+  left-kept l p at e = subst (λ (x : Answer). Puts l at l at (keptOf x p)) (sym e) (none-put l at)
 
   pub name-long : (first size : ℕ) → a ≡ Leaves n → length (nameOf a first size) ≡ 23 + widthOf first + widthOf size + widthOf n
   name-long first size e = ap (λ (x : Answer). length (nameOf x first size)) e ∙ name-size first size n
@@ -101,4 +99,4 @@ module _ {a : Answer} {n : ℕ} where
   put-name {l} {m} {at} {b} first size e h = subst (λ (x : Answer). Puts l at m b (nameOf x first size)) (sym e) h
 
   pub kept-name : (l : List ℕ) (at first size : ℕ) → a ≡ Keeps n → Puts l at l at (nameOf a first size)
-  kept-name l at first size e = subst (λ (x : Answer). Puts l at l at (nameOf x first size)) (sym e) (nothing-put l at)
+  kept-name l at first size e = subst (λ (x : Answer). Puts l at l at (nameOf x first size)) (sym e) (none-put l at)

@@ -1,6 +1,6 @@
 -- `put_indexed` meets its contract.
-use Rattle.code_listing.proofs.Lines.{behind-none, letter-known, letter-none}
-use Rattle.lines.proofs.Stores.{then, as-text}
+use Rattle.code_listing.proofs.Lines.{letter-known, letter-none}
+use Rattle.lines.proofs.Stores.{then, as-text, behind-none}
 use native.Mathlib.Omega.{arith}
 use Rattle.text_tables.proofs.Short.{row-length}
 use Rattle.words.specs.Ascii.{ascii}

@@ -1,6 +1,6 @@
 -- `put_load` meets its contract.
-use Rattle.code_listing.proofs.Lines.{behind-none, cell-known, cell-none}
-use Rattle.lines.proofs.Stores.{then, as-text}
+use Rattle.code_listing.proofs.Lines.{cell-known, cell-none}
+use Rattle.lines.proofs.Stores.{then, as-text, behind-none}
 use native.Mathlib.Omega.{arith}
 use borrow.Author.Needs.{needs}
 use Rattle.code_listing.proofs.put_load.Statement.{statement}

@@ -1,6 +1,6 @@
 -- `put_range` meets its contract.
-use Rattle.code_listing.proofs.Lines.{none-put, range-known, range-none}
-use Rattle.lines.proofs.Stores.{then, as-text}
+use Rattle.code_listing.proofs.Lines.{range-known, range-none}
+use Rattle.lines.proofs.Stores.{then, as-text, none-put}
 use native.Mathlib.Omega.{arith}
 use Rattle.lines.proofs.printing.Widths.{at-most}
 use borrow.Author.Needs.{needs}

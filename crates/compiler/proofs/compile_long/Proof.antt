@@ -1,7 +1,8 @@
 -- `compiler::compile_long` meets its contract: the table has a word for each byte and one more, the draft two.
 use native.Mathlib.Omega.{arith}
 use borrow.Author.Needs.{needs}
-use Rattle.compiler.proofs.Answers.{no-tokens, all-fits}
+use Rattle.token_table.proofs.Laws.{no-tokens}
+use Rattle.compiler.proofs.Answers.{all-fits}
 use Rattle.compiler.proofs.compile_long.Statement.{statement}
 use Rattle.compiler.proofs.compile_long.Tie as tie
 

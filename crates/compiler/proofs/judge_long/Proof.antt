@@ -1,7 +1,7 @@
 -- `compiler::judge_long` meets its contract: the table has a word for each byte and one more.
 use native.Mathlib.Omega.{arith}
 use borrow.Author.Needs.{needs}
-use Rattle.compiler.proofs.Answers.{no-tokens}
+use Rattle.token_table.proofs.Laws.{no-tokens}
 use Rattle.compiler.proofs.judge_long.Statement.{statement}
 use Rattle.compiler.proofs.judge_long.Tie as tie
 

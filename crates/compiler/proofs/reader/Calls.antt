@@ -32,6 +32,7 @@ use Rattle.grammar.specs.Functions.{formNumber, operatorNumber, functionForm}
 use Rattle.grammar.specs.Parse.{Result, ok, andThen, expect, expectRange, callBody, expression, arguments}
 use Rattle.code.specs.declared.Instr.the-variants.{Unary, Binary, JumpIf, Tick, Since}
 use Rattle.tree_code.specs.Code.{branchTail}
+use Rattle.tree_code.proofs.Laws.{tail-short}
 use Rattle.draft.specs.private.Results.{Read, Done, Bad, readNext, readEnd, readKind, readWrong}
 use Rattle.draft.specs.private.Words.{unaryAt, binaryAt, functionOp, functionPair, isMark}
 use Rattle.draft.specs.private.Draft.{putInstr, chosenCode}
@@ -391,13 +392,7 @@ module _ (d c : ℕ) {s : List ℕ} {o o₁ : List ℕ} where
           (λ u n. last-goes d (λ us q. ok (choice p t u (argument 0 us)) q) y (λ a i. same-done (means-choice p m n q i v) refl));
     }
       where
-        short : (a b : Kind) → length (branchTail a b) ≤ 2
-        short K.Int K.Int = omega arith
-        short K.Int K.Real = omega arith
-        short K.Real K.Int = omega arith
-        short K.Real K.Real = omega arith
-
         reach : (at pc : ℕ) → at ≤ readNext c → pc ≤ readEnd c → readEnd c + 8 * at + 8 ≤ pc + 8 * readNext c → Bounds s (readNext c) (readEnd c + 1) j e
             → Bounds s j (e + 1) j′ e′
             → Span s at pc (Done j′ (e′ + length (branchTail k k′)) (join k k′) (earlier (readWrong c) (earlier w w′)))
-        reach at pc g h l a b = span-done {j = j′} {e = e′ + length (branchTail k k′)} (omega arith) (b .within) (omega arith) (omega (arith, short k k′))
+        reach at pc g h l a b = span-done {j = j′} {e = e′ + length (branchTail k k′)} (omega arith) (b .within) (omega arith) (omega (arith, tail-short k k′))

@@ -2,12 +2,11 @@
 use mathlib.Core.Path.{_≡_, refl, sym, ap, subst, _∙_}
 use mathlib.Core.Bool.{Bool, true, false, cond}
 use mathlib.Core.List.{List, [], _∷_}
-use Prim.Native.Nat.{ℕ, suc, _+_, _-_, _*_, _%_, _≤_, _<_}
+use Prim.Native.Nat.{ℕ, suc, _+_, _*_, _≤_, _<_}
 use native.Mathlib.Omega.{arith}
 use lib.Dec.{eqb, ltb, lit<}
-use lib.ListN.{length, getD, set, getD-replicate}
-use lib.Seq.{getD-drop}
-use borrow.Author.Tests.{eq-eqb, ne-eqb, eqb-true, le-leb, lt-leb, ltb-true, ltb-false}
+use lib.ListN.{length, set}
+use borrow.Author.Tests.{ne-eqb, eqb-true, le-leb, lt-leb}
 use Rattle.values.specs.declared.Kind.the-variants.{Int, Real}
 use Rattle.values.specs.declared.Value.the-variants as Value
 use Rattle.values.specs.declared.CompareOp.the-variants as C'
@@ -32,12 +31,13 @@ use Rattle.token_table.specs.private.Table as Sound
 use Rattle.token_table.proofs.Laws.{tok, tokenClass, tokenOperand, tokenNumber, class-packed, operand-packed, number-packed, place-packed, unpacked}
 use Rattle.token_table.proofs.Laws.{blank-end, from-is, from-end}
 use Rattle.grammar.specs.Tree.{Tree, literal, cell, clear, treeKind, diagnosticOf}
-use Rattle.grammar.specs.Symbols.{groups, groupNumber, group, isSymbol, Prefix, is, none, prefixOf}
+use Rattle.grammar.specs.Symbols.{groupNumber, group, isSymbol, Prefix, is, none, prefixOf}
 use Rattle.grammar.specs.Parse.{ok, binds, primary}
 use Rattle.tree_code.specs.Code.{codeOf}
 use Rattle.code.specs.Encode.{joinWord}
 use Rattle.draft.specs.private.Words.{unaryAt, bankAt, leafOpcode, isMark, prefixNumber, groupIn, placeAt}
 use Rattle.draft.specs.private.Draft.{putCode}
+use Rattle.draft.proofs.Marks.{low-half, mark-sound, group-sound, few-groups}
 use Rattle.compiler.specs.private.Reading.{DraftHolds}
 
 -- what comes next
@@ -69,29 +69,8 @@ look {s} {at} {w} h e = go w e (subst TokenWord (sym e) (h at))
         stands k lt (record { within = h .0; split = h .1 ∙ ap (λ (i : ℕ). tok t p ∷ tokensFrom s i) next })
 
 -- ---- a symbol that is asked for
-low-half : (w : ℕ) → w % 65536 ≡ wordClass w + 256 * wordOperand w
-low-half w = omega arith
-
-same-mark : (m n : ℕ) → eqb (6 + 256 * m) (6 + 256 * n) ≡ eqb m n
-same-mark m n = by (eqb m n) refl
-  where
-    by : (b : Bool) → eqb m n ≡ b → eqb (6 + 256 * m) (6 + 256 * n) ≡ b
-    by true e = let q = eqb-true m n e in eq-eqb (6 + 256 * m) (6 + 256 * n) (omega arith)
-    by false e = ne-eqb (6 + 256 * m) (6 + 256 * n) (λ q. let z : m ≡ n = omega arith in let y : _≡_ {A = ℕ} 0 1 = cc (eq-eqb m n z) in omega arith)
-
-other-mark : (c x n : ℕ) → c < 256 → (c ≡ 6 → ⊥) → eqb (c + 256 * x) (6 + 256 * n) ≡ false
-other-mark c x n h k = ne-eqb (c + 256 * x) (6 + 256 * n) (λ e. k (omega arith))
-
 mark-token : {t : Token} {p : ℕ} → Sound t → p < 65536 → (n : ℕ) → isMark n (packToken t p) ≡ isSymbol n t
-mark-token {t} {p} k lt n = rw (low-half (packToken t p), class-packed k p lt, operand-packed k p lt) (by k)
-  where
-    by : {t : Token} → Sound t → eqb (tokenClass t + 256 * tokenOperand t) (6 + 256 * n) ≡ isSymbol n t
-    by (Sound.int z h) = other-mark 1 0 n (lit< tt) (λ e. omega arith)
-    by (Sound.real x h) = other-mark 2 0 n (lit< tt) (λ e. omega arith)
-    by (Sound.cell b i h) = other-mark 3 (bankNumber b) n (lit< tt) (λ e. omega arith)
-    by (Sound.letter b) = other-mark 4 (bankNumber b) n (lit< tt) (λ e. omega arith)
-    by (Sound.name f) = other-mark 5 (functionNumber f) n (lit< tt) (λ e. omega arith)
-    by (Sound.symbol m h) = same-mark m n
+mark-token {t} {p} k lt n = rw (low-half (packToken t p), class-packed k p lt, operand-packed k p lt) (mark-sound k n)
 
 pub mark : {s : List ℕ} {at w : ℕ} → Look s at w → (n : ℕ) → isMark n w ≡ headIs n (tokensFrom s at)
 mark (nothing e) n = ne-eqb 0 (6 + 256 * n) (λ q. omega arith) ∙ ap (headIs n) (sym e)
@@ -173,29 +152,8 @@ pub record Operator (s : List ℕ) (at n p g : ℕ) : Type 0 where
   pub few : n < 20
   pub group : groupNumber n ≡ g
 
-few-groups : (n : ℕ) → n < 27 → (groupNumber n ≡ 0 → ⊥) → n < 20
-unfolding groupNumber
-few-groups n h z = by (ltb n 20) refl
-  where
-    late : 20 ≤ n → getD groups n 0 ≡ 0
-    late l =
-        let e : 20 + (n - 20) ≡ n = omega arith in
-        ap (λ (i : ℕ). getD groups i 0) (sym e) ∙ sym (getD-drop 20 groups (n - 20) 0) ∙ getD-replicate 7 (n - 20) 0 0 (omega arith)
-
-    by : (b : Bool) → ltb n 20 ≡ b → n < 20
-    by true e = ltb-true n 20 e
-    by false e = absurd (z (late (ltb-false n 20 e)))
-
 group-token : {t : Token} {p : ℕ} → Sound t → p < 65536 → groupIn (packToken t p) ≡ group t
-group-token {t} {p} k lt = rw (class-packed k p lt, operand-packed k p lt) (by k)
-  where
-    by : {t : Token} → Sound t → cond (eqb (tokenClass t) 6) (groupNumber (tokenOperand t)) 0 ≡ group t
-    by (Sound.int z h) = refl
-    by (Sound.real x h) = refl
-    by (Sound.cell b i h) = refl
-    by (Sound.letter b) = refl
-    by (Sound.name f) = refl
-    by (Sound.symbol m h) = refl
+group-token {t} {p} k lt = rw (class-packed k p lt, operand-packed k p lt) (group-sound k)
 
 pub operator-there : {s : List ℕ} {at w : ℕ} → Look s at w → (groupIn w ≡ 0 → ⊥) → Operator s at (wordOperand w) (wordPlace w) (groupIn w)
 operator-there (nothing e) z = absurd (z refl)
@@ -207,7 +165,7 @@ operator-there {s} {at} (stands {t} {p} k lt x) z = rw (group-token k lt, operan
     by (Sound.cell b i h) x n = absurd (n refl)
     by (Sound.letter b) x n = absurd (n refl)
     by (Sound.name f) x n = absurd (n refl)
-    by (Sound.symbol m h) x n = record { splits = x; few = few-groups m h n; group = refl }
+    by (Sound.symbol m h) x n = record { splits = x; few = few-groups m n; group = refl }
 
 pub no-operator : {s : List ℕ} {at w : ℕ} (l : ℕ) → Look s at w → groupIn w ≡ 0 → headBinds l (tokensFrom s at) ≡ false
 no-operator l (nothing e) z = ap (headBinds l) e

@@ -18,10 +18,12 @@ use Rattle.tokens.specs.Bytes.{isLetter, isWord, isRun, runLen}
 use Rattle.tokens.specs.Numerals.{nonEmpty, behindDigits, hasPart, behindPart, behindMantissa, isSign, opensExponent, tailLen, numeralLen, numeralOf}
 use Rattle.tokens.specs.Symbols.{symbols, symbolCount, symbolBytes, longest}
 use Rattle.tokens.specs.Words.{wordToken}
-use Rattle.tokens.specs.Scan.{Lexeme, Found, lexeme, runLexeme, numeralLexeme, symbolLexeme, lexemeOf}
+use Rattle.tokens.specs.Scan.{Found, lexeme, symbolLexeme, lexemeOf}
+use Rattle.tokens.specs.Theorems.{first}
 use Rattle.tokens.proofs.Laws.{Lies, found}
 use Rattle.tokens.proofs.Known.{Known, known}
-use Rattle.tokens.proofs.Tests.{by-test, choose, no}
+use Rattle.tokens.proofs.Tests.{by-test, no}
+use Rattle.tokens.proofs.Theorems.{digit-lexeme, letter-lexeme, symbol-lexeme}
 use Rattle.format_writer.specs.private.Spelling.{StandsAt}
 
 -- ---- a dot and digits
@@ -145,20 +147,6 @@ known-symbol (Known.letter b) e = let z : _≡_ {A = ℕ} 0 1 = cc in absurd (om
 known-symbol (Known.name f) e = let z : _≡_ {A = ℕ} 0 1 = cc in absurd (omega arith)
 known-symbol {n = n} (Known.sign m h) e = let q : m ≡ n = cc in omega arith
 
-pub digit-lexeme : (c : ℕ) (cs : List ℕ) (p : ℕ) → isDigit c ≡ true → lexemeOf (c ∷ cs) p ≡ numeralLexeme (c ∷ cs) p
-unfolding lexemeOf
-digit-lexeme c cs p d = choose (λ (x : Lexeme). x ≡ numeralLexeme (c ∷ cs) p) (isDigit c) _ _ (λ m. refl) (λ m. no (sym m ∙ d))
-
-pub letter-lexeme : (c : ℕ) (cs : List ℕ) (p : ℕ) → isDigit c ≡ false → isLetter c ≡ true → lexemeOf (c ∷ cs) p ≡ runLexeme isWord wordToken (c ∷ cs) p
-unfolding lexemeOf
-letter-lexeme c cs p d l =
-    let Is : Lexeme → Type 0 = λ x. x ≡ runLexeme isWord wordToken (c ∷ cs) p in
-    choose Is (isDigit c) _ _ (λ m. no (sym d ∙ m)) (λ m. choose Is (isLetter c) _ _ (λ k. refl) (λ k. no (sym k ∙ l)))
-
-pub symbol-lexeme : (c : ℕ) (cs : List ℕ) (p : ℕ) → isDigit c ≡ false → isLetter c ≡ false → lexemeOf (c ∷ cs) p ≡ symbolLexeme p (longest (c ∷ cs))
-unfolding lexemeOf
-symbol-lexeme c cs p d l = rw (d, l)
-
 module _ {s : List ℕ} {p n : ℕ} (h : StandsAt s p n) where
   pub lies : Lies s p p (h .end)
   lies = found s p (h .stands)
@@ -177,12 +165,12 @@ module _ {s : List ℕ} {p n : ℕ} (h : StandsAt s p n) where
 
   pub numeral-ends : {r : ℕ} → isDigit (getD s p 0) ≡ true → r ≡ p + numeralLen (drop p s) → r ≡ h .end
   numeral-ends d e = e ∙ ap (λ (x : List ℕ). p + numeralLen x) split
-      ∙ sym (judged-end p (numeralLen front) (numeralOf (take (numeralLen front) front)) (sym (digit-lexeme (getD s p 0) (drop (suc p) s) p d) ∙ lexed))
+      ∙ sym (judged-end p (numeralLen front) (numeralOf (take (numeralLen front) front)) (sym (digit-lexeme front p (first d)) ∙ lexed))
 
   pub word-ends : {r : ℕ} → isDigit (getD s p 0) ≡ false → isLetter (getD s p 0) ≡ true → r ≡ p + runLen isWord (drop p s) → r ≡ h .end
   word-ends d l e = e ∙ ap (λ (x : List ℕ). p + runLen isWord x) split
       ∙ sym (judged-end p (runLen isWord front) (wordToken (take (runLen isWord front) front))
-      (sym (letter-lexeme (getD s p 0) (drop (suc p) s) p d l) ∙ lexed))
+      (sym (letter-lexeme (getD s p 0) (drop (suc p) s) p l) ∙ lexed))
 
   pub symbol-found : isDigit (getD s p 0) ≡ false → isLetter (getD s p 0) ≡ false
       → (h .token ≡ Symbol (longest (getD s p 0 ∷ drop (suc p) s))) × (h .end ≡ p + length (symbolBytes (longest (getD s p 0 ∷ drop (suc p) s))))

@@ -1,7 +1,8 @@
 -- `written` meets its contract.
 use native.Mathlib.Omega.{arith}
 use borrow.Author.Needs.{needs}
-use Rattle.formatter.proofs.Whole.{accepted-short, no-tokens}
+use Rattle.token_table.proofs.Laws.{no-tokens}
+use Rattle.formatter.proofs.Whole.{accepted-short}
 use Rattle.formatter.proofs.written.Statement.{statement}
 use Rattle.formatter.proofs.written.Tie as tie
 

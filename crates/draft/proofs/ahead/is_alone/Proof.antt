@@ -1,18 +1,8 @@
 -- `ahead::is_alone` meets its contract: its tests are those of `isAlone`.
-use mathlib.Core.Path.{_≡_, refl, sym}
-use mathlib.Core.Bool.{Bool, true, false, not}
-use borrow.Author.Tests.{eq-eqb, ne-eqb}
+use borrow.Author.Tests.{eq-eqb, ne-eqb, not-true, not-false}
 use borrow.Author.Needs.{needs}
 use Rattle.draft.proofs.ahead.is_alone.Statement.{statement}
 use Rattle.draft.proofs.ahead.is_alone.Tie as tie
-
-unmet : (b : Bool) → not b ≡ true → b ≡ false
-unmet true h = sym h
-unmet false h = refl
-
-met : (b : Bool) → not b ≡ false → b ≡ true
-met true h = refl
-met false h = sym h
 
 word-at-requires : tie.Need-word-at-requires
 word-at-requires c κs = search needs
@@ -21,7 +11,7 @@ is-leaf-requires : tie.Need-is-leaf-requires
 is-leaf-requires c κs = search needs
 
 returns : tie.Need-returns
-returns c = rw (← c .before .before .word-at .ensures, ← c .before .is-leaf .ensures, unmet (c .before .is-leaf .result) (c .if1 .taken))
+returns c = rw (← c .before .before .word-at .ensures, ← c .before .is-leaf .ensures, not-true (c .before .is-leaf .result) (c .if1 .taken))
 
 add-word-at : tie.Need-add-word-at
 add-word-at c = search needs
@@ -36,7 +26,7 @@ returns-2 : tie.Need-returns-2
 returns-2 c = rw (
   ← c .before .before .before .before .before .word-at .ensures,
   ← c .before .before .before .before .is-leaf .ensures,
-  met (c .before .before .before .before .is-leaf .result) (c .before .before .before .if1 .left),
+  not-false (c .before .before .before .before .is-leaf .result) (c .before .before .before .if1 .left),
   ← c .before .before .word-at2 .ensures,
   ← c .before .group-in .ensures,
   eq-eqb _ 0 (c .if2 .taken),
@@ -46,7 +36,7 @@ returns-3 : tie.Need-returns-3
 returns-3 c = rw (
   ← c .before .before .before .before .before .word-at .ensures,
   ← c .before .before .before .before .is-leaf .ensures,
-  met (c .before .before .before .before .is-leaf .result) (c .before .before .before .if1 .left),
+  not-false (c .before .before .before .before .is-leaf .result) (c .before .before .before .if1 .left),
   ← c .before .before .word-at2 .ensures,
   ← c .before .group-in .ensures,
   ne-eqb _ 0 (c .if2 .left),

@@ -2,8 +2,9 @@
 use mathlib.Core.Path.{refl, sym, _∙_}
 use native.Mathlib.Omega.{arith}
 use lib.Seq.{length-take-le}
-use Rattle.log_lines.proofs.Entries.{value-of, no-key, tick-line, run-line, cell-line, inside-too}
+use Rattle.log_lines.proofs.Entries.{no-key, tick-line, run-line, cell-line, inside-too}
 use borrow.Author.Needs.{needs}
+use Rattle.program.proofs.case.Effects.{value-of}
 use Rattle.log_lines.proofs.entry.entry_of.Statement.{statement}
 use Rattle.log_lines.proofs.entry.entry_of.Tie as tie
 
