@@ -3,7 +3,7 @@
 use mathlib.Core.List.{List, [], _∷_}
 use Prim.Native.Nat.{ℕ, _%_, _^_}
 use Rattle.memory.specs.Numbers.{bankNumber}
-use Rattle.operations.specs.declared.Answer.{Answer}
+use Rattle.delivery.specs.declared.Answer.{Answer}
 use Rattle.operations.specs.declared.Report.{Report}
 use Rattle.operations.specs.Operations.{reportOf, kindWord, bitsOf}
 

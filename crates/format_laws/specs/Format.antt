@@ -9,8 +9,8 @@ use lib.ListN.{length}
 use lib.Seq.{sets}
 use Rattle.grammar.specs.Parse.{mostOpen}
 use Rattle.text.specs.Judge.{Judgement, accepted, refused, judge, judgeFrom}
-use Rattle.operations.specs.declared.Answer.{Answer}
-use Rattle.operations.specs.declared.Answer.the-variants.{Refused}
+use Rattle.delivery.specs.declared.Answer.{Answer}
+use Rattle.delivery.specs.declared.Answer.the-variants.{Refused}
 use Rattle.operations.specs.Operations.{doneWith}
 use Rattle.format_laws.specs.Formatted.{formatted, levels}
 

@@ -10,7 +10,7 @@ use Rattle.grammar.specs.Eval.{eval}
 use Rattle.grammar.specs.Parse.{mostOpen}
 use Rattle.text.specs.Judge.{accepted, refused, judge}
 use Rattle.tree_code.specs.Code.{codeOf}
-use Rattle.operations.specs.declared.Answer.the-variants.{Refused}
+use Rattle.delivery.specs.declared.Answer.the-variants.{Refused}
 use Rattle.operations.specs.Operations.{doneWith}
 use Rattle.format_laws.specs.Formatted.{formatted, levels, withoutPlaces, spellings}
 use Rattle.format_laws.specs.Format.{textLimit, gives, refuses, formatting, formatAnswer, formatBuffer}

@@ -27,8 +27,8 @@ use Rattle.profile_text.proofs.Judging.{same-tokens}
 use Rattle.compiler.specs.declared.Coded.{Coded}
 use Rattle.compiler.specs.declared.Coded.the-variants as Coded
 use Rattle.compiler.specs.Compile.{codedAnswer}
-use Rattle.operations.specs.declared.Answer.{Answer}
-use Rattle.operations.specs.declared.Answer.the-variants as Answer
+use Rattle.delivery.specs.declared.Answer.{Answer}
+use Rattle.delivery.specs.declared.Answer.the-variants as Answer
 use Rattle.operations.specs.Operations.{doneWith}
 use Rattle.format_laws.specs.Formatted.{formatted, top, levels}
 use Rattle.format_laws.specs.Format.{textLimit, Formatting, ofText, formatting, answerOf, bufferAfter, formatAnswer, formatBuffer}

@@ -6,7 +6,7 @@ use Prim.Native.Nat.{ℕ}
 use native.Mathlib.Omega.{arith}
 use Rattle.values.specs.declared.Value.{Value}
 use Rattle.operators.specs.Reals.{realValue}
-use Rattle.operations.specs.declared.Answer.{Answer}
+use Rattle.delivery.specs.declared.Answer.{Answer}
 use Rattle.operations.specs.Operations.{reportOf}
 use Rattle.promises.specs.Promises.{Operation}
 use Rattle.profile_laws.specs.Results.{resultFor}

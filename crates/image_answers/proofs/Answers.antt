@@ -28,8 +28,8 @@ use Rattle.verifier.specs.Verdicts.{verdict}
 use Rattle.tree_code.specs.Code.{codeOf}
 use Rattle.targets.specs.declared.Element.{Element}
 use Rattle.targets.specs.declared.Element.the-variants.{Is, By}
-use Rattle.operations.specs.declared.Answer.{Answer}
-use Rattle.operations.specs.declared.Answer.the-variants.{Fault}
+use Rattle.delivery.specs.declared.Answer.{Answer}
+use Rattle.delivery.specs.declared.Answer.the-variants.{Fault}
 use Rattle.operations.specs.Operations.{Destination, cell, fault, lost, Arrival, reached, destinationOf, afterStore, Goal, to, none, valueAnswer}
 use Rattle.operations.specs.Operations.{Request, stores, stops}
 use Rattle.operations.specs.Operations.{runsIn, arrivalIn, indexBegunIn, arrivalOfIn, arrivedAnswerIn, arrivedMemoryIn, followAnswerIn, followMemoryIn}

@@ -7,7 +7,7 @@ use lib.Dec.{ltb}
 use lib.ListN.{length, replicate}
 use Rattle.memory.specs.Layout.{packed}
 use Rattle.images.specs.Bytewise.{bytewise}
-use Rattle.operations.specs.declared.Answer.{Answer}
+use Rattle.delivery.specs.declared.Answer.{Answer}
 use Rattle.operations.specs.Operations.{reportOf, Request, requestIn, requestAnswerIn, requestMemoryIn, requestCode, requestIndex}
 use Rattle.list_laws.specs.Running.{Listed, Buffers, ListRun, mostListed, requestOfIn, answeredIn, steppedIn, afterIn, answersOfIn}
 use Rattle.image_answers.specs.Answers.{Alike}

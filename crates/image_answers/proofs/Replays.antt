@@ -18,8 +18,8 @@ use Rattle.memory.specs.Cells.{bitOf}
 use Rattle.images.specs.Bytewise.{oldSize, cellAt, bytewise}
 use Rattle.images.specs.Conversions.{normalized, truthOf, Corresponds}
 use Rattle.images.proofs.Theorems.{image-theorems}
-use Rattle.operations.specs.declared.Answer.{Answer}
-use Rattle.operations.specs.declared.Answer.the-variants.{Done, Fault, Refused}
+use Rattle.delivery.specs.declared.Answer.{Answer}
+use Rattle.delivery.specs.declared.Answer.the-variants.{Done, Fault, Refused}
 use Rattle.operations.specs.Operations.{reportOf, Request, requestIn, requestAnswerIn, requestMemoryIn}
 use Rattle.operations.proofs.Cells.{done-inside}
 use Rattle.lines.specs.Printing.{signedText, cellText, cellName}

@@ -6,7 +6,7 @@ use Rattle.values.specs.declared.Value.{Value}
 use Rattle.memory.specs.Layout.{packed}
 use Rattle.images.specs.Bytewise.{bytewise}
 use Rattle.images.specs.Conversions.{Corresponds}
-use Rattle.operations.specs.declared.Answer.{Answer}
+use Rattle.delivery.specs.declared.Answer.{Answer}
 use Rattle.operations.specs.Operations.{runAnswerIn, runMemoryIn, evaluateAnswerIn, givenAnswerIn, givenMemoryIn}
 use Rattle.operations.specs.Operations.{Request, requestIn, requestAnswerIn, requestMemoryIn}
 

@@ -12,8 +12,8 @@ use Rattle.memory.specs.Cells.{readRule}
 use Rattle.memory.specs.Environment.{Environment, memoryAt}
 use Rattle.read_laws.specs.Theorems.{AlikeOn}
 use Rattle.read_answers.proofs.Laws.{answer-theorems}
-use Rattle.operations.specs.declared.Answer.{Answer}
-use Rattle.operations.specs.declared.Answer.the-variants.{Refused}
+use Rattle.delivery.specs.declared.Answer.{Answer}
+use Rattle.delivery.specs.declared.Answer.the-variants.{Refused}
 use Rattle.operations.specs.Operations.{reportOf, Request, request, requestAnswer, requestMemory}
 use Rattle.operations.proofs.Requests.{no-memory}
 use Rattle.list_laws.specs.Running.{Listed, Buffers, requestOf, stepped, answered, after, answersOf}

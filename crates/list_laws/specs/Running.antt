@@ -5,7 +5,7 @@ use Prim.Native.Nat.{ℕ, _-_}
 use lib.Dec.{ltb}
 use lib.ListN.{length, take, drop, replicate}
 use Rattle.memory.specs.Layout.{ImageLayout, packed}
-use Rattle.operations.specs.declared.Answer.{Answer}
+use Rattle.delivery.specs.declared.Answer.{Answer}
 use Rattle.operations.specs.Operations.{reportOf, Request, requestIn, requestAnswerIn, requestMemoryIn, requestCode, requestIndex}
 
 -- a formula of the list: the text of its target and its own

@@ -27,8 +27,8 @@ use Rattle.targets.specs.Found.{indexBytes}
 use Rattle.targets.proofs.Theorems.{indexed}
 use Rattle.lines.specs.Printing.{letterByte}
 use Rattle.code_listing.specs.Listing.{linesFrom, listingRoom, verdictListed, listed}
-use Rattle.operations.specs.declared.Answer.{Answer}
-use Rattle.operations.specs.declared.Answer.the-variants.{Done, Fault, Refused}
+use Rattle.delivery.specs.declared.Answer.{Answer}
+use Rattle.delivery.specs.declared.Answer.the-variants.{Done, Fault, Refused}
 use Rattle.operations.specs.Operations.{reportOf, compileAnswer, targetAnswer, compileTargetAnswer, compileTargetCode, ofText, ofTarget}
 use Rattle.program.specs.Cases.{zeros}
 use Rattle.listing_reply.specs.Reply.{indexLines, refusalText, requestText, listingText}

@@ -10,7 +10,7 @@ use Rattle.text.specs.Targets.{Target, toCell, toIndexed, noTarget}
 use Rattle.tree_code.specs.Code.{codeOf}
 use Rattle.code_listing.specs.Listing.{linesFrom}
 use Rattle.operations.specs.declared.Report.{Report}
-use Rattle.operations.specs.declared.Answer.the-variants.{Refused}
+use Rattle.delivery.specs.declared.Answer.the-variants.{Refused}
 use Rattle.operations.specs.Operations.{reportOf, Request, stores, stops, request}
 use Rattle.program.specs.Cases.{zeros, caseOf}
 use Rattle.program.specs.Reply.{reportText, unreadLine}

@@ -32,8 +32,8 @@ use Rattle.machine.specs.declared.Ended.{Ended}
 use Rattle.machine.specs.declared.Ended.the-variants as Ended
 use Rattle.machine.specs.Machine.{runsAt, endOf}
 use Rattle.tree_code.specs.Code.{codeOf}
-use Rattle.operations.specs.declared.Answer.{Answer}
-use Rattle.operations.specs.declared.Answer.the-variants.{Done, Fault, Refused}
+use Rattle.delivery.specs.declared.Answer.{Answer}
+use Rattle.delivery.specs.declared.Answer.the-variants.{Done, Fault, Refused}
 use Rattle.operations.specs.declared.Report.{Report}
 use Rattle.operations.specs.Operations.{reportOf, Destination, cell, fault, lost, Arrival, arrivalOf, afterStore, arrivedAnswer, arrivedMemory, finished}
 use Rattle.operations.specs.Operations.{memoryAfter, Request, stores, stops, ofText, ofTarget, request, requestAnswer, requestMemory}

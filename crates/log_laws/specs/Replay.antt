@@ -7,7 +7,7 @@ use lib.Dec.{eqb, ltb}
 use lib.ListN.{length, drop}
 use Rattle.words.specs.Ascii.{ascii}
 use Rattle.memory.specs.Layout.{ImageLayout, packed}
-use Rattle.operations.specs.declared.Answer.the-variants.{Refused}
+use Rattle.delivery.specs.declared.Answer.the-variants.{Refused}
 use Rattle.operations.specs.Operations.{reportOf, Request, requestIn, requestAnswerIn, requestMemoryIn}
 use Rattle.lines.specs.Printing.{decimalText}
 use Rattle.program.specs.Cases.{zeros}

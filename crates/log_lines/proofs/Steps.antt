@@ -10,7 +10,7 @@ use borrow.Author.Tests.{eq-eqb, lt-ltb}
 use Rattle.words.specs.Ascii.{ascii}
 use Rattle.memory.specs.declared.Bank.{Bank}
 use Rattle.memory.specs.Layout.{imageSize, layoutOf, hasCell, packed}
-use Rattle.operations.specs.declared.Answer.{Answer}
+use Rattle.delivery.specs.declared.Answer.{Answer}
 use Rattle.operations.specs.Operations.{request, requestAnswer, requestMemory}
 use Rattle.operations.proofs.Cells.{done-inside}
 use Rattle.lines.specs.Printing.{decimalText}

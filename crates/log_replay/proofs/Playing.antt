@@ -11,7 +11,7 @@ use lib.Seq.{drop-cons, drop-drop, length-sets, length-take-le}
 use borrow.Author.Tests.{lt-ltb, le-ltb, ltb-true, ltb-false}
 use Rattle.words.proofs.Lists.{rest-of}
 use Rattle.memory.specs.Layout.{imageSize}
-use Rattle.operations.specs.declared.Answer.the-variants.{Refused}
+use Rattle.delivery.specs.declared.Answer.the-variants.{Refused}
 use Rattle.operations.specs.declared.Report.{Report}
 use Rattle.operations.specs.Operations.{reportOf}
 use Rattle.lines.specs.private.Steps.{Puts}

@@ -21,8 +21,8 @@ use Rattle.machine.specs.declared.Ended.{Ended}
 use Rattle.machine.specs.declared.Ended.the-variants as Ended
 use Rattle.machine.specs.Machine.{runsAt, endOf}
 use Rattle.tree_code.specs.Code.{codeOf}
-use Rattle.operations.specs.declared.Answer.{Answer}
-use Rattle.operations.specs.declared.Answer.the-variants.{Done, Fault, Refused}
+use Rattle.delivery.specs.declared.Answer.{Answer}
+use Rattle.delivery.specs.declared.Answer.the-variants.{Done, Fault, Refused}
 use Rattle.operations.specs.Operations.{Destination, cell, fault, lost, Arrival, arrivalOf, afterStore, arrivedAnswer, finished}
 use Rattle.operations.specs.Operations.{Request, stores, stops, requestAnswer}
 

@@ -26,7 +26,7 @@ use Rattle.targets.specs.declared.Element.the-variants.{Is, By}
 use Rattle.targets.specs.declared.Found.{Found}
 use Rattle.targets.specs.declared.Found.the-variants.{In, Other}
 use Rattle.targets.specs.Found.{foundToRun}
-use Rattle.operations.specs.declared.Answer.the-variants.{Refused}
+use Rattle.delivery.specs.declared.Answer.the-variants.{Refused}
 use Rattle.operations.specs.Operations.{verdictAnswer, checkAnswer, reached, Arrival, arrival, Goal, to, none, isAccepted, indexPasses, givenGoalOf}
 use Rattle.operations.specs.Operations.{goalOf, goal, givenGoal, finished, memoryAfter, followAnswer, followMemory, ranAnswer, ranMemory, runAnswer}
 use Rattle.operations.specs.Operations.{runMemory, valueAnswer, evaluateAnswer, gaveAnswer, gaveMemory, givenAnswer, givenMemory, ofText}

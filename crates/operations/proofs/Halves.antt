@@ -1,21 +1,14 @@
--- `evaluate_in` and `store_in`: a given value, and what each refusal and each way answers.
+-- `evaluate_in` and `store_in`: what each refusal and each way answers.
 use mathlib.Core.Path.{_≡_, refl, sym, ap, _∙_}
-use mathlib.Core.Bool.{Bool, true, false, not, cond}
+use mathlib.Core.Bool.{Bool, true, false, cond}
 use mathlib.Core.List.{List}
 use Prim.Native.Nat.{ℕ}
-use lib.Dec.{eqb}
 use lib.ListN.{length}
-use lib.Ieee as Ieee
-use lib.Ieee.{binary32}
-use borrow.Author.Tests.{eq-eqb, ne-eqb}
 use Rattle.values.specs.declared.Value.{Value}
-use Rattle.values.specs.declared.Value.the-variants.{Int, Real}
 use Rattle.values.specs.declared.Fault.the-variants.{OutOfRange}
-use Rattle.values.specs.Patterns.{signedOf}
 use Rattle.memory.specs.declared.Bank.{Bank}
 use Rattle.memory.specs.Layout.{imageSize}
 use Rattle.memory.specs.Store.{isFinite, withFlag}
-use Rattle.profile.specs.Parts.{realValue}
 use Rattle.code.specs.Instructions.{instructions}
 use Rattle.machine.specs.declared.Ran.{Ran}
 use Rattle.machine.specs.Profile.{runsIn}
@@ -25,29 +18,14 @@ use Rattle.targets.specs.declared.Element.{Element}
 use Rattle.targets.specs.declared.Found.{Found}
 use Rattle.targets.specs.declared.Found.the-variants.{In}
 use Rattle.targets.specs.Found.{runTargetIn}
-use Rattle.operations.specs.declared.Answer.{Answer}
-use Rattle.operations.specs.declared.Answer.the-variants.{Fault, Refused}
-use Rattle.operations.specs.Operations.{to, none, followAnswer, followMemory, valueAnswer, givenValue}
+use Rattle.delivery.specs.declared.Answer.{Answer}
+use Rattle.delivery.specs.declared.Answer.the-variants.{Fault, Refused}
+use Rattle.operations.specs.Operations.{to, none, followAnswer, followMemory, valueAnswer}
 use Rattle.operations.specs.Profile.{arrivalFor, indexPassesFor, evaluateAnswerFor, givenGoalOfFor, givenGoalFor, unstorable, gaveAnswerFor}
 use Rattle.operations.specs.Profile.{gaveMemoryFor, givenAnswerFor, givenMemoryFor}
+use Rattle.delivery.proofs.Following.{infinite-answer, infinite-memory}
 use Rattle.operations.proofs.Verdicts.{wrong-size, right-size}
 use Rattle.operations.proofs.Giving.{wrong-image, right-image}
-
--- ---- the value
-
-module _ (kind bits : ℕ) where
-  pub integer : kind ≡ 0 → givenValue kind bits ≡ Int (signedOf 32 bits)
-  integer h = rw (eq-eqb kind 0 h)
-
-  pub real : (kind ≡ 0 → ⊥) → givenValue kind bits ≡ Real (Ieee.ofBits binary32 bits)
-  real h = rw (ne-eqb kind 0 h)
-
-  pub given-kind : not (eqb kind 0) ≡ realValue (givenValue kind bits)
-  given-kind = by (eqb kind 0)
-    where
-      by : (b : Bool) → not b ≡ realValue (cond b (Int (signedOf 32 bits)) (Real (Ieee.ofBits binary32 bits)))
-      by true = refl
-      by false = refl
 
 -- ---- evaluate
 
@@ -85,7 +63,9 @@ module _ (reals : Bool) (tick : ℕ) (v : Value) (target index : List ℕ) (k : 
 
     module _ (u : unstorable reals v ≡ false) where
       pub infinite : {r : Answer} {m′ : List ℕ} → isFinite v ≡ false → (r ≡ Fault OutOfRange 0) × (m′ ≡ withFlag m OutOfRange) → Stores r m′
-      infinite h w = rw (g, u, h) w
+      infinite h w =
+          let a = arrivalFor reals tick index m b e in
+          rw (g, u) (w .0 ∙ sym (infinite-answer m v h 0 a), w .1 ∙ sym (infinite-memory m v h a))
 
       pub follows : {w : Value} {r : Answer} {m′ : List ℕ} → w ≡ v
           → (r ≡ followAnswer m w 0 (arrivalFor reals tick index m b e)) × (m′ ≡ followMemory m w (arrivalFor reals tick index m b e)) → Stores r m′

@@ -5,6 +5,5 @@ pub mod Cells
 pub mod Giving
 pub mod Full
 mod Runs
-mod Following
 mod Halves
 mod Performing

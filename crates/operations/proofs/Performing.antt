@@ -32,10 +32,10 @@ use Rattle.targets.specs.declared.Found.the-variants.{In}
 use Rattle.targets.specs.declared.Found.the-variants as Found
 use Rattle.targets.specs.Found.{foundOf, indexBytes}
 use Rattle.targets.proofs.Theorems.{indexed}
-use Rattle.operations.specs.declared.Answer.{Answer}
+use Rattle.delivery.specs.declared.Answer.{Answer}
 use Rattle.operations.specs.Operations.{arrivalOf, finished, memoryAfter, Request, stops, ofText}
 use Rattle.operations.specs.Profile.{arrivalFor, ofTargetFor}
-use Rattle.operations.specs.private.Bounds.{Few, none, some}
+use Rattle.delivery.specs.private.Bounds.{Few, none, some}
 use Rattle.operations.proofs.Verdicts.{Finishes}
 use Rattle.operations.proofs.Requests.{kinded, run-code, run-tree, arrives, Performs}
 use Rattle.operations.proofs.Full.{arrival-same}

@@ -31,8 +31,8 @@ use Rattle.targets.specs.declared.Found.the-variants.{In}
 use Rattle.targets.specs.declared.Found.the-variants as Found
 use Rattle.targets.specs.Found.{foundOf, indexBytes}
 use Rattle.targets.proofs.Theorems.{indexed}
-use Rattle.operations.specs.declared.Answer.{Answer}
-use Rattle.operations.specs.declared.Answer.the-variants.{Done, Refused}
+use Rattle.delivery.specs.declared.Answer.{Answer}
+use Rattle.delivery.specs.declared.Answer.the-variants.{Done, Refused}
 use Rattle.operations.specs.Operations.{doneWith, compileAnswer, targetAnswer, reached, arrival, arrivalOf}
 use Rattle.operations.specs.Operations.{Request, stops, ofText, ofTarget, request, requestAnswer, requestMemory, requestCode, requestIndex}
 

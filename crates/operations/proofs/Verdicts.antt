@@ -1,44 +1,28 @@
 -- The check and the run of the full box: accepted code, and where its value goes.
 use mathlib.Core.Path.{_≡_, refl, ap, _∙_}
-use mathlib.Core.Bool.{Bool, true, false, cond}
-use mathlib.Core.List.{List, [], _∷_}
-use Prim.Native.Nat.{ℕ, suc, _+_, _≤_}
+use mathlib.Core.Bool.{Bool, cond}
+use mathlib.Core.List.{List}
+use Prim.Native.Nat.{ℕ}
 use native.Mathlib.Omega.{arith}
-use lib.Dec.{eqb, ltb}
+use lib.Dec.{eqb}
 use lib.ListN.{length}
 use borrow.Author.Tests.{eq-eqb, ne-eqb}
 use Rattle.values.specs.declared.Kind.{Kind}
 use Rattle.memory.specs.declared.Bank.{Bank}
 use Rattle.memory.specs.Layout.{imageSize}
-use Rattle.memory.specs.Environment.{memoryAt}
-use Rattle.code.specs.declared.Instr.{Instr}
 use Rattle.code.specs.Instructions.{instructions}
-use Rattle.code.proofs.Parts.{decode-length}
 use Rattle.machine.specs.declared.Ran.{Ran}
-use Rattle.machine.specs.Machine.{rangeCells, rangesOf, runsAt}
 use Rattle.verifier.specs.declared.Verdict.{Verdict}
 use Rattle.verifier.specs.declared.Verdict.the-variants as Verdict
 use Rattle.verifier.specs.Accepts.{Accepts}
 use Rattle.verifier.specs.Verdicts.{verdict}
-use Rattle.verifier.proofs.Safe.{safe}
 use Rattle.verifier.proofs.Verdicts.{verdict-laws}
 use Rattle.targets.specs.declared.Element.{Element}
 use Rattle.targets.specs.declared.Found.{Found}
 use Rattle.targets.specs.declared.Found.the-variants.{In}
 use Rattle.targets.specs.Found.{foundToRun}
-use Rattle.operations.specs.declared.Answer.{Answer}
+use Rattle.delivery.specs.declared.Answer.{Answer}
 use Rattle.operations.specs.Operations.{doneWith, verdictAnswer, checkAnswer, Goal, to, none, indexPasses, goalOf, goal, Arrival, finished, memoryAfter}
-use Rattle.operations.specs.private.Bounds.{mostBegun}
-
--- ---- counts
-
-one-more : (t : Bool) (a b : ℕ) → a ≤ b → cond t 1 0 + a ≤ suc b
-one-more true a b h = omega (arith, h)
-one-more false a b h = omega (arith, h)
-
-few-ranges : (c : List Instr) → rangesOf c ≤ length c
-few-ranges [] = omega arith
-few-ranges (i ∷ c) = one-more (ltb 0 (rangeCells i)) (rangesOf c) (length c) (few-ranges c)
 
 -- accepted is what the check answers with 0
 module _ (code : List ℕ) (n : ℕ) where
@@ -51,10 +35,6 @@ module _ (code : List ℕ) (n : ℕ) where
 
   pub passes : {k : Kind} → Accepts (instructions code n) k → checkAnswer code n ≡ doneWith 0
   passes {k} a = ap verdictAnswer (verdict-laws .exact (instructions code n) k .1 a)
-
-  -- no more begun than instructions and cells of their ranges
-  pub few-begun : (tick : ℕ) (m : List ℕ) → n ≤ 2048 → runsAt tick code n m .count ≤ mostBegun
-  few-begun tick m h = omega (arith, safe .counts-code (memoryAt tick m) code n, few-ranges (instructions code n), decode-length code 0 n)
 
 -- ---- where the value goes
 

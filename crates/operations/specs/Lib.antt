@@ -1,3 +1,2 @@
 pub mod Operations
 pub mod Profile
-pub mod private

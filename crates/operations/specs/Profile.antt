@@ -1,15 +1,13 @@
 -- The operations of the full box (reals true) and of the profile without reals (false; paper 02, Ask 12): what each answers and writes, for every input. Each
 -- is the definition of Operations.antt over `judgeIn`, `targetIn`, `verdictIn` and `runsIn`. (The names `..In` of that file say that an image has any layout.)
-use mathlib.Core.Bool.{Bool, true, false, cond}
+use mathlib.Core.Bool.{Bool, cond}
 use mathlib.Core.List.{List}
 use Prim.Native.Nat.{ℕ}
 use lib.Dec.{eqb, ltb}
 use lib.ListN.{length}
 use Rattle.values.specs.declared.Value.{Value}
-use Rattle.memory.specs.declared.Bank.{Bank}
 use Rattle.memory.specs.Layout.{imageSize}
 use Rattle.text.specs.Targets.{Target, toCell, toIndexed, noTarget}
-use Rattle.profile.specs.Parts.{realValue}
 use Rattle.profile_text.specs.Judge.{judgeIn}
 use Rattle.profile_text.specs.Targets.{targetIn}
 use Rattle.code.specs.Instructions.{instructions}
@@ -18,14 +16,13 @@ use Rattle.machine.specs.Profile.{runsIn}
 use Rattle.verifier.specs.declared.Verdict.{Verdict}
 use Rattle.verifier.specs.Profile.{verdictIn}
 use Rattle.compiler.specs.Compile.{compilingIn, codedBytes}
-use Rattle.targets.specs.declared.Element.{Element}
-use Rattle.targets.specs.declared.Element.the-variants.{Is, By}
 use Rattle.targets.specs.declared.Found.{Found}
 use Rattle.targets.specs.declared.Found.the-variants as Found
 use Rattle.targets.specs.Found.{runTargetIn, indexBytes}
-use Rattle.operations.specs.declared.Answer.{Answer}
-use Rattle.operations.specs.declared.Answer.the-variants.{Refused}
-use Rattle.operations.specs.Operations.{compileAnswer, verdictAnswer, targetAnswer, cell, reached, Arrival, Goal, to, none, isAccepted, valueAnswer}
+use Rattle.delivery.specs.declared.Answer.{Answer}
+use Rattle.delivery.specs.declared.Answer.the-variants.{Refused}
+pub use Rattle.delivery.specs.Profile.{arrivalFor, indexPassesFor, unstorable}
+use Rattle.operations.specs.Operations.{compileAnswer, verdictAnswer, targetAnswer, Goal, to, none, isAccepted, valueAnswer}
 use Rattle.operations.specs.Operations.{finished, memoryAfter, followAnswer, followMemory, Request, stops, ofText}
 
 -- ---- compile
@@ -50,14 +47,6 @@ abbrev pub checkAnswerFor : Bool → List ℕ → ℕ → Answer
 checkAnswerFor reals code n = verdictAnswer (verdictIn reals (instructions code n))
 
 -- ---- run
-
-abbrev pub arrivalFor : Bool → ℕ → List ℕ → List ℕ → Bank → Element → Arrival
-arrivalFor reals tick index m b (Is i) = record { destination = cell b i; count = 0 }
-arrivalFor reals tick index m b (By k) = record { destination = reached b (runsIn reals tick index k m .end); count = runsIn reals tick index k m .count }
-
-abbrev pub indexPassesFor : Bool → List ℕ → Element → Bool
-indexPassesFor reals index (Is i) = true
-indexPassesFor reals index (By k) = isAccepted (verdictIn reals (instructions index k))
 
 -- 2 and 15, in this order
 abbrev pub givenGoalOfFor : Bool → List ℕ → Found → Goal
@@ -94,11 +83,6 @@ evaluateAnswerFor reals tick code n m =
 
 abbrev pub givenGoalFor : Bool → List ℕ → List ℕ → ℕ → List ℕ → Goal
 givenGoalFor reals target index k m = cond (eqb (length m) imageSize) (givenGoalOfFor reals index (runTargetIn reals k target)) (none 1)
-
--- a value that the profile does not store
-abbrev pub unstorable : Bool → Value → Bool
-unstorable true v = false
-unstorable false v = realValue v
 
 -- a real is 19 where the full box looks for an infinity or a NaN: after 1, 2 and 15, before the index (docs/DECISIONS.md)
 abbrev pub gaveAnswerFor : Bool → ℕ → Value → List ℕ → List ℕ → Goal → Answer

@@ -2,43 +2,25 @@
 // halves of a run, evaluate and store. None asks anything of its caller: a bad request is refused with its number, and then nothing is written.
 // Each stands twice: `.._in` is that of the full box (reals true) or of the profile without reals (false), and behind it comes the full box's own.
 ghost use mathlib.Core.Path.{_≡_};
-ghost use mathlib.Core.Bool.{true};
-ghost use Prim.Native.Nat.{ℕ, _≤_};
+ghost use Prim.Native.Nat.{_≤_};
 ghost use lib.ListN.{length};
-ghost use Rattle.memory.specs.Store.{isFinite, withFlag};
 ghost use Rattle.profile_text.specs.Targets.{targetIn};
 ghost use Rattle.compiler.specs.Compile.{compiling, codedBytes};
-ghost use Rattle.targets.specs.declared.Element.the-variants.{By};
 ghost use Rattle.targets.specs.Found.{foundOf, indexBytes};
 ghost use Rattle.operations.specs.Operations.{reportOf, compileAnswer, checkAnswer, compileTargetAnswer, compileTargetCode};
-ghost use Rattle.operations.specs.Operations.{afterStore, reached, arrivedAnswer, arrivedMemory, followAnswer, followMemory};
-ghost use Rattle.operations.specs.Operations.{finished, memoryAfter, runAnswer, runMemory};
-ghost use Rattle.operations.specs.Operations.{evaluateAnswer, givenValue, givenAnswer, givenMemory};
+ghost use Rattle.operations.specs.Operations.{runAnswer, runMemory, evaluateAnswer, givenValue, givenAnswer, givenMemory};
 ghost use Rattle.operations.specs.Operations.{request, requestAnswer, requestMemory, requestCode, requestIndex};
 ghost use Rattle.operations.specs.Profile.{compileAnswerFor, compiledCodeFor, compileTargetAnswerFor, compileTargetCodeFor, checkAnswerFor};
-ghost use Rattle.operations.specs.Profile.{arrivalFor, indexPassesFor, runAnswerFor, runMemoryFor, evaluateAnswerFor};
-ghost use Rattle.operations.specs.Profile.{unstorable, givenAnswerFor, givenMemoryFor, requestFor};
-ghost use Rattle.operations.specs.private.Bounds.{mostBegun, Few, FiniteEnd, Storable, StorableEnd};
+ghost use Rattle.operations.specs.Profile.{runAnswerFor, runMemoryFor, evaluateAnswerFor, givenAnswerFor, givenMemoryFor, requestFor};
 use compiler::Coded;
+pub use delivery::Answer;
 use machine::Ended;
-use machine::Ran;
 use memory::Bank;
-use memory::cells;
-use memory::store::Stored;
-use operators::Position;
 use targets::Element;
 use targets::Found;
 use values::Fault;
 use values::Value;
 use verifier::Verdict;
-
-// Done with a value, a count and a cell: after a run what its instructions counted, the cells that they visited included, and the cell
-// stored to. A fault and what was counted until then; or a refusal's number and place.
-pub enum Answer {
-    Done(Value, usize, Bank, u32),
-    Fault(Fault, usize),
-    Refused(u32, usize),
-}
 
 // The answer by its number, as paper 01 returns it, with the cell that paper 02 adds.
 pub struct Report {
@@ -137,105 +119,6 @@ pub fn check(code: &[u8], n: usize) -> Answer
     check_in(code, n, true)
 }
 
-fn flagged(memory: &mut [u8], f: Fault, count: usize) -> Answer
-    ensures { λ r. ⌜ (r ≡ Answer.Fault f count) × (now (memory .exit) ≡ withFlag (now (memory .entry)) f) ⌝ }
-{
-    memory::store::set_flag(memory, f);
-    Answer::Fault(f, count)
-}
-
-// The answer after a store. Each way calls the store itself: a function around both would give the whole answer back through memory.
-fn after_store(s: Stored, v: Value, count: usize, bank: Bank, element: u32) -> Answer
-    ensures { λ r. ⌜ r ≡ afterStore v count bank element s ⌝ }
-{
-    match s {
-        Stored::Done => Answer::Done(v, count, bank, element),
-        Stored::Stopped(f) => Answer::Fault(f, count),
-    }
-}
-
-// The index was worked out: its element, or its fault.
-fn arrived(memory: &mut [u8], bank: Bank, end: Ended, v: Value, count: usize, reals: bool) -> Answer
-    requires { ⌜ StorableEnd reals bank end × Storable reals bank v ⌝ }
-    ensures { λ r. ⌜ r ≡ arrivedAnswer (now (memory .entry)) v count (reached bank end) ⌝ }
-    ensures { λ r. ⌜ now (memory .exit) ≡ arrivedMemory (now (memory .entry)) v (reached bank end) ⌝ }
-{
-    match end {
-        Ended::Done(index) => match cells::position_in(bank, index, reals) {
-            Position::At(i) => {
-                let s = memory::store::store_in(memory, bank, i, v, reals);
-                after_store(s, v, count, bank, i)
-            }
-            Position::Stopped(f) => flagged(memory, f, count),
-        },
-        Ended::Stopped(f) => flagged(memory, f, count),
-        Ended::Stuck => Answer::Refused(15, 0),
-    }
-}
-
-// A value that so many instructions gave goes to the element of its bank that k instructions of the index code give.
-fn to_element(
-    memory: &mut [u8],
-    bank: Bank,
-    index: &[u8],
-    k: usize,
-    v: Value,
-    count: usize,
-    tick: u32,
-    reals: bool,
-) -> Answer
-    requires { ⌜ (k ≤ 2048) × (count ≤ mostBegun) × (isFinite v ≡ true) × Storable reals bank v ⌝ }
-    ensures { λ r. ⌜ r ≡ followAnswer (now (memory .entry)) v count (arrivalFor reals tick (now (index .entry)) (now (memory .entry)) bank (By k)) ⌝ }
-    ensures { λ r. ⌜ now (memory .exit) ≡ followMemory (now (memory .entry)) v
-        (arrivalFor reals tick (now (index .entry)) (now (memory .entry)) bank (By k)) ⌝ }
-{
-    let ran = machine::run_in(index, k, memory, tick, reals);
-    let end = ran.end;
-    arrived(memory, bank, end, v, count + ran.count, reals)
-}
-
-// After a run: its value goes to the target, or its fault sets its flag. No run of bytes gives an infinity or a NaN, nor,
-// without reals, a real, so none is looked for.
-fn finish(
-    memory: &mut [u8],
-    bank: Bank,
-    element: Element,
-    index: &[u8],
-    ran: Ran,
-    tick: u32,
-    reals: bool,
-) -> Answer
-    requires { ⌜ Few element × (ran .count ≤ mostBegun) × FiniteEnd (ran .end) × StorableEnd reals bank (ran .end) ⌝ }
-    ensures { λ r. ⌜ r ≡ finished (now (memory .entry)) (arrivalFor reals tick (now (index .entry)) (now (memory .entry)) bank element)
-        (ran .end) (ran .count) ⌝ }
-    ensures { λ r. ⌜ now (memory .exit) ≡ memoryAfter (now (memory .entry)) (arrivalFor reals tick (now (index .entry)) (now (memory .entry)) bank element)
-        (ran .end) ⌝ }
-{
-    let count = ran.count;
-    let end = ran.end;
-    match end {
-        Ended::Done(v) => match element {
-            Element::Is(i) => {
-                let s = memory::store::store_in(memory, bank, i, v, reals);
-                after_store(s, v, count, bank, i)
-            }
-            Element::By(k) => to_element(memory, bank, index, k, v, count, tick, reals),
-        },
-        Ended::Stopped(fault) => flagged(memory, fault, count),
-        Ended::Stuck => Answer::Refused(15, 0),
-    }
-}
-
-// A plain cell has no index code to check.
-fn index_passes(element: Element, index: &[u8], reals: bool) -> bool
-    ensures { λ r. ⌜ r ≡ indexPassesFor reals (now (index .entry)) element ⌝ }
-{
-    match element {
-        Element::Is(_) => true,
-        Element::By(k) => verifier::accepts_in(index, k, reals),
-    }
-}
-
 // The value that code works out. Nothing is written, no flag either.
 pub fn evaluate_in(code: &[u8], n: usize, memory: &[u8], tick: u32, reals: bool) -> Answer
     ensures { λ r. ⌜ r ≡ evaluateAnswerFor reals tick (now (code .entry)) n (now (memory .entry)) ⌝ }
@@ -262,36 +145,6 @@ pub fn evaluate(code: &[u8], n: usize, memory: &[u8], tick: u32) -> Answer
     evaluate_in(code, n, memory, tick, true)
 }
 
-// A value comes from a caller as a kind and a pattern; any kind but 0 is a real.
-fn is_finite_given(kind: u32, bits: u32) -> bool
-    ensures { λ r. ⌜ r ≡ isFinite (givenValue kind bits) ⌝ }
-{
-    if kind == 0 {
-        return true;
-    }
-    values::patterns::is_finite_single(bits)
-}
-
-// Without reals one is not stored.
-fn is_unstorable(kind: u32, reals: bool) -> bool
-    ensures { λ r. ⌜ ((bits : ℕ) → r ≡ unstorable reals (givenValue kind bits)) ⌝ }
-{
-    if reals {
-        return false;
-    }
-    kind != 0
-}
-
-fn given(kind: u32, bits: u32) -> Value
-    requires { ⌜ isFinite (givenValue kind bits) ≡ true ⌝ }
-    ensures { λ r. ⌜ r ≡ givenValue kind bits ⌝ }
-{
-    if kind == 0 {
-        return Value::Int(values::patterns::from_pattern(bits));
-    }
-    Value::Real(f32::from_bits(bits))
-}
-
 // A given value goes to a target of the form that run takes.
 pub fn store_in(
     kind: u32,
@@ -313,22 +166,22 @@ pub fn store_in(
     let Found::In(bank, element) = targets::to_run_in(target, k, reals) else {
         return Answer::Refused(2, 0);
     };
-    if !index_passes(element, index, reals) {
+    if !delivery::index_passes(element, index, reals) {
         return Answer::Refused(15, 0);
     }
-    if is_unstorable(kind, reals) {
+    if delivery::is_unstorable(kind, reals) {
         return Answer::Refused(19, 0);
     }
-    if !is_finite_given(kind, bits) {
-        return flagged(memory, Fault::OutOfRange, 0);
+    if !delivery::is_finite_given(kind, bits) {
+        return delivery::flagged(memory, Fault::OutOfRange, 0);
     }
-    let v = given(kind, bits);
+    let v = delivery::given(kind, bits);
     match element {
         Element::Is(i) => {
             let s = memory::store::store_in(memory, bank, i, v, reals);
-            after_store(s, v, 0, bank, i)
+            delivery::after_store(s, v, 0, bank, i)
         }
-        Element::By(k) => to_element(memory, bank, index, k, v, 0, tick, reals),
+        Element::By(k) => delivery::to_element(memory, bank, index, k, v, 0, tick, reals),
     }
 }
 
@@ -370,11 +223,11 @@ pub fn run_in(
     let Verdict::Accepted(_) = verifier::check_in(code, n, reals) else {
         return Answer::Refused(15, 0);
     };
-    if !index_passes(element, index, reals) {
+    if !delivery::index_passes(element, index, reals) {
         return Answer::Refused(15, 0);
     }
     let ran = machine::run_in(code, n, memory, tick, reals);
-    finish(memory, bank, element, index, ran, tick, reals)
+    delivery::finish(memory, bank, element, index, ran, tick, reals)
 }
 
 pub fn run(
@@ -441,7 +294,7 @@ pub fn compile_and_run_in(
         Coded::Done(count) => {
             write_index(target, element, index, reals);
             let ran = machine::run_in(code, count, memory, tick, reals);
-            finish(memory, bank, element, index, ran, tick, reals)
+            delivery::finish(memory, bank, element, index, ran, tick, reals)
         }
         Coded::Refused(a, p) => Answer::Refused(a, p),
     }

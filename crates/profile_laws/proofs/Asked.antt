@@ -13,7 +13,7 @@ use Rattle.text.specs.Judge.{Judgement, accepted, refused, judge}
 use Rattle.text.specs.Targets.{Target, toCell, toIndexed, noTarget, targetOf}
 use Rattle.compiler.specs.Compile.{inRoom, compiling, compilingIn}
 use Rattle.targets.specs.Found.{indexBytes}
-use Rattle.operations.specs.declared.Answer.the-variants.{Refused}
+use Rattle.delivery.specs.declared.Answer.the-variants.{Refused}
 use Rattle.operations.specs.Operations.{targetAnswer, compileTargetAnswer, compileTargetCode, Request, stops, ofText, ofTarget, request}
 use Rattle.profile_text.specs.Trees.{integerOnly}
 use Rattle.profile_text.specs.Judge.{judgeIn}

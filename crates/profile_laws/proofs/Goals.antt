@@ -23,8 +23,8 @@ use Rattle.targets.specs.declared.Element.the-variants.{Is, By}
 use Rattle.targets.specs.declared.Found.{Found}
 use Rattle.targets.specs.declared.Found.the-variants.{In, Other}
 use Rattle.targets.specs.Found.{foundToRun, takenFound, runTargetIn}
-use Rattle.operations.specs.declared.Answer.{Answer}
-use Rattle.operations.specs.declared.Answer.the-variants.{Refused}
+use Rattle.delivery.specs.declared.Answer.{Answer}
+use Rattle.delivery.specs.declared.Answer.the-variants.{Refused}
 use Rattle.operations.specs.Operations.{Arrival, Goal, to, none, isAccepted, givenGoalOf, goalOf, goal, givenGoal, arrival}
 use Rattle.operations.specs.Operations.{finished, memoryAfter, followAnswer, followMemory, ranAnswer, ranMemory, gaveAnswer, gaveMemory}
 use Rattle.profile.specs.Parts.{realBank}

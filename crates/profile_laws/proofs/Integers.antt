@@ -39,8 +39,8 @@ use Rattle.tree_code.specs.Code.{codeOf}
 use Rattle.compiler.specs.Compile.{codedBytes, compilingIn}
 use Rattle.compiler.proofs.Theorems.{compile-theorems}
 use Rattle.targets.specs.Found.{indexBytes}
-use Rattle.operations.specs.declared.Answer.{Answer}
-use Rattle.operations.specs.declared.Answer.the-variants.{Fault, Refused}
+use Rattle.delivery.specs.declared.Answer.{Answer}
+use Rattle.delivery.specs.declared.Answer.the-variants.{Fault, Refused}
 use Rattle.operations.specs.Operations.{reportOf, compileAnswer, targetAnswer, verdictAnswer, Destination, cell, fault, lost, Arrival, arrivalOf, afterStore}
 use Rattle.operations.specs.Operations.{arrivedAnswer, followAnswer, finished, Goal, to, none, valueAnswer, givenValue, Request, stops, ofText, requestAnswer}
 use Rattle.operations.specs.Profile.{arrivalFor, goalFor, ranAnswerFor, evaluateAnswerFor, givenGoalFor, gaveAnswerFor, ofTargetFor}

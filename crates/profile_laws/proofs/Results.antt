@@ -24,8 +24,8 @@ use Rattle.verifier.specs.declared.Verdict.{Verdict}
 use Rattle.verifier.specs.declared.Verdict.the-variants as Verdict
 use Rattle.compiler.specs.Compile.{codedBytes}
 use Rattle.targets.specs.Found.{indexBytes}
-use Rattle.operations.specs.declared.Answer.{Answer}
-use Rattle.operations.specs.declared.Answer.the-variants.{Refused}
+use Rattle.delivery.specs.declared.Answer.{Answer}
+use Rattle.delivery.specs.declared.Answer.the-variants.{Refused}
 use Rattle.operations.specs.Operations.{compileAnswer, verdictAnswer, targetAnswer, Goal, valueAnswer, evaluateAnswer, givenValue, gaveAnswer}
 use Rattle.operations.specs.Operations.{gaveMemory}
 use Rattle.operations.specs.Operations.{Request, requestAnswer, requestMemory, requestCode, requestIndex}

@@ -13,7 +13,7 @@ use Rattle.targets.specs.declared.Element.{Element}
 use Rattle.targets.specs.declared.Found.{Found}
 use Rattle.targets.specs.declared.Found.the-variants.{In, Other}
 use Rattle.targets.specs.Found.{foundToRun, takenFound, runTargetIn}
-use Rattle.operations.specs.declared.Answer.the-variants.{Refused}
+use Rattle.delivery.specs.declared.Answer.the-variants.{Refused}
 use Rattle.operations.specs.Operations.{Goal, to}
 use Rattle.operations.specs.Profile.{givenGoalFor, gaveAnswerFor, gaveMemoryFor, givenAnswerFor, givenMemoryFor}
 

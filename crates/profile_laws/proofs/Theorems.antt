@@ -13,7 +13,7 @@ use Rattle.machine.specs.Machine.{runsAt}
 use Rattle.verifier.specs.declared.Verdict.{Verdict}
 use Rattle.verifier.proofs.Verdicts.{verdict-laws}
 use Rattle.compiler.specs.Compile.{codedBytes}
-use Rattle.operations.specs.declared.Answer.the-variants.{Refused}
+use Rattle.delivery.specs.declared.Answer.the-variants.{Refused}
 use Rattle.operations.specs.Operations.{valueAnswer, compileAnswer, evaluateAnswer}
 use Rattle.operations.proofs.Full.{full-evaluate}
 use Rattle.verifier.specs.Profile.{verdictIn}

@@ -15,7 +15,7 @@ use Rattle.verifier.specs.declared.Verdict.{Verdict}
 use Rattle.verifier.specs.declared.Verdict.the-variants.{Accepted, Refused}
 use Rattle.verifier.specs.Verdicts.{verdict}
 use Rattle.verifier.proofs.Verdicts.{verdict-laws}
-use Rattle.operations.specs.declared.Answer.the-variants as Answer
+use Rattle.delivery.specs.declared.Answer.the-variants as Answer
 use Rattle.operations.specs.Operations.{doneWith, verdictAnswer}
 use Rattle.operations.proofs.Requests.{kinded}
 use Rattle.verifier.specs.Profile.{AcceptsIn, verdictIn}

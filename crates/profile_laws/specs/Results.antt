@@ -8,7 +8,7 @@ use lib.ListN.{length, set}
 use Rattle.values.specs.declared.Fault.{Fault}
 use Rattle.values.specs.Values.{faultNumber}
 use Rattle.memory.specs.Layout.{flagAt}
-use Rattle.operations.specs.declared.Answer.the-variants.{Refused}
+use Rattle.delivery.specs.declared.Answer.the-variants.{Refused}
 use Rattle.operations.specs.Operations.{reportOf, givenValue, requestAnswer, requestMemory, requestCode, requestIndex}
 use Rattle.promises.specs.Terms.{answerNumber, Refusal, SameBut}
 use Rattle.promises.specs.Promises.{Operation, compile, compile-target, check, run, compile-and-run, store, OperationResult}

@@ -29,7 +29,7 @@ use Rattle.targets.specs.declared.Element.{Element}
 use Rattle.targets.specs.declared.Element.the-variants.{By}
 use Rattle.targets.specs.declared.Found.the-variants.{In, Other}
 use Rattle.targets.specs.Found.{foundToRun, runTargetIn}
-use Rattle.operations.specs.declared.Answer.the-variants.{Refused}
+use Rattle.delivery.specs.declared.Answer.the-variants.{Refused}
 use Rattle.operations.specs.Operations.{reportOf, doneWith, compileTargetAnswer, compileTargetCode, runAnswer, runMemory, evaluateAnswer, givenAnswer}
 use Rattle.operations.specs.Operations.{to, givenMemory, request}
 use Rattle.promises.specs.Terms.{compileAnswerOf, compiledCode, answerNumber, Room, Ends}

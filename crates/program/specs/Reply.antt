@@ -11,8 +11,8 @@ use lib.Seq.{sets}
 use Rattle.values.specs.declared.Value.{Value}
 use Rattle.memory.specs.declared.Bank.{Bank}
 use Rattle.memory.specs.Layout.{layoutOf, ImageLayout, packed}
-use Rattle.operations.specs.declared.Answer.{Answer}
-use Rattle.operations.specs.declared.Answer.the-variants.{Done, Fault, Refused}
+use Rattle.delivery.specs.declared.Answer.{Answer}
+use Rattle.delivery.specs.declared.Answer.the-variants.{Done, Fault, Refused}
 use Rattle.operations.specs.declared.Report.{Report}
 use Rattle.operations.specs.Operations.{reportOf, Request, request, requestAnswer, requestMemory}
 use Rattle.program.specs.Cases.{Case, zeros, caseOf}

@@ -33,8 +33,8 @@ use Rattle.targets.specs.declared.Element.{Element}
 use Rattle.targets.specs.declared.Element.the-variants.{By}
 use Rattle.targets.specs.declared.Found.the-variants.{Other}
 use Rattle.targets.specs.Found.{foundToRun}
-use Rattle.operations.specs.declared.Answer.{Answer}
-use Rattle.operations.specs.declared.Answer.the-variants.{Fault, Refused}
+use Rattle.delivery.specs.declared.Answer.{Answer}
+use Rattle.delivery.specs.declared.Answer.the-variants.{Fault, Refused}
 use Rattle.operations.specs.Operations.{doneWith, verdictAnswer, checkAnswer, arrival, to, isAccepted, indexPasses, valueAnswer, evaluateAnswer}
 use Rattle.operations.specs.Operations.{givenGoal, gaveAnswer, gaveMemory, givenAnswer, givenMemory}
 use Rattle.operations.proofs.Verdicts.{accepted-by}

@@ -26,8 +26,8 @@ use Rattle.compiler.proofs.Bytes.{encoded-length}
 use Rattle.compiler.proofs.Theorems.{compile-theorems-from}
 use Rattle.targets.specs.Found.{indexBytes}
 use Rattle.targets.proofs.Theorems.{indexed}
-use Rattle.operations.specs.declared.Answer.{Answer}
-use Rattle.operations.specs.declared.Answer.the-variants.{Refused}
+use Rattle.delivery.specs.declared.Answer.{Answer}
+use Rattle.delivery.specs.declared.Answer.the-variants.{Refused}
 use Rattle.operations.specs.Operations.{reportOf, doneWith, compileAnswer, checkAnswer, targetAnswer, compileTargetAnswer, compileTargetCode}
 use Rattle.operations.proofs.Verdicts.{accepted-by, passes}
 use Rattle.operations.proofs.Requests.{kinded, run-code, run-tree}

@@ -52,7 +52,7 @@ use Rattle.operations.specs.Operations.{Destination, lost, atElement, reached, 
 use Rattle.operations.specs.Operations as Goes
 use Rattle.operations.specs.Operations.{afterStore, arrivedAnswer, arrivedMemory, finished, memoryAfter}
 use Rattle.operations.proofs.Requests.{kinded}
-use Rattle.operations.specs.declared.Answer.the-variants.{Fault}
+use Rattle.delivery.specs.declared.Answer.the-variants.{Fault}
 use Rattle.promises.specs.Terms as Term
 use Rattle.promises.specs.Terms.{Names, own-cell, of-bank, StoredOrFault}
 

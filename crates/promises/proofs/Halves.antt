@@ -38,8 +38,8 @@ use Rattle.targets.specs.declared.Element.{Element}
 use Rattle.targets.specs.declared.Found.{Found}
 use Rattle.targets.specs.declared.Found.the-variants as Found
 use Rattle.targets.specs.Found.{foundToRun}
-use Rattle.operations.specs.declared.Answer.{Answer}
-use Rattle.operations.specs.declared.Answer.the-variants.{Done, Fault, Refused}
+use Rattle.delivery.specs.declared.Answer.{Answer}
+use Rattle.delivery.specs.declared.Answer.the-variants.{Done, Fault, Refused}
 use Rattle.operations.specs.Operations.{Destination, cell, fault, lost, Arrival, arrival, arrivalOf, afterStore, arrivedAnswer, followAnswer, followMemory}
 use Rattle.operations.specs.Operations.{Goal, to, none, indexPasses, goalOf, goal, finished, memoryAfter, ranAnswer, ranMemory, runAnswer, runMemory}
 use Rattle.operations.specs.Operations.{valueAnswer, evaluateAnswer, kindWord, bitsOf, givenValue, givenGoalOf, gaveAnswer, gaveMemory, givenAnswer}

@@ -38,8 +38,8 @@ use Rattle.targets.specs.declared.Element.{Element}
 use Rattle.targets.specs.declared.Found.{Found}
 use Rattle.targets.specs.declared.Found.the-variants.{In, Other}
 use Rattle.targets.specs.Found.{foundOf, foundToRun, indexBytes}
-use Rattle.operations.specs.declared.Answer.{Answer}
-use Rattle.operations.specs.declared.Answer.the-variants.{Done, Fault, Refused}
+use Rattle.delivery.specs.declared.Answer.{Answer}
+use Rattle.delivery.specs.declared.Answer.the-variants.{Done, Fault, Refused}
 use Rattle.operations.specs.Operations.{reportOf, compileAnswer, verdictAnswer, checkAnswer, targetAnswer, compileTargetAnswer, compileTargetCode}
 use Rattle.operations.specs.Operations.{Destination, cell}
 use Rattle.operations.specs.Operations.{Arrival, arrival, arrivalOf, indexPasses, Goal, to, none, goalOf, goal, ranAnswer, ranMemory, runAnswer, runMemory}

@@ -20,7 +20,7 @@ use Rattle.targets.specs.declared.Element.{Element}
 use Rattle.targets.specs.declared.Element.the-variants.{By}
 use Rattle.targets.specs.declared.Found.the-variants.{Other}
 use Rattle.targets.specs.Found.{foundToRun}
-use Rattle.operations.specs.declared.Answer.the-variants.{Refused}
+use Rattle.delivery.specs.declared.Answer.the-variants.{Refused}
 use Rattle.operations.specs.Operations.{doneWith, verdictAnswer, checkAnswer, targetAnswer, compileTargetAnswer, isAccepted, ranAnswer, runAnswer}
 use Rattle.operations.specs.Operations.{request, requestAnswer}
 use Rattle.operations.proofs.Verdicts as run

@@ -22,7 +22,7 @@ use Rattle.machine.specs.Machine.{runsAt, endOf}
 use Rattle.targets.specs.declared.Element.the-variants.{Is}
 use Rattle.targets.specs.Found.{foundOf}
 use Rattle.targets.proofs.Theorems.{from-plain, target-theorems}
-use Rattle.operations.specs.declared.Answer.the-variants.{Fault}
+use Rattle.delivery.specs.declared.Answer.the-variants.{Fault}
 use Rattle.operations.specs.Operations.{doneWith, checkAnswer, cell, Arrival, storedAnswer, finished, memoryAfter, ofText, request, requestAnswer}
 use Rattle.operations.specs.Operations.{requestMemory, requestIndex}
 use Rattle.operations.specs.Operations.{runAnswer, runMemory}

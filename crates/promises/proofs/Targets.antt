@@ -29,7 +29,7 @@ use Rattle.compiler.specs.Compile.{codedBytes}
 use Rattle.targets.specs.Found.{enclosedBank, indexBytes}
 use Rattle.targets.proofs.Theorems.{plain, from-plain, indexed, target-theorems}
 use Rattle.targets.proofs.Indexing.{indexed-is}
-use Rattle.operations.specs.declared.Answer.the-variants.{Done}
+use Rattle.delivery.specs.declared.Answer.the-variants.{Done}
 use Rattle.operations.specs.Operations.{doneWith, compileAnswer, compileTargetAnswer, compileTargetCode}
 use Rattle.operations.proofs.Requests.{with-room}
 use Rattle.promises.specs.Terms.{compileAnswerOf, compiledCode, Room}

@@ -24,8 +24,8 @@ use Rattle.compiler.specs.Compile.{compiling, codedBytes}
 use Rattle.compiler.proofs.Theorems.{compile-theorems}
 use Rattle.targets.specs.declared.Element.{Element}
 use Rattle.targets.specs.Found.{indexBytes}
-use Rattle.operations.specs.declared.Answer.{Answer}
-use Rattle.operations.specs.declared.Answer.the-variants.{Refused}
+use Rattle.delivery.specs.declared.Answer.{Answer}
+use Rattle.delivery.specs.declared.Answer.the-variants.{Refused}
 use Rattle.operations.specs.Operations.{doneWith, compileAnswer, compileTargetCode, Arrival, arrivalOf, ofText, request, requestAnswer, requestMemory}
 use Rattle.operations.specs.Operations.{requestCode, requestIndex}
 use Rattle.operations.proofs.Requests.{kinded, named, good-target, with-room}

@@ -31,8 +31,8 @@ use Rattle.targets.specs.declared.Element.{Element}
 use Rattle.targets.specs.declared.Element.the-variants.{By}
 use Rattle.targets.specs.declared.Found.the-variants.{Other}
 use Rattle.targets.specs.Found.{foundToRun}
-use Rattle.operations.specs.declared.Answer.{Answer}
-use Rattle.operations.specs.declared.Answer.the-variants.{Done, Fault, Refused}
+use Rattle.delivery.specs.declared.Answer.{Answer}
+use Rattle.delivery.specs.declared.Answer.the-variants.{Done, Fault, Refused}
 use Rattle.operations.specs.Operations.{doneWith, checkAnswer, compileTargetCode, to, goal, runAnswer, runMemory, arrival, arrivalOf, indexPasses}
 use Rattle.operations.specs.Operations.{followAnswer, followMemory}
 use Rattle.operations.specs.Operations.{evaluateAnswer, kindWord, bitsOf, givenValue, givenAnswer, givenMemory, stores, request, requestAnswer, requestMemory}

@@ -28,8 +28,8 @@ use Rattle.targets.specs.declared.Element.{Element}
 use Rattle.targets.specs.declared.Element.the-variants.{Is, By}
 use Rattle.targets.specs.declared.Found.the-variants.{Other}
 use Rattle.targets.specs.Found.{foundOf, foundToRun}
-use Rattle.operations.specs.declared.Answer.{Answer}
-use Rattle.operations.specs.declared.Answer.the-variants.{Refused}
+use Rattle.delivery.specs.declared.Answer.{Answer}
+use Rattle.delivery.specs.declared.Answer.the-variants.{Refused}
 use Rattle.operations.specs.Operations.{reportOf, doneWith, checkAnswer, compileTargetAnswer, compileTargetCode, arrival, arrivalOf, indexPasses}
 use Rattle.operations.specs.Operations.{runAnswer, runMemory}
 use Rattle.operations.specs.Operations.{givenValue, givenAnswer, givenMemory, request, requestAnswer, requestMemory, requestCode, requestIndex}

@@ -15,7 +15,7 @@ use Rattle.memory.specs.Names.{allDigits, noLeadingZero, decimalValue}
 use Rattle.grammar.specs.Tree.{Tree}
 use Rattle.text.specs.Targets.{toCell, toIndexed, noTarget, indexText, targetOf}
 use Rattle.text.specs.Theorems.{AcceptedFrom}
-use Rattle.operations.specs.declared.Answer.the-variants.{Done}
+use Rattle.delivery.specs.declared.Answer.the-variants.{Done}
 use Rattle.operations.specs.Operations.{doneWith, compileTargetAnswer, compileTargetCode}
 use Rattle.promises.specs.Terms.{compileAnswerOf, compiledCode, Room}
 

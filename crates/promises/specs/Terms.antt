@@ -32,8 +32,8 @@ use Rattle.targets.specs.declared.Element.the-variants.{Is, By}
 use Rattle.targets.specs.declared.Found.{Found}
 use Rattle.targets.specs.declared.Found.the-variants.{In}
 use Rattle.targets.specs.Found.{foundOf, foundToRun}
-use Rattle.operations.specs.declared.Answer.{Answer}
-use Rattle.operations.specs.declared.Answer.the-variants.{Done, Fault, Refused}
+use Rattle.delivery.specs.declared.Answer.{Answer}
+use Rattle.delivery.specs.declared.Answer.the-variants.{Done, Fault, Refused}
 use Rattle.operations.specs.Operations.{reportOf, compileAnswer, storedAnswer, Destination, cell, fault, Arrival}
 
 -- compile's answer, and what it leaves in the buffer

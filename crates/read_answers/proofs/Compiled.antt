@@ -31,7 +31,7 @@ use Rattle.compiler.proofs.Theorems.{compile-theorems-from}
 use Rattle.read_laws.proofs.Environments.{or-left}
 use Rattle.targets.specs.Found.{byLetter, byName, foundToRun, indexBytes}
 use Rattle.targets.proofs.Theorems.{indexed}
-use Rattle.operations.specs.declared.Answer.the-variants.{Done, Refused}
+use Rattle.delivery.specs.declared.Answer.the-variants.{Done, Refused}
 use Rattle.operations.specs.Operations.{doneWith, compileAnswer, targetAnswer, compileTargetAnswer, compileTargetCode, evaluateAnswer, runAnswer}
 use Rattle.operations.specs.Operations.{request, requestAnswer}
 use Rattle.read_answers.specs.Answers.{foundCells, runCells, requestCells}

@@ -14,8 +14,8 @@ use Rattle.memory.specs.Layout.{ImageLayout, layoutOf}
 use Rattle.memory.specs.Numbers.{banks, bankNumber}
 use Rattle.memory.specs.Laws.{Distinct, Holdable, LayoutLaws}
 use Rattle.read_laws.proofs.Laws.{reads-alike}
-use Rattle.operations.specs.declared.Answer.{Answer}
-use Rattle.operations.specs.declared.Answer.the-variants.{Done}
+use Rattle.delivery.specs.declared.Answer.{Answer}
+use Rattle.delivery.specs.declared.Answer.the-variants.{Done}
 use Rattle.read_answers.specs.After.{Leaves}
 
 -- ---- two cells are one or distinct

@@ -32,8 +32,8 @@ use Rattle.targets.specs.declared.Element.the-variants.{Is, By}
 use Rattle.targets.specs.declared.Found.{Found}
 use Rattle.targets.specs.declared.Found.the-variants as Found
 use Rattle.targets.specs.Found.{foundToRun}
-use Rattle.operations.specs.declared.Answer.{Answer}
-use Rattle.operations.specs.declared.Answer.the-variants.{Fault}
+use Rattle.delivery.specs.declared.Answer.{Answer}
+use Rattle.delivery.specs.declared.Answer.the-variants.{Fault}
 use Rattle.operations.specs.Operations.{Destination, cell, fault, lost, reached, destinationOf, Arrival, arrival, afterStore, arrivedAnswer}
 use Rattle.operations.specs.Operations.{followAnswer, finished}
 use Rattle.operations.specs.Operations.{Goal, to, none, indexPasses, goalOf, goal, ranAnswer, runAnswer, request}

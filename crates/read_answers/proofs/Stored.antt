@@ -36,8 +36,8 @@ use Rattle.targets.specs.declared.Element.{Element}
 use Rattle.targets.specs.declared.Found.{Found}
 use Rattle.targets.specs.declared.Found.the-variants as Found
 use Rattle.targets.specs.Found.{foundToRun}
-use Rattle.operations.specs.declared.Answer.{Answer}
-use Rattle.operations.specs.declared.Answer.the-variants.{Done, Fault, Refused}
+use Rattle.delivery.specs.declared.Answer.{Answer}
+use Rattle.delivery.specs.declared.Answer.the-variants.{Done, Fault, Refused}
 use Rattle.operations.specs.Operations.{Destination, cell, fault, lost, Arrival, arrival, arrivalOf, storedAnswer, arrivedAnswer, arrivedMemory}
 use Rattle.operations.specs.Operations.{followAnswer, followMemory, finished, memoryAfter, to, none, indexPasses, goalOf, goal, ranAnswer, ranMemory}
 use Rattle.operations.specs.Operations.{runAnswer, runMemory, givenGoalOf, gaveAnswer, gaveMemory, givenAnswer, givenMemory}

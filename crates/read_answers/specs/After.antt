@@ -11,8 +11,8 @@ use Rattle.memory.specs.Layout.{ImageLayout, layoutOf, packed}
 use Rattle.memory.specs.Cells.{readIn}
 use Rattle.read_laws.specs.Theorems.{AgreeOn}
 use Rattle.targets.specs.Found.{foundToRun}
-use Rattle.operations.specs.declared.Answer.{Answer}
-use Rattle.operations.specs.declared.Answer.the-variants.{Done}
+use Rattle.delivery.specs.declared.Answer.{Answer}
+use Rattle.delivery.specs.declared.Answer.the-variants.{Done}
 use Rattle.operations.specs.Operations.{runAnswer, runMemory, givenAnswer, givenMemory, Request, requestAnswer, requestMemory}
 use Rattle.read_answers.specs.Answers.{foundCells, runCells, requestCells}
 

@@ -24,7 +24,7 @@ use Rattle.targets.specs.declared.Element.the-variants.{Is, By}
 use Rattle.targets.specs.declared.Found.{Found}
 use Rattle.targets.specs.declared.Found.the-variants as Found
 use Rattle.targets.specs.Found.{foundToRun}
-use Rattle.operations.specs.declared.Answer.the-variants.{Done}
+use Rattle.delivery.specs.declared.Answer.the-variants.{Done}
 use Rattle.operations.specs.Operations.{doneWith, compileAnswer, compileTargetAnswer, compileTargetCode, destinationOf, runAnswer, evaluateAnswer, givenAnswer}
 use Rattle.operations.specs.Operations.{Request, stores, stops, request, requestAnswer}
 

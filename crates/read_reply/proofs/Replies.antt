@@ -20,8 +20,8 @@ use Rattle.compiler.specs.Compile.{compiling, codedBytes}
 use Rattle.read_set.specs.Cells.{union, codeCells, readBy}
 use Rattle.read_laws.specs.Formulas.{treeCells, targetCells}
 use Rattle.read_laws.proofs.Laws.{read-theorems}
-use Rattle.operations.specs.declared.Answer.{Answer}
-use Rattle.operations.specs.declared.Answer.the-variants.{Done, Fault, Refused}
+use Rattle.delivery.specs.declared.Answer.{Answer}
+use Rattle.delivery.specs.declared.Answer.the-variants.{Done, Fault, Refused}
 use Rattle.operations.specs.Operations.{reportOf, compileAnswer, targetAnswer, compileTargetAnswer, compileTargetCode, ofText, ofTarget}
 use Rattle.read_answers.proofs.Compiled.{coded-cells, index-cells}
 use Rattle.program.specs.Cases.{zeros}

@@ -6,7 +6,7 @@ use Rattle.words.specs.Ascii.{ascii}
 use Rattle.memory.specs.Layout.{imageSize}
 use Rattle.lines.specs.Printing.{cellName}
 use Rattle.read_set.specs.Cells.{Cell, cellList}
-use Rattle.operations.specs.declared.Answer.the-variants.{Refused}
+use Rattle.delivery.specs.declared.Answer.the-variants.{Refused}
 use Rattle.operations.specs.Operations.{reportOf, Request, stores, stops, request}
 use Rattle.read_answers.specs.Answers.{requestCells}
 use Rattle.program.specs.Cases.{zeros, caseOf}

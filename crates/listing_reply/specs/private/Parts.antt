@@ -10,7 +10,7 @@ use Rattle.text.specs.Judge.{Judgement, accepted, refused}
 use Rattle.code.specs.Instructions.{instructions}
 use Rattle.tree_code.specs.Code.{codeOf}
 use Rattle.code_listing.specs.Listing.{linesFrom, listingRoom, listed}
-use Rattle.operations.specs.declared.Answer.the-variants.{Refused}
+use Rattle.delivery.specs.declared.Answer.the-variants.{Refused}
 use Rattle.operations.specs.Operations.{reportOf}
 use Rattle.listing_reply.specs.Reply.{refusalText}
 

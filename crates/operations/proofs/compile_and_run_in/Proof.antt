@@ -6,7 +6,7 @@ use Rattle.profile_text.specs.Targets.{targetIn}
 use Rattle.compiler.specs.Compile.{codedAnswer, codedBytes}
 use Rattle.operations.specs.Operations.{Request}
 use Rattle.operations.specs.Profile.{ofTargetFor}
-use Rattle.operations.proofs.Runs.{few-counted, runs-finite, storable-end}
+use Rattle.delivery.proofs.Runs.{few-counted, runs-finite, storable-end}
 use Rattle.operations.proofs.Requests.{wrong-size, short-code, short-index, right-sizes, refuses, refuses-text}
 use Rattle.operations.proofs.Performing.{bad-target, good-target, target-bank, few-compiled, few-coded, arrives-in, with-room, performs}
 use borrow.Author.Needs.{needs}

@@ -3,8 +3,8 @@ use mathlib.Core.Path.{refl, sym, _∙_}
 use native.Mathlib.Omega.{arith}
 use borrow.Author.Tests.{not-true, not-false}
 use Rattle.targets.specs.Found.{foundToRun}
-use Rattle.operations.proofs.Runs.{few-accepted, few-checked, few-counted, runs-finite, storable-end, found-bank}
-use Rattle.operations.proofs.Runs.{no-memory, named, aimed, refuses, after-run}
+use Rattle.delivery.proofs.Runs.{few-counted, runs-finite, storable-end}
+use Rattle.operations.proofs.Runs.{few-accepted, few-checked, found-bank, no-memory, named, aimed, refuses, after-run}
 use borrow.Author.Needs.{needs}
 use Rattle.operations.proofs.run_in.Statement.{statement}
 use Rattle.operations.proofs.run_in.Tie as tie

@@ -6,9 +6,10 @@ use Rattle.values.specs.declared.Value.{Value}
 use Rattle.memory.specs.Store.{isFinite}
 use Rattle.targets.specs.Found.{foundToRun}
 use Rattle.operations.specs.Operations.{givenValue}
-use Rattle.operations.specs.private.Bounds.{Storable}
-use Rattle.operations.proofs.Runs.{few-checked, found-bank, storable}
-use Rattle.operations.proofs.Following.{few-index, stores, to-cell, by-index}
+use Rattle.delivery.specs.private.Bounds.{Storable}
+use Rattle.delivery.proofs.Runs.{storable}
+use Rattle.delivery.proofs.Following.{few-index, stores, to-cell, by-index}
+use Rattle.operations.proofs.Runs.{few-checked, found-bank}
 use Rattle.operations.proofs.Halves.{no-image, found, aims, refuses, no-real, infinite, follows}
 use borrow.Author.Needs.{needs}
 use Rattle.operations.proofs.store_in.Statement.{statement}

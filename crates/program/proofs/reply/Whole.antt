@@ -6,7 +6,7 @@ use native.Mathlib.Nat.{zero-add}
 use native.Mathlib.Omega.{arith}
 use lib.ListN.{length, take}
 use Rattle.memory.proofs.Runs.{run-written}
-use Rattle.operations.specs.declared.Answer.{Answer}
+use Rattle.delivery.specs.declared.Answer.{Answer}
 use Rattle.operations.specs.Operations.{request, requestAnswer, requestMemory}
 use Rattle.operations.proofs.Cells.{done-inside}
 use Rattle.program.specs.Cases.{Case, zeros}

@@ -12,7 +12,7 @@ use Rattle.text.specs.Judge.{Judgement, accepted, refused}
 use Rattle.code.specs.Instructions.{instructions}
 use Rattle.read_set.specs.Cells.{union, codeCells, cellList, firstNumber, cellCount}
 use Rattle.read_laws.specs.Formulas.{treeCells}
-use Rattle.operations.specs.declared.Answer.the-variants.{Refused}
+use Rattle.delivery.specs.declared.Answer.the-variants.{Refused}
 use Rattle.operations.specs.Operations.{reportOf}
 use Rattle.program.specs.Reply.{reportText}
 use Rattle.read_reply.specs.Listing.{cellLines}

@@ -1,11 +1,11 @@
 -- `finish` meets its contract, by the end of the run and the element.
 use mathlib.Core.Path.{refl}
 use native.Mathlib.Omega.{arith}
-use Rattle.operations.proofs.Runs.{given-finite}
-use Rattle.operations.proofs.Following.{few-index, stores, to-cell, by-index}
+use Rattle.delivery.proofs.Runs.{given-finite}
+use Rattle.delivery.proofs.Following.{few-index, stores, to-cell, by-index}
 use borrow.Author.Needs.{needs}
-use Rattle.operations.proofs.finish.Statement.{statement}
-use Rattle.operations.proofs.finish.Tie as tie
+use Rattle.delivery.proofs.finish.Statement.{statement}
+use Rattle.delivery.proofs.finish.Tie as tie
 
 enum-known-end : tie.Need-enum-known-end
 enum-known-end c = search needs

@@ -1,10 +1,10 @@
 -- `is_finite_given` meets its contract: an integer, or the test of the pattern.
 use mathlib.Core.Path.{_≡_, ap, sym, _∙_}
 use Rattle.memory.specs.Store.{isFinite}
-use Rattle.operations.proofs.Halves.{integer, real}
+use Rattle.delivery.proofs.Values.{integer, real}
 use borrow.Author.Needs.{needs}
-use Rattle.operations.proofs.is_finite_given.Statement.{statement}
-use Rattle.operations.proofs.is_finite_given.Tie as tie
+use Rattle.delivery.proofs.is_finite_given.Statement.{statement}
+use Rattle.delivery.proofs.is_finite_given.Tie as tie
 
 returns : tie.Need-returns
 returns c =

@@ -1,22 +1,32 @@
--- What follows a value that is finite and may go to its bank: each way is what the definitions say.
+-- What follows a value: each way is what the definitions say.
 use mathlib.Core.Path.{_≡_, ap, _∙_}
-use mathlib.Core.Bool.{Bool, true}
+use mathlib.Core.Bool.{Bool, true, false, cond}
 use mathlib.Core.List.{List}
 use Prim.Native.Nat.{ℕ, _+_, _≤_}
 use native.Mathlib.Nat.{add-zero}
 use native.Mathlib.Omega.{arith}
 use Rattle.values.specs.declared.Value.{Value}
+use Rattle.values.specs.declared.Fault.the-variants.{OutOfRange}
 use Rattle.memory.specs.declared.Bank.{Bank}
 use Rattle.memory.specs.declared.store.Stored.{Stored}
-use Rattle.memory.specs.Store.{isFinite, storeAnswer, storeImage}
+use Rattle.memory.specs.Store.{isFinite, withFlag, storeAnswer, storeImage}
 use Rattle.machine.specs.declared.Ran.{Ran}
 use Rattle.machine.specs.Profile.{runsIn}
 use Rattle.targets.specs.declared.Element.{Element}
 use Rattle.targets.specs.declared.Element.the-variants.{Is, By}
-use Rattle.operations.specs.declared.Answer.{Answer}
-use Rattle.operations.specs.Operations.{afterStore, storedAnswer, reached, arrivedAnswer, arrivedMemory, followAnswer, followMemory}
-use Rattle.operations.specs.Profile.{arrivalFor}
-use Rattle.operations.specs.private.Bounds.{Few, none, some}
+use Rattle.delivery.specs.declared.Answer.{Answer}
+use Rattle.delivery.specs.declared.Answer.the-variants.{Fault}
+use Rattle.delivery.specs.Delivery.{Arrival, afterStore, storedAnswer, reached, arrivedAnswer, arrivedMemory, followAnswer, followMemory}
+use Rattle.delivery.specs.Profile.{arrivalFor}
+use Rattle.delivery.specs.private.Bounds.{Few, none, some}
+
+-- an infinity or a NaN is a fault before its place is looked for
+module _ (m : List ℕ) (v : Value) (h : isFinite v ≡ false) where
+  pub infinite-answer : (n : ℕ) (a : Arrival) → followAnswer m v n a ≡ Fault OutOfRange n
+  infinite-answer n a = ap (λ t. cond t (arrivedAnswer m v (n + a .count) (a .destination)) (Fault OutOfRange n)) h
+
+  pub infinite-memory : (a : Arrival) → followMemory m v a ≡ withFlag m OutOfRange
+  infinite-memory a = ap (λ t. cond t (arrivedMemory m v (a .destination)) (withFlag m OutOfRange)) h
 
 -- index code is short, where there is any
 pub few-index : {e : Element} {k : ℕ} → Few e → e ≡ By k → k ≤ 2048

@@ -3,12 +3,12 @@ use mathlib.Core.Path.{refl}
 use Prim.Native.Nat.{_≤_}
 use native.Mathlib.Omega.{arith}
 use Rattle.targets.specs.declared.Element.the-variants.{By}
-use Rattle.operations.specs.private.Bounds.{mostBegun}
-use Rattle.operations.proofs.Runs.{few-counted, storable-bank, storable-end}
-use Rattle.operations.proofs.Following.{to-element}
+use Rattle.delivery.specs.private.Bounds.{mostBegun}
+use Rattle.delivery.proofs.Runs.{few-counted, storable-bank, storable-end}
+use Rattle.delivery.proofs.Following.{to-element}
 use borrow.Author.Needs.{needs}
-use Rattle.operations.proofs.to_element.Statement.{statement}
-use Rattle.operations.proofs.to_element.Tie as tie
+use Rattle.delivery.proofs.to_element.Statement.{statement}
+use Rattle.delivery.proofs.to_element.Tie as tie
 
 run-in-requires : tie.Need-run-in-requires
 run-in-requires c κs = search needs

@@ -1,8 +1,8 @@
 -- `is_unstorable` meets its contract: nothing with reals, a real without.
 use mathlib.Core.Path.{refl}
-use Rattle.operations.proofs.Halves.{given-kind}
-use Rattle.operations.proofs.is_unstorable.Statement.{statement}
-use Rattle.operations.proofs.is_unstorable.Tie as tie
+use Rattle.delivery.proofs.Values.{given-kind}
+use Rattle.delivery.proofs.is_unstorable.Statement.{statement}
+use Rattle.delivery.proofs.is_unstorable.Tie as tie
 
 returns : tie.Need-returns
 returns c = λ bits. rw (c .if1 .taken) refl

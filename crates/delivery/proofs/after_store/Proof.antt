@@ -1,8 +1,8 @@
 -- `after_store` meets its contract: done, or the fault of the store.
 use mathlib.Core.Path.{refl}
 use borrow.Author.Needs.{needs}
-use Rattle.operations.proofs.after_store.Statement.{statement}
-use Rattle.operations.proofs.after_store.Tie as tie
+use Rattle.delivery.proofs.after_store.Statement.{statement}
+use Rattle.delivery.proofs.after_store.Tie as tie
 
 enum-told : tie.Need-enum-told
 enum-told c = search needs

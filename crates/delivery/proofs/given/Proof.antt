@@ -6,10 +6,10 @@ use mir.ValLaws.{toZ-ofZ}
 use Rattle.values.specs.declared.Value.the-variants.{Int}
 use Rattle.values.proofs.patterns.Exponents.{no-nan}
 use Rattle.memory.specs.Store.{isFinite}
-use Rattle.operations.proofs.Halves.{integer, real}
+use Rattle.delivery.proofs.Values.{integer, real}
 use borrow.Author.Needs.{needs}
-use Rattle.operations.proofs.given.Statement.{statement}
-use Rattle.operations.proofs.given.Tie as tie
+use Rattle.delivery.proofs.given.Statement.{statement}
+use Rattle.delivery.proofs.given.Tie as tie
 
 from-pattern-requires : tie.Need-from-pattern-requires
 from-pattern-requires c κs = search needs

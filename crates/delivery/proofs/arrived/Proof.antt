@@ -1,10 +1,10 @@
 -- `arrived` meets its contract: an element of the bank, or a fault of the index.
 use mathlib.Core.Path.{refl, sym, _∙_}
-use Rattle.operations.proofs.Runs.{storable-index}
-use Rattle.operations.proofs.Following.{stores}
+use Rattle.delivery.proofs.Runs.{storable-index}
+use Rattle.delivery.proofs.Following.{stores}
 use borrow.Author.Needs.{needs}
-use Rattle.operations.proofs.arrived.Statement.{statement}
-use Rattle.operations.proofs.arrived.Tie as tie
+use Rattle.delivery.proofs.arrived.Statement.{statement}
+use Rattle.delivery.proofs.arrived.Tie as tie
 
 enum-known-end : tie.Need-enum-known-end
 enum-known-end c = search needs

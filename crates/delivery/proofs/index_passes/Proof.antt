@@ -1,7 +1,7 @@
 -- `index_passes` meets its contract: the check of index code, where there is any.
 use borrow.Author.Needs.{needs}
-use Rattle.operations.proofs.index_passes.Statement.{statement}
-use Rattle.operations.proofs.index_passes.Tie as tie
+use Rattle.delivery.proofs.index_passes.Statement.{statement}
+use Rattle.delivery.proofs.index_passes.Tie as tie
 
 enum-told : tie.Need-enum-told
 enum-told c = search needs

@@ -1,0 +1,3 @@
+pub mod Delivery
+pub mod Profile
+pub mod private
