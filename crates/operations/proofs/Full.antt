@@ -1,5 +1,5 @@
 -- With reals each operation is the full box's.
-use mathlib.Core.Path.{_≡_, refl, ap, _∙_}
+use mathlib.Core.Path.{_≡_, refl, ap, subst, _∙_}
 use mathlib.Core.Bool.{Bool, true, cond}
 use mathlib.Core.List.{List, []}
 use Prim.Native.Nat.{ℕ}
@@ -26,6 +26,7 @@ use Rattle.targets.specs.declared.Element.the-variants.{Is, By}
 use Rattle.targets.specs.declared.Found.{Found}
 use Rattle.targets.specs.declared.Found.the-variants.{In, Other}
 use Rattle.targets.specs.Found.{foundToRun}
+use Rattle.delivery.specs.declared.Answer.{Answer}
 use Rattle.delivery.specs.declared.Answer.the-variants.{Refused}
 use Rattle.operations.specs.Operations.{verdictAnswer, checkAnswer, reached, Arrival, arrival, Goal, to, none, isAccepted, indexPasses, givenGoalOf}
 use Rattle.operations.specs.Operations.{goalOf, goal, givenGoal, finished, memoryAfter, followAnswer, followMemory, ranAnswer, ranMemory, runAnswer}
@@ -34,7 +35,7 @@ use Rattle.operations.specs.Operations.{ofTarget, request}
 use Rattle.operations.specs.Profile.{checkAnswerFor, arrivalFor, indexPassesFor, givenGoalOfFor, goalOfFor, goalFor, givenGoalFor, ranAnswerFor}
 use Rattle.operations.specs.Profile.{ranMemoryFor, runAnswerFor, runMemoryFor, evaluateAnswerFor, gaveAnswerFor, gaveMemoryFor, givenAnswerFor}
 use Rattle.operations.specs.Profile.{givenMemoryFor, ofTargetFor, requestFor}
-use Rattle.operations.proofs.Requests.{sized}
+use Rattle.operations.proofs.Requests.{sized, Performs}
 
 -- ---- texts and targets
 
@@ -54,6 +55,12 @@ module _ (text code index : List ℕ) where
   pub full-request : (target m : List ℕ) → requestFor true target text m code index ≡ request target text m code index
   full-request target m = ap (sized m code index) (same-judged true (full-judge text) (targetOf target))
 
+  -- what was done for the one was done for the other
+  pub performs-full : (tick : ℕ) (target m : List ℕ) {r : Answer} {m′ code′ index′ : List ℕ}
+      → Performs tick (requestFor true target text m code index) m code index r m′ code′ index′
+      → Performs tick (request target text m code index) m code index r m′ code′ index′
+  performs-full tick target m {r} {m′} {code′} {index′} w = subst (λ q. Performs tick q m code index r m′ code′ index′) (full-request target m) w
+
 -- ---- checks and runs
 
 pub full-runs : (tick : ℕ) (code : List ℕ) (n : ℕ) (m : List ℕ) → runsIn true tick code n m ≡ runsAt tick code n m
@@ -67,6 +74,10 @@ full-evaluate tick code n m =
     ap (λ (x : Ran). cond (eqb (length m) imageSize) (valueAnswer x (verdictIn true (instructions code n))) (Refused 1 0)) (full-runs tick code n m)
     ∙ ap (λ (v : Verdict). cond (eqb (length m) imageSize) (valueAnswer (runsAt tick code n m) v) (Refused 1 0))
     (profile-code .full-verdict (instructions code n))
+
+pub evaluates-full : (tick : ℕ) (code : List ℕ) (n : ℕ) (m : List ℕ) {r : Answer} → r ≡ evaluateAnswerFor true tick code n m
+    → r ≡ evaluateAnswer tick code n m
+evaluates-full tick code n m e = e ∙ full-evaluate tick code n m
 
 -- ---- where a value arrives
 
@@ -132,9 +143,19 @@ module _ (tick : ℕ) (target index m : List ℕ) (k : ℕ) where
       ∙ ap (λ (x : Ran). ranMemory tick index m x (goalFor true code n target index k m)) (full-runs tick code n m)
       ∙ ap (ranMemory tick index m (runsAt tick code n m)) (full-goal code target index m n k)
 
+  pub runs-full : (code : List ℕ) (n : ℕ) {r : Answer} {m′ : List ℕ}
+      → (r ≡ runAnswerFor true tick code n target index k m) × (m′ ≡ runMemoryFor true tick code n target index k m)
+      → (r ≡ runAnswer tick code n target index k m) × (m′ ≡ runMemory tick code n target index k m)
+  runs-full code n w = (w .0 ∙ full-run code n, w .1 ∙ full-run-memory code n)
+
   pub full-store : (v : Value) → givenAnswerFor true tick v target index k m ≡ givenAnswer tick v target index k m
   full-store v = full-gave tick index m v (givenGoalFor true target index k m) ∙ ap (gaveAnswer tick v index m) (full-given-goal target index m k)
 
   pub full-store-memory : (v : Value) → givenMemoryFor true tick v target index k m ≡ givenMemory tick v target index k m
   full-store-memory v =
       full-gave-memory tick index m v (givenGoalFor true target index k m) ∙ ap (gaveMemory tick v index m) (full-given-goal target index m k)
+
+  pub stores-full : (v : Value) {r : Answer} {m′ : List ℕ}
+      → (r ≡ givenAnswerFor true tick v target index k m) × (m′ ≡ givenMemoryFor true tick v target index k m)
+      → (r ≡ givenAnswer tick v target index k m) × (m′ ≡ givenMemory tick v target index k m)
+  stores-full v w = (w .0 ∙ full-store v, w .1 ∙ full-store-memory v)

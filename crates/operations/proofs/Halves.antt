@@ -4,15 +4,18 @@ use mathlib.Core.Bool.{Bool, true, false, cond}
 use mathlib.Core.List.{List}
 use Prim.Native.Nat.{ℕ}
 use lib.ListN.{length}
+use Rattle.values.specs.declared.Kind.{Kind}
 use Rattle.values.specs.declared.Value.{Value}
 use Rattle.values.specs.declared.Fault.the-variants.{OutOfRange}
 use Rattle.memory.specs.declared.Bank.{Bank}
 use Rattle.memory.specs.Layout.{imageSize}
 use Rattle.memory.specs.Store.{isFinite, withFlag}
 use Rattle.code.specs.Instructions.{instructions}
+use Rattle.machine.specs.declared.Ended.{Ended}
 use Rattle.machine.specs.declared.Ran.{Ran}
 use Rattle.machine.specs.Profile.{runsIn}
 use Rattle.verifier.specs.declared.Verdict.{Verdict}
+use Rattle.verifier.specs.declared.Verdict.the-variants as Verdict
 use Rattle.verifier.specs.Profile.{verdictIn}
 use Rattle.targets.specs.declared.Element.{Element}
 use Rattle.targets.specs.declared.Found.{Found}
@@ -36,6 +39,12 @@ module _ (reals : Bool) (tick : ℕ) (code : List ℕ) (n : ℕ) (m : List ℕ) 
   pub evaluates : {x : Ran} {v : Verdict} {r : Answer} → length m ≡ imageSize → verdictIn reals (instructions code n) ≡ v → x ≡ runsIn reals tick code n m
       → r ≡ valueAnswer x v → r ≡ evaluateAnswerFor reals tick code n m
   evaluates h q f e = right-image m (runsIn reals tick code n m) (verdictIn reals (instructions code n)) h q f e
+
+  -- the end and the count of the run decide
+  pub evaluates-to : {x : Ran} {k : Kind} {e : Ended} {r : Answer} → length m ≡ imageSize → verdictIn reals (instructions code n) ≡ Verdict.Accepted k
+      → x ≡ runsIn reals tick code n m → x .end ≡ e → r ≡ valueAnswer (record { end = e; count = x .count }) (Verdict.Accepted k)
+      → r ≡ evaluateAnswerFor reals tick code n m
+  evaluates-to {x} {k} h q f d w = evaluates h q f (w ∙ ap (λ e. valueAnswer (record { end = e; count = x .count }) (Verdict.Accepted k)) (sym d))
 
 -- ---- store
 

@@ -1,7 +1,5 @@
 -- `compile_and_run` meets its contract: with reals it is the full box's.
-use mathlib.Core.Path.{ap, _∙_}
-use Rattle.operations.specs.Operations.{requestAnswer, requestMemory, requestCode, requestIndex}
-use Rattle.operations.proofs.Full.{full-request}
+use Rattle.operations.proofs.Full.{performs-full}
 use borrow.Author.Needs.{needs}
 use Rattle.operations.proofs.compile_and_run.Statement.{statement}
 use Rattle.operations.proofs.compile_and_run.Tie as tie
@@ -21,14 +19,8 @@ same-length-3 c = search needs
 returns : tie.Need-returns
 returns c =
     let s = c .before .before .before .before .before .before .before .before .before .before .before .before .before .before .before in
-    let w = c .before .before .before .before .before .before .compile-and-run-in .ensures in
-    let e = full-request (s .args .text .now) (s .args .code .now) (s .args .index .now) (s .args .target .now) (s .args .memory .now) in (
-      w .0 ∙ ap (requestAnswer (s .args .tick) (s .args .memory .now)) e,
-      (
-        w .1 .0 ∙ ap (requestMemory (s .args .tick) (s .args .memory .now)) e,
-        (w .1 .1 .0 ∙ ap (requestCode (s .args .code .now)) e, w .1 .1 .1 ∙ ap (requestIndex (s .args .index .now)) e),
-      ),
-    )
+    performs-full (s .args .text .now) (s .args .code .now) (s .args .index .now) (s .args .tick) (s .args .target .now) (s .args .memory .now)
+    (c .before .before .before .before .before .before .compile-and-run-in .ensures)
 
 pub compile-and-run-spec : {M : Type 1} → statement M
 compile-and-run-spec = tie.close (tie.spec compile-and-run-in-requires same-length same-length-2 same-length-3 returns)

@@ -2,7 +2,7 @@
 use mathlib.Core.Path.{refl, sym, _∙_}
 use native.Mathlib.Omega.{arith}
 use Rattle.operations.proofs.Runs.{few-accepted}
-use Rattle.operations.proofs.Halves.{no-memory, evaluates}
+use Rattle.operations.proofs.Halves.{no-memory, evaluates, evaluates-to}
 use borrow.Author.Needs.{needs}
 use Rattle.operations.proofs.evaluate_in.Statement.{statement}
 use Rattle.operations.proofs.evaluate_in.Tie as tie
@@ -44,23 +44,23 @@ enum-told-3 c = search needs
 returns-3 : tie.Need-returns-3
 returns-3 c =
     let s = c .before .before .before .before .before .before .before .before .before .before in
-    evaluates (s .args .reals) (s .args .tick) (s .args .code .now) (s .args .n) (s .args .memory .now) (omega arith)
+    evaluates-to (s .args .reals) (s .args .tick) (s .args .code .now) (s .args .n) (s .args .memory .now) (omega arith)
     (sym (c .before .before .before .before .before .before .check-in .ensures) ∙ c .before .before .before .before .enum-told .given .1)
-    (c .before .before .before .run-in .ensures) (rw (c .before .end .given .1))
+    (c .before .before .before .run-in .ensures) (c .before .end .given .1) refl
 
 returns-4 : tie.Need-returns-4
 returns-4 c =
     let s = c .before .before .before .before .before .before .before .before .before .before in
-    evaluates (s .args .reals) (s .args .tick) (s .args .code .now) (s .args .n) (s .args .memory .now) (omega arith)
+    evaluates-to (s .args .reals) (s .args .tick) (s .args .code .now) (s .args .n) (s .args .memory .now) (omega arith)
     (sym (c .before .before .before .before .before .before .check-in .ensures) ∙ c .before .before .before .before .enum-told .given .1)
-    (c .before .before .before .run-in .ensures) (rw (c .before .end2 .given .1))
+    (c .before .before .before .run-in .ensures) (c .before .end2 .given .1) refl
 
 returns-5 : tie.Need-returns-5
 returns-5 c =
     let s = c .before .before .before .before .before .before .before .before .before in
-    evaluates (s .args .reals) (s .args .tick) (s .args .code .now) (s .args .n) (s .args .memory .now) (omega arith)
+    evaluates-to (s .args .reals) (s .args .tick) (s .args .code .now) (s .args .n) (s .args .memory .now) (omega arith)
     (sym (c .before .before .before .before .before .check-in .ensures) ∙ c .before .before .before .enum-told .given .1)
-    (c .before .before .run-in .ensures) (rw (c .enum-told3 .given .1))
+    (c .before .before .run-in .ensures) (c .enum-told3 .given .1) refl
 
 pub evaluate-in-spec : {M : Type 1} → statement M
 evaluate-in-spec =

@@ -1,6 +1,5 @@
 -- `run` meets its contract: with reals it is the full box's.
-use mathlib.Core.Path.{_∙_}
-use Rattle.operations.proofs.Full.{full-run, full-run-memory}
+use Rattle.operations.proofs.Full.{runs-full}
 use borrow.Author.Needs.{needs}
 use Rattle.operations.proofs.run.Statement.{statement}
 use Rattle.operations.proofs.run.Tie as tie
@@ -14,11 +13,8 @@ same-length c = search needs
 returns : tie.Need-returns
 returns c =
     let s = c .before .before .before .before .before .before .before .before in
-    let w = c .before .before .run-in .ensures in (
-      w .0 ∙ full-run (s .args .tick) (s .args .target .now) (s .args .index .now) (s .args .memory .now) (s .args .k) (s .args .code .now) (s .args .n),
-      w .1 ∙ full-run-memory (s .args .tick) (s .args .target .now) (s .args .index .now) (s .args .memory .now) (s .args .k) (s .args .code .now)
-          (s .args .n),
-    )
+    runs-full (s .args .tick) (s .args .target .now) (s .args .index .now) (s .args .memory .now) (s .args .k) (s .args .code .now) (s .args .n)
+    (c .before .before .run-in .ensures)
 
 pub run-spec : {M : Type 1} → statement M
 run-spec = tie.close (tie.spec run-in-requires same-length returns)
