@@ -22,6 +22,7 @@ use Rattle.machine.specs.Machine.{runsAt}
 use Rattle.machine.specs.Profile.{execIn, runsIn}
 use Rattle.tree_code.specs.Code.{codeOf}
 use Rattle.profile_trees.proofs.Theorems.{profile-trees}
+use Rattle.compiler.specs.declared.Coded.{Coded}
 use Rattle.compiler.specs.declared.Coded.the-variants as Coded
 use Rattle.compiler.specs.Compile.{compilingIn, codedAnswer, codedBytes}
 use Rattle.compiler.proofs.Theorems.{compile-theorems-from}
@@ -133,6 +134,14 @@ performs reals tick s code index m g b e (accepted t) {n} {code′} {index′} {
     let a = arrivalOf tick (indexBytes index g) m g in
     rw o (z .0 ∙ ap (λ d. finished m a d (runsAt tick (codedBytes code (accepted t)) (length (codeOf t)) m .count)) d, (z .1 ∙ ap (memoryAfter m a) d, (w, i)))
 performs reals tick s code index m g b e (refused a p) o j h d w i f v y = let z : _≡_ {A = ℕ} 0 1 = cc in absurd (omega arith)
+
+-- what compiling answered and wrote is what the judgement i of the text says
+module _ {j i : Judgement} (q : j ≡ i) where
+  pub coded-as : {x y : Coded} → x ≡ y → x ≡ codedAnswer j → y ≡ codedAnswer i
+  coded-as e f = sym e ∙ f ∙ ap codedAnswer q
+
+  pub written-as : (code : List ℕ) {code′ : List ℕ} → code′ ≡ codedBytes code j → code′ ≡ codedBytes code i
+  written-as code w = w ∙ ap (codedBytes code) q
 
 -- compiled code is short
 pub few-coded : (reals : Bool) (s : List ℕ) (j : Judgement) {n : ℕ} → judgeIn reals 0 s ≡ j → Coded.Done n ≡ codedAnswer j → n ≤ 2048

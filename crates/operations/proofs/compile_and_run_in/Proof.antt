@@ -1,14 +1,14 @@
 -- `compile_and_run_in` meets its contract: the tests in their order, then the code of the formula's tree is run.
-use mathlib.Core.Path.{refl, sym, ap, _∙_}
+use mathlib.Core.Path.{refl, sym, _∙_}
 use native.Mathlib.Omega.{arith}
 use Rattle.profile_text.specs.Judge.{judgeIn}
 use Rattle.profile_text.specs.Targets.{targetIn}
-use Rattle.compiler.specs.Compile.{codedAnswer, codedBytes}
 use Rattle.operations.specs.Operations.{Request}
 use Rattle.operations.specs.Profile.{ofTargetFor}
 use Rattle.delivery.proofs.Runs.{few-counted, runs-finite, storable-end}
 use Rattle.operations.proofs.Requests.{wrong-size, short-code, short-index, right-sizes, refuses, refuses-text}
-use Rattle.operations.proofs.Performing.{bad-target, good-target, target-bank, few-compiled, few-coded, arrives-in, with-room, performs}
+use Rattle.operations.proofs.Performing.{bad-target, good-target, target-bank, few-compiled, few-coded, coded-as, written-as}
+use Rattle.operations.proofs.Performing.{arrives-in, with-room, performs}
 use borrow.Author.Needs.{needs}
 use Rattle.operations.proofs.compile_and_run_in.Statement.{statement}
 use Rattle.operations.proofs.compile_and_run_in.Tie as tie
@@ -78,8 +78,8 @@ run-in-requires c κs =
       c .before .before .before .before .before .before .before .before .before .before .before .before .before .before .before .before .before
           .before .if2 .left,
     )) in
-    let done = sym (c .before .before .before .before .before .before .before .count .given .1)
-    ∙ c .before .before .before .before .before .before .before .before .before .before .before .compile-in .ensures .0 ∙ ap codedAnswer room in
+    let done = coded-as room (c .before .before .before .before .before .before .before .count .given .1)
+    (c .before .before .before .before .before .before .before .before .before .before .before .compile-in .ensures .0) in
     few-coded (s .args .reals) (s .args .text .now) (judgeIn (s .args .reals) 0 (s .args .text .now)) refl done
 
 finish-requires : tie.Need-finish-requires
@@ -94,9 +94,8 @@ finish-requires c κs =
       c .before .before .before .before .before .before .before .before .before .before .before .before .before .before .before .before .before
           .before .before .before .before .if2 .left,
     )) in
-    let done = sym (c .before .before .before .before .before .before .before .before .before .before .count .given .1)
-    ∙ c .before .before .before .before .before .before .before .before .before .before .before .before .before .before .compile-in .ensures .0
-    ∙ ap codedAnswer room in
+    let done = coded-as room (c .before .before .before .before .before .before .before .before .before .before .count .given .1)
+    (c .before .before .before .before .before .before .before .before .before .before .before .before .before .before .compile-in .ensures .0) in
     let found = sym (c .before .before .before .before .before .before .before .before .before .before .before .before .before .before .before .before
     .before .before .before .judge-in .ensures) ∙ at-bank .given .1 in (
       few-compiled (s .args .reals) (s .args .target .now) (targetIn (s .args .reals) (s .args .target .now)) refl found,
@@ -153,9 +152,8 @@ returns-5 c =
     performs (s .args .reals) (s .args .tick) (s .args .text .now) (s .args .code .now) (s .args .index .now) (s .args .memory .now)
     (targetIn (s .args .reals) (s .args .target .now)) (at-bank .given .0 .0) (at-bank .given .0 .1 .0)
     (judgeIn (s .args .reals) 0 (s .args .text .now)) q refl (omega (arith, at-if2 .left))
-    (sym (c .before .before .before .before .before .before .before .before .before .before .before .before .before .count .given .1) ∙ w .0
-    ∙ ap codedAnswer room)
-    (w .1 ∙ ap (codedBytes (s .args .code .now)) room) (c .before .before .before .before .before .before .before .before .before .before .write-index
+    (coded-as room (c .before .before .before .before .before .before .before .before .before .before .before .before .before .count .given .1) (w .0))
+    (written-as room (s .args .code .now) (w .1)) (c .before .before .before .before .before .before .before .before .before .before .write-index
     .ensures) (c .before .before .before .before .before .run-in .ensures) goes (c .before .before .finish .ensures)
 
 same-length-4 : tie.Need-same-length-4
@@ -176,8 +174,7 @@ returns-6 c =
     let room = with-room (s .args .reals) (s .args .code .now) (s .args .text .now) (omega (arith, at-if2 .left)) in
     let w = c .before .before .before .before .before .compile-in .ensures in
     refuses-text (s .args .tick) (s .args .code .now) (s .args .index .now) (s .args .memory .now) (targetIn (s .args .reals) (s .args .target .now))
-    (judgeIn (s .args .reals) 0 (s .args .text .now)) q (sym (c .before .a .given .1) ∙ w .0 ∙ ap codedAnswer room)
-    (w .1 ∙ ap (codedBytes (s .args .code .now)) room)
+    (judgeIn (s .args .reals) 0 (s .args .text .now)) q (coded-as room (c .before .a .given .1) (w .0)) (written-as room (s .args .code .now) (w .1))
 
 pub compile-and-run-in-spec : {M : Type 1} → statement M
 compile-and-run-in-spec =
