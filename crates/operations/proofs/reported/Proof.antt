@@ -1,4 +1,5 @@
 -- `reported` meets its contract, answer by answer.
+use mathlib.Core.Path.{refl}
 use borrow.Author.Needs.{needs}
 use Rattle.operations.proofs.reported.Statement.{statement}
 use Rattle.operations.proofs.reported.Tie as tie
@@ -16,13 +17,13 @@ enum-known-a-3 : tie.Need-enum-known-a-3
 enum-known-a-3 c = search needs
 
 returns : tie.Need-returns
-returns c = rw (c .before .a .given .1)
+returns c = rw (c .before .a .given .1) refl
 
 returns-2 : tie.Need-returns-2
-returns-2 c = rw (c .before .before .a2 .given .1, c .fault-number .ensures)
+returns-2 c = rw (c .before .before .a2 .given .1, c .fault-number .ensures) refl
 
 returns-3 : tie.Need-returns-3
-returns-3 c = rw (c .before .a3 .given .1)
+returns-3 c = rw (c .before .a3 .given .1) refl
 
 pub reported-spec : {M : Type 1} → statement M
 reported-spec =
