@@ -78,15 +78,26 @@ pub record StreamBuffers (m t x l : List ℕ) (n : Lengths) : Type 0 where
   pub inside : LengthsInside t x n
   pub line : n .line ≤ keptBytes
 
--- the buffers keep what a whole input leaves, or the input was not read
-pub data Receives (m t x l : List ℕ) : Receipt → Type 0 where
-  all : {n : Lengths} → StreamBuffers m t x l n → (input : List ℕ) → progressIn m t x l n ≡ afterBytes noProgress input
-      → Receives m t x l (All n)
-  missed : Receives m t x l Unread
+-- before the first byte: an image of zero bytes, and room for what is kept of a line
+pub record BlankBuffers (m t x : List ℕ) : Type 0 where
+  pub image : m ≡ zeros imageSize
+  pub targets : length t ≡ keptBytes
+  pub texts : length x ≡ keptBytes
 
--- the reply to the case that p leaves goes to the front of a lent slice, and 64 bytes have room for it
-pub record Replies (p : Progress) (out : List ℕ) (n : ℕ) (new : List ℕ) : Type 0 where
-  pub count : n ≡ writtenLength out (replyTo (caseAtEnd p))
-  pub bytes : new ≡ writeText out (replyTo (caseAtEnd p))
-  pub short : length (replyTo (caseAtEnd p)) ≤ 64
+-- the buffers hold the case of an input that has ended
+pub record HoldsCase (m t x : List ℕ) (n : Lengths) (input : List ℕ) : Type 0 where
+  pub image : length m ≡ imageSize
+  pub inside : LengthsInside t x n
+  pub case : caseIn m t x n ≡ caseAtEnd (afterBytes noProgress input)
+
+-- the buffers hold the case of some input, or the input was not read
+pub data Receives (m t x : List ℕ) : Receipt → Type 0 where
+  all : {n : Lengths} (input : List ℕ) → HoldsCase m t x n input → Receives m t x (All n)
+  missed : Receives m t x Unread
+
+-- the reply to a case goes to the front of a lent slice, and 64 bytes have room for it
+pub record Replies (s : Case) (out : List ℕ) (n : ℕ) (new : List ℕ) : Type 0 where
+  pub count : n ≡ writtenLength out (replyTo s)
+  pub bytes : new ≡ writeText out (replyTo s)
+  pub short : length (replyTo s) ≤ 64
   pub there : HasPrefix n new

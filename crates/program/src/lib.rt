@@ -6,7 +6,6 @@ ghost use Rattle.memory.specs.Layout.{imageSize};
 ghost use Rattle.program.specs.Cases.{zeros};
 ghost use Rattle.program.specs.Reply.{reply, writeText, writtenLength, HasPrefix, Outputs};
 ghost use Rattle.program.specs.Stream.{keptBytes};
-use crate::case::Lengths;
 use crate::stream::KEPT_BYTES;
 use crate::stream::Receipt;
 use memory::IMAGE_SIZE;
@@ -38,14 +37,10 @@ pub fn respond(input: &[u8], output: &mut [u8]) -> usize
     let mut memory = blank_image();
     let mut target = blank_text();
     let mut text = blank_text();
-    let mut line = blank_text();
-    let none = Lengths {
-        target: 0,
-        text: 0,
-        line: 0,
-    };
-    let n = stream::feed(input, &mut memory, &mut target, &mut text, &mut line, none);
-    stream::finish(&mut memory, &mut target, &mut text, &line, n, output)
+    let n = stream::take_case(input, &mut memory, &mut target, &mut text);
+    let a = n.target;
+    let b = n.text;
+    reply::write_reply(&mut memory, &target[..a], &text[..b], output)
 }
 
 // The same of an input that is read to its end. If a read fails there is no answer, and the one line `error=read` says so.
@@ -56,9 +51,12 @@ pub fn respond_from(fd: i32, output: &mut [u8]) -> usize
     let mut memory = blank_image();
     let mut target = blank_text();
     let mut text = blank_text();
-    let mut line = blank_text();
-    match stream::receive(fd, &mut memory, &mut target, &mut text, &mut line) {
-        Receipt::All(n) => stream::finish(&mut memory, &mut target, &mut text, &line, n, output),
+    match stream::receive_case(fd, &mut memory, &mut target, &mut text) {
+        Receipt::All(n) => {
+            let a = n.target;
+            let b = n.text;
+            reply::write_reply(&mut memory, &target[..a], &text[..b], output)
+        }
         Receipt::Unread => reply::write_text(b"error=read\n", output),
     }
 }

@@ -6,10 +6,15 @@ ghost use lib.ListN.{length};
 ghost use Rattle.memory.specs.Layout.{imageSize, hasCell};
 ghost use Rattle.lines.specs.private.Steps.{Puts};
 ghost use Rattle.program.specs.Reply.{reportText, cellLine, answerText, CellInside, writeText, writtenLength, HasPrefix};
+ghost use Rattle.program.specs.Stream.{Replies};
+use crate::stream;
 use lines::printing;
 use memory::Bank;
 use operations::Answer;
 use operations::Report;
+
+// The program's runs have no clock.
+const PROGRAM_TICK: u32 = 0;
 
 // The first two lines.
 pub fn put_report(out: &mut [u8], report: Report) -> usize
@@ -65,4 +70,25 @@ pub fn write_text(bytes: &[u8], output: &mut [u8]) -> usize
         return 0;
     }
     printing::put_all(output, 0, bytes)
+}
+
+// The reply to a case, which is worked out on its memory.
+pub fn write_reply(memory: &mut [u8], target: &[u8], text: &[u8], output: &mut [u8]) -> usize
+    requires { ⌜ length (now memory) ≡ imageSize ⌝ }
+    ensures { λ r. ⌜ Replies (record { memory = now (memory .entry); target = now (target .entry); text = now (text .entry) })
+        (now (output .entry)) r (now (output .exit)) ⌝ }
+{
+    let mut code = stream::blank_code();
+    let mut index = stream::blank_code();
+    let answer = operations::compile_and_run(
+        target,
+        text,
+        memory,
+        &mut code,
+        &mut index,
+        PROGRAM_TICK,
+    );
+    let mut bytes = [0u8; 64];
+    let n = put_reply(&mut bytes, answer, memory);
+    write_text(&bytes[..n], output)
 }

@@ -1,20 +1,16 @@
 // An input that comes in pieces. Of each line only so much is kept as can matter, so that neither the input nor a line has a limit.
 ghost use mathlib.Core.Path.{_≡_};
 ghost use lib.ListN.{length};
-ghost use Rattle.memory.specs.Layout.{imageSize};
 ghost use Rattle.program.specs.Cases.{zeros};
-ghost use Rattle.program.specs.Stream.{afterByte, afterBytes, noLengths, progressIn, StreamBuffers, Receives, Replies};
+ghost use Rattle.program.specs.Stream.{afterByte, afterBytes, caseAtEnd, caseIn, progressIn};
+ghost use Rattle.program.specs.Stream.{LengthsInside, BlankBuffers, StreamBuffers, HoldsCase, Receives};
 use crate::case;
 use crate::case::Lengths;
-use crate::reply;
 
 // How much of a line is kept.
 pub const KEPT_BYTES: usize = 1032;
 
-// The program's runs have no clock.
-const PROGRAM_TICK: u32 = 0;
-
-// The whole input, with what its buffers keep of it; or a read failed.
+// A whole case, with how much of their buffers its target and its expression take; or a read failed.
 pub enum Receipt {
     All(Lengths),
     Unread,
@@ -25,6 +21,24 @@ pub fn blank_code() -> [u8; 16384]
     ensures { λ r. ⌜ (16384 ≡ length r) × (r ≡ zeros 16384) ⌝ }
 {
     [0; 16384]
+}
+
+// The line in progress has ended.
+fn end_line(
+    memory: &mut [u8],
+    target: &mut [u8],
+    text: &mut [u8],
+    line: &[u8],
+    n: Lengths,
+) -> Lengths
+    requires { ⌜ StreamBuffers (now memory) (now target) (now text) (now line) n ⌝ }
+    ensures { λ r. ⌜ LengthsInside (now (target .exit)) (now (text .exit)) r ⌝ }
+    ensures { λ r. ⌜ caseIn (now (memory .exit)) (now (target .exit)) (now (text .exit)) r
+        ≡ caseAtEnd (progressIn (now (memory .entry)) (now (target .entry)) (now (text .entry)) (now (line .entry)) n) ⌝ }
+    ensures { λ r. ⌜ r .line ≡ 0 ⌝ }
+{
+    let k = n.line;
+    case::take_line(&line[..k], memory, target, text, n)
 }
 
 // One byte: it ends the line, or is kept with it if there is room.
@@ -41,10 +55,10 @@ fn take_byte(
     ensures { λ r. ⌜ progressIn (now (memory .exit)) (now (target .exit)) (now (text .exit)) (now (line .exit)) r
         ≡ afterByte (progressIn (now (memory .entry)) (now (target .entry)) (now (text .entry)) (now (line .entry)) n) b ⌝ }
 {
-    let k = n.line;
     if b == b'\n' {
-        return case::take_line(&line[..k], memory, target, text, n);
+        return end_line(memory, target, text, line, n);
     }
+    let k = n.line;
     if k == line.len() {
         return n;
     }
@@ -57,7 +71,7 @@ fn take_byte(
 }
 
 // A piece of the input.
-pub fn feed(
+fn feed(
     piece: &[u8],
     memory: &mut [u8],
     target: &mut [u8],
@@ -79,19 +93,28 @@ pub fn feed(
     lengths
 }
 
-// Piece after piece to the input's end. A proved loop has to end, and nothing says that an input does: the turns are counted down, from a number that no
-// input uses up.
-pub fn receive(
-    fd: i32,
-    memory: &mut [u8],
-    target: &mut [u8],
-    text: &mut [u8],
-    line: &mut [u8],
-) -> Receipt
-    requires { ⌜ StreamBuffers (now memory) (now target) (now text) (now line) noLengths ⌝ }
-    requires { ⌜ now memory ≡ zeros imageSize ⌝ }
-    ensures { λ r. ⌜ Receives (now (memory .exit)) (now (target .exit)) (now (text .exit)) (now (line .exit)) r ⌝ }
+// The case of an input that is there whole.
+pub fn take_case(input: &[u8], memory: &mut [u8], target: &mut [u8], text: &mut [u8]) -> Lengths
+    requires { ⌜ BlankBuffers (now memory) (now target) (now text) ⌝ }
+    ensures { λ r. ⌜ HoldsCase (now (memory .exit)) (now (target .exit)) (now (text .exit)) r (now (input .entry)) ⌝ }
 {
+    let mut line = crate::blank_text();
+    let none = Lengths {
+        target: 0,
+        text: 0,
+        line: 0,
+    };
+    let n = feed(input, memory, target, text, &mut line, none);
+    end_line(memory, target, text, &line, n)
+}
+
+// The case of an input that is read piece by piece to its end. A proved loop has to end, and nothing says that an input does: the turns are counted down, from
+// a number that no input uses up.
+pub fn receive_case(fd: i32, memory: &mut [u8], target: &mut [u8], text: &mut [u8]) -> Receipt
+    requires { ⌜ BlankBuffers (now memory) (now target) (now text) ⌝ }
+    ensures { λ r. ⌜ Receives (now (memory .exit)) (now (target .exit)) (now (text .exit)) r ⌝ }
+{
+    let mut line = crate::blank_text();
     let mut n = Lengths {
         target: 0,
         text: 0,
@@ -105,43 +128,11 @@ pub fn receive(
             return Receipt::Unread;
         }
         if got == 0 {
-            return Receipt::All(n);
+            return Receipt::All(end_line(memory, target, text, &line, n));
         }
         let k = io::count(got, &piece);
-        n = feed(&piece[..k], memory, target, text, line, n);
+        n = feed(&piece[..k], memory, target, text, &mut line, n);
         turns -= 1;
     }
     Receipt::Unread
-}
-
-// The input has ended: its last line, and the reply.
-pub fn finish(
-    memory: &mut [u8],
-    target: &mut [u8],
-    text: &mut [u8],
-    line: &[u8],
-    n: Lengths,
-    output: &mut [u8],
-) -> usize
-    requires { ⌜ StreamBuffers (now memory) (now target) (now text) (now line) n ⌝ }
-    ensures { λ r. ⌜ Replies (progressIn (now (memory .entry)) (now (target .entry)) (now (text .entry)) (now (line .entry)) n)
-        (now (output .entry)) r (now (output .exit)) ⌝ }
-{
-    let k = n.line;
-    let last = case::take_line(&line[..k], memory, target, text, n);
-    let a = last.target;
-    let b = last.text;
-    let mut code = blank_code();
-    let mut index = blank_code();
-    let answer = operations::compile_and_run(
-        &target[..a],
-        &text[..b],
-        memory,
-        &mut code,
-        &mut index,
-        PROGRAM_TICK,
-    );
-    let mut bytes = [0u8; 64];
-    let m = reply::put_reply(&mut bytes, answer, memory);
-    reply::write_text(&bytes[..m], output)
 }

@@ -1,5 +1,6 @@
--- `main` is safe: what was received is finished, or the failure is told.
-use Rattle.program.proofs.stream.Receiving.{known}
+-- `main` is safe: the text that was received lies in its buffer.
+use native.Mathlib.Omega.{arith}
+use Rattle.program.proofs.stream.Receiving.{known, text-long}
 use borrow.Author.Needs.{needs}
 use Rattle.format.proofs.main.Statement.{statement}
 use Rattle.format.proofs.main.Tie as tie
@@ -13,42 +14,31 @@ blank-text-requires c κs = search needs
 blank-text-requires-2 : tie.Need-blank-text-requires-2
 blank-text-requires-2 c κs = search needs
 
-blank-text-requires-3 : tie.Need-blank-text-requires-3
-blank-text-requires-3 c κs = search needs
+slice-aggregate-receive-case : tie.Need-slice-aggregate-receive-case
+slice-aggregate-receive-case c = search needs
 
-slice-aggregate-receive : tie.Need-slice-aggregate-receive
-slice-aggregate-receive c = search needs
+slice-aggregate-receive-case-2 : tie.Need-slice-aggregate-receive-case-2
+slice-aggregate-receive-case-2 c = search needs
 
-slice-aggregate-receive-2 : tie.Need-slice-aggregate-receive-2
-slice-aggregate-receive-2 c = search needs
+slice-aggregate-receive-case-3 : tie.Need-slice-aggregate-receive-case-3
+slice-aggregate-receive-case-3 c = search needs
 
-slice-aggregate-receive-3 : tie.Need-slice-aggregate-receive-3
-slice-aggregate-receive-3 c = search needs
-
-slice-aggregate-receive-4 : tie.Need-slice-aggregate-receive-4
-slice-aggregate-receive-4 c = search needs
-
-receive-requires : tie.Need-receive-requires
-receive-requires c κs = search needs
+receive-case-requires : tie.Need-receive-case-requires
+receive-case-requires c κs = search needs
 
 enum-known-n : tie.Need-enum-known-n
 enum-known-n c = search needs
 
-slice-aggregate-finish : tie.Need-slice-aggregate-finish
-slice-aggregate-finish c = search needs
+array-share-prefix-text : tie.Need-array-share-prefix-text
+array-share-prefix-text c = let s = known (c .before .before .before .before .before .before .receive-case .ensures) (c .before .n .given .1) in omega
+    (arith, s .held .inside)
 
-slice-aggregate-finish-2 : tie.Need-slice-aggregate-finish-2
-slice-aggregate-finish-2 c = search needs
+slice-aggregate-tell : tie.Need-slice-aggregate-tell
+slice-aggregate-tell c = text-long (known (c .before .before .before .before .before .before .before .receive-case .ensures)
+    (c .before .before .n .given .1) .held)
 
-slice-aggregate-finish-3 : tie.Need-slice-aggregate-finish-3
-slice-aggregate-finish-3 c = search needs
-
-slice-aggregate-finish-4 : tie.Need-slice-aggregate-finish-4
-slice-aggregate-finish-4 c = search needs
-
-finish-requires : tie.Need-finish-requires
-finish-requires c κs = known (c .before .before .before .before .before .before .before .before .before .before .before .receive .ensures)
-    (c .before .before .before .before .before .n .given .1) .ready
+tell-requires : tie.Need-tell-requires
+tell-requires c κs = search needs
 
 enum-told : tie.Need-enum-told
 enum-told c = search needs
@@ -72,18 +62,14 @@ main-spec =
     blank-image-requires
     blank-text-requires
     blank-text-requires-2
-    blank-text-requires-3
-    slice-aggregate-receive
-    slice-aggregate-receive-2
-    slice-aggregate-receive-3
-    slice-aggregate-receive-4
-    receive-requires
+    slice-aggregate-receive-case
+    slice-aggregate-receive-case-2
+    slice-aggregate-receive-case-3
+    receive-case-requires
     enum-known-n
-    slice-aggregate-finish
-    slice-aggregate-finish-2
-    slice-aggregate-finish-3
-    slice-aggregate-finish-4
-    finish-requires
+    array-share-prefix-text
+    slice-aggregate-tell
+    tell-requires
     enum-told
     slice-aggregate-write-all
     write-all-requires

@@ -1,8 +1,6 @@
--- `program::respond` meets its contract: the input is one piece.
-use mathlib.Core.Path.{ap, _∙_}
+-- `program::respond` meets its contract: the input's case is replied to.
+use Rattle.program.proofs.stream.Receiving.{target-long, text-long, replies}
 use borrow.Author.Needs.{needs}
-use Rattle.program.specs.Stream.{Progress, afterBytes}
-use Rattle.program.proofs.stream.Receiving.{start, replies}
 use Rattle.program.proofs.respond.Statement.{statement}
 use Rattle.program.proofs.respond.Tie as tie
 
@@ -15,50 +13,42 @@ blank-text-requires c κs = search needs
 blank-text-requires-2 : tie.Need-blank-text-requires-2
 blank-text-requires-2 c κs = search needs
 
-blank-text-requires-3 : tie.Need-blank-text-requires-3
-blank-text-requires-3 c κs = search needs
+slice-aggregate-take-case : tie.Need-slice-aggregate-take-case
+slice-aggregate-take-case c = search needs
 
-slice-aggregate-feed : tie.Need-slice-aggregate-feed
-slice-aggregate-feed c = search needs
+slice-aggregate-take-case-2 : tie.Need-slice-aggregate-take-case-2
+slice-aggregate-take-case-2 c = search needs
 
-slice-aggregate-feed-2 : tie.Need-slice-aggregate-feed-2
-slice-aggregate-feed-2 c = search needs
+slice-aggregate-take-case-3 : tie.Need-slice-aggregate-take-case-3
+slice-aggregate-take-case-3 c = search needs
 
-slice-aggregate-feed-3 : tie.Need-slice-aggregate-feed-3
-slice-aggregate-feed-3 c = search needs
+take-case-requires : tie.Need-take-case-requires
+take-case-requires c κs = search needs
 
-slice-aggregate-feed-4 : tie.Need-slice-aggregate-feed-4
-slice-aggregate-feed-4 c = search needs
+slice-aggregate-write-reply : tie.Need-slice-aggregate-write-reply
+slice-aggregate-write-reply c = search needs
 
-feed-requires : tie.Need-feed-requires
-feed-requires c κs = search needs
+array-share-prefix-target : tie.Need-array-share-prefix-target
+array-share-prefix-target c = search needs
 
-slice-aggregate-finish : tie.Need-slice-aggregate-finish
-slice-aggregate-finish c = search needs
+slice-aggregate-write-reply-2 : tie.Need-slice-aggregate-write-reply-2
+slice-aggregate-write-reply-2 c = target-long (c .before .before .before .before .before .take-case .ensures)
 
-slice-aggregate-finish-2 : tie.Need-slice-aggregate-finish-2
-slice-aggregate-finish-2 c = search needs
+array-share-prefix-text : tie.Need-array-share-prefix-text
+array-share-prefix-text c = search needs
 
-slice-aggregate-finish-3 : tie.Need-slice-aggregate-finish-3
-slice-aggregate-finish-3 c = search needs
+slice-aggregate-write-reply-3 : tie.Need-slice-aggregate-write-reply-3
+slice-aggregate-write-reply-3 c = text-long (c .before .before .before .before .before .before .take-case .ensures)
 
-slice-aggregate-finish-4 : tie.Need-slice-aggregate-finish-4
-slice-aggregate-finish-4 c = search needs
-
-finish-requires : tie.Need-finish-requires
-finish-requires c κs = c .before .before .before .before .before .before .before .before .before .feed .ensures .0
+write-reply-requires : tie.Need-write-reply-requires
+write-reply-requires c κs = search needs
 
 same-length : tie.Need-same-length
 same-length c = search needs
 
 returns : tie.Need-returns
-returns c =
-    let a = c .before .before .before .before .before .before .before .before .before .before .before .before .before .before .before .before .before
-    .before .before .before .before .before .before .before .before .before .args in
-    let kept = c .before .before .before .before .before .before .before .before .before .before .before .before .before .before .before .feed .ensures .1
-    ∙ ap (λ (p : Progress). afterBytes p (a .input .now)) (start (c .before .before .before .before .before .before .before .before .before .before
-    .before .before .before .before .before .before .before .before .before .before .before .before .before .blank-image .ensures .1)) in
-    replies (a .input .now) kept (c .before .before .before .before .before .finish .ensures)
+returns c = replies (c .before .before .before .before .before .before .before .before .before .before .before .take-case .ensures)
+    (c .before .before .before .write-reply .ensures)
 
 pub respond-spec : {M : Type 1} → statement M
 respond-spec =
@@ -67,16 +57,15 @@ respond-spec =
     blank-image-requires
     blank-text-requires
     blank-text-requires-2
-    blank-text-requires-3
-    slice-aggregate-feed
-    slice-aggregate-feed-2
-    slice-aggregate-feed-3
-    slice-aggregate-feed-4
-    feed-requires
-    slice-aggregate-finish
-    slice-aggregate-finish-2
-    slice-aggregate-finish-3
-    slice-aggregate-finish-4
-    finish-requires
+    slice-aggregate-take-case
+    slice-aggregate-take-case-2
+    slice-aggregate-take-case-3
+    take-case-requires
+    slice-aggregate-write-reply
+    array-share-prefix-target
+    slice-aggregate-write-reply-2
+    array-share-prefix-text
+    slice-aggregate-write-reply-3
+    write-reply-requires
     same-length
     returns)

@@ -24,7 +24,7 @@ within {m} {t} {x} {l} {n} p =
     (omega (arith, e, p .line, p .targets), omega (arith, e, p .line, p .texts))
 
 -- ---- one byte
-module _ (m t x l : List ℕ) (n : Lengths) (p : StreamBuffers m t x l n) (b : ℕ) where
+module _ {m t x l : List ℕ} {n : Lengths} (p : StreamBuffers m t x l n) (b : ℕ) where
   abbrev Does : List ℕ → List ℕ → List ℕ → List ℕ → Lengths → Type 0
   Does m′ t′ x′ l′ r = StreamBuffers m′ t′ x′ l′ r × (progressIn m′ t′ x′ l′ r ≡ afterByte (progressIn m t x l n) b)
 

@@ -1,26 +1,11 @@
 -- `stream::take_byte` meets its contract: the line ends, is full, or grows.
+use Rattle.program.proofs.stream.Buffers.{ended, full, grown}
 use borrow.Author.Needs.{needs}
-use native.Mathlib.Omega.{arith}
-use Rattle.program.proofs.stream.Buffers.{taken, within, ended, full, grown}
 use Rattle.program.proofs.stream.take_byte.Statement.{statement}
 use Rattle.program.proofs.stream.take_byte.Tie as tie
 
-slice-reshare-prefix-take-line : tie.Need-slice-reshare-prefix-take-line
-slice-reshare-prefix-take-line c = omega (arith, c .before .before .before .before .before .pre .line, c .before .before .before .before .before .pre .lines)
-
-slice-aggregate-take-line : tie.Need-slice-aggregate-take-line
-slice-aggregate-take-line c = taken (c .before .before .before .before .before .before .args .line .now)
-    (c .before .before .before .before .before .before .args .n .line)
-    (omega (arith, c .before .before .before .before .before .before .pre .line, c .before .before .before .before .before .before .pre .lines))
-
-take-line-requires : tie.Need-take-line-requires
-take-line-requires c κs = (
-  c .before .before .before .before .before .before .before .before .before .pre .image,
-  (
-    within (c .before .before .before .before .before .before .before .before .before .pre),
-    c .before .before .before .before .before .before .before .before .before .pre .inside,
-  ),
-)
+end-line-requires : tie.Need-end-line-requires
+end-line-requires c κs = search needs
 
 same-length : tie.Need-same-length
 same-length c = search needs
@@ -35,25 +20,18 @@ same-length-4 : tie.Need-same-length-4
 same-length-4 c = search needs
 
 returns : tie.Need-returns
-returns c = ended (c .before .before .before .before .before .before .before .before .before .before .before .before .before .before .before .before .args
-    .memory .now) (c .before .before .before .before .before .before .before .before .before .before .before .before .before .before .before .before .args
-    .target .now) (c .before .before .before .before .before .before .before .before .before .before .before .before .before .before .before .before .args
-    .text .now) (c .before .before .before .before .before .before .before .before .before .before .before .before .before .before .before .before .args
-    .line .now) (c .before .before .before .before .before .before .before .before .before .before .before .before .before .before .before .before .args .n)
-    (c .before .before .before .before .before .before .before .before .before .before .before .before .before .before .before .before .pre)
+returns c = ended (c .before .before .before .before .before .before .before .before .before .before .before .before .before .before .before .before .pre)
     (c .before .before .before .before .before .before .before .before .before .before .before .before .before .before .before .before .args .b)
     (c .before .before .before .before .before .before .before .before .before .before .before .if1 .taken)
-    (c .before .before .before .before .before .before .take-line .kept .1 .0) (c .before .before .before .before .before .before .take-line .kept .1 .1 .0)
-    (c .before .before .before .before .before .before .take-line .kept .1 .1 .1 .0) (c .before .before .before .before .before .before .take-line .ensures)
+    (c .before .before .before .before .before .before .end-line .kept .0) (c .before .before .before .before .before .before .end-line .kept .1 .0)
+    (c .before .before .before .before .before .before .end-line .kept .1 .1 .0) (c .before .before .before .before .before .before .end-line .ensures)
 
 returns-2 : tie.Need-returns-2
-returns-2 c = full (c .before .before .before .before .before .before .args .memory .now)
-    (c .before .before .before .before .before .before .args .target .now) (c .before .before .before .before .before .before .args .text .now)
-    (c .before .before .before .before .before .before .args .line .now) (c .before .before .before .before .before .before .args .n)
-    (c .before .before .before .before .before .before .pre) (c .before .before .before .before .before .before .args .b) (c .before .if1 .left) (c .if2 .taken)
+returns-2 c = full (c .before .before .before .before .before .before .pre) (c .before .before .before .before .before .before .args .b)
+    (c .before .if1 .left) (c .if2 .taken)
 
 slice-write-line : tie.Need-slice-write-line
-slice-write-line c = omega (arith, c .before .before .before .before .before .before .pre .line, c .before .before .before .before .before .before .pre .lines)
+slice-write-line c = search needs
 
 add-t17 : tie.Need-add-t17
 add-t17 c = search needs
@@ -62,18 +40,14 @@ same-length-5 : tie.Need-same-length-5
 same-length-5 c = search needs
 
 returns-3 : tie.Need-returns-3
-returns-3 c = grown (c .before .before .before .before .before .before .args .memory .now)
-    (c .before .before .before .before .before .before .args .target .now) (c .before .before .before .before .before .before .args .text .now)
-    (c .before .before .before .before .before .before .args .line .now) (c .before .before .before .before .before .before .args .n)
-    (c .before .before .before .before .before .before .pre) (c .before .before .before .before .before .before .args .b) (c .before .if1 .left) (c .if2 .left)
+returns-3 c = grown (c .before .before .before .before .before .before .pre) (c .before .before .before .before .before .before .args .b)
+    (c .before .if1 .left) (c .if2 .left)
 
 pub take-byte-spec : {M : Type 1} → statement M
 take-byte-spec =
     tie.close
     (tie.spec
-    slice-reshare-prefix-take-line
-    slice-aggregate-take-line
-    take-line-requires
+    end-line-requires
     same-length
     same-length-2
     same-length-3
