@@ -1,4 +1,3 @@
--- Laws for the proofs of the functions; the program cites Prefix.
-pub mod Prefix
+-- Laws for the proofs of the functions.
 mod Parts
 mod Replies

@@ -4,14 +4,12 @@ use mathlib.Core.List.{List, [], _∷_, _++_}
 use Prim.Native.Nat.{ℕ, _≤_, _<_}
 use native.Mathlib.Omega.{arith}
 use lib.IntN.{pos}
-use lib.ListN.{length, length-replicate}
+use lib.ListN.{length}
 use borrow.Author.Tests.{eq-eqb, ne-eqb, le-ltb}
 use Rattle.words.specs.Ascii.{ascii, byte}
 use Rattle.values.specs.declared.Value.{Value}
 use Rattle.values.specs.declared.Value.the-variants.{Int}
-use Rattle.values.specs.declared.Fault.{Fault as FaultName}
 use Rattle.memory.specs.declared.Bank.{Bank}
-use Rattle.memory.specs.Layout.{imageSize}
 use Rattle.grammar.specs.Tree.{Tree, treeKind}
 use Rattle.text.specs.Judge.{Judgement, accepted, refused, judgeFrom, judge}
 use Rattle.text.specs.Targets.{Target, toCell, toIndexed, noTarget, targetOf, indexText}
@@ -28,25 +26,12 @@ use Rattle.targets.proofs.Theorems.{indexed}
 use Rattle.lines.specs.Printing.{letterByte}
 use Rattle.code_listing.specs.Listing.{linesFrom, listingRoom, verdictListed, listed}
 use Rattle.delivery.specs.declared.Answer.{Answer}
-use Rattle.delivery.specs.declared.Answer.the-variants.{Done, Fault, Refused}
+use Rattle.delivery.specs.declared.Answer.the-variants.{Done, Refused}
 use Rattle.operations.specs.Operations.{reportOf, compileAnswer, targetAnswer, compileTargetAnswer, compileTargetCode, ofText, ofTarget}
 use Rattle.program.specs.Cases.{zeros}
+use Rattle.program.proofs.Answers.{NotDone, text-judged, index-room, target-judged, target-first}
 use Rattle.listing_reply.specs.Reply.{indexLines, refusalText, requestText, listingText}
 use Rattle.listing_reply.specs.private.Parts.{codeText, indexPart, judgedText}
-
--- the answer is no 0
-abbrev pub NotDone : Answer → Type 0
-NotDone a = (v : Value) (n : ℕ) (b : Bank) (i : ℕ) → a ≡ Done v n b i → ⊥
-
-pub fault-not : {a : Answer} {f : FaultName} {n : ℕ} → a ≡ Fault f n → NotDone a
-fault-not e v k b i d = let z : _≡_ {A = ℕ} 0 1 = cc in omega arith
-
-pub refused-not : {a : Answer} {x p : ℕ} → a ≡ Refused x p → NotDone a
-refused-not e v k b i d = let z : _≡_ {A = ℕ} 0 1 = cc in omega arith
-
-zeros-length : (n : ℕ) → length (zeros n) ≡ n
-unfolding zeros
-zeros-length n = length-replicate n 0
 
 -- ---- compiled code is accepted, so its listing is its lines
 module _ (d : ℕ) (s code : List ℕ) (t : Tree) (e : judgeFrom d s ≡ accepted t) where
@@ -84,7 +69,7 @@ module _ (text index : List ℕ) (k : ℕ) (b : Bank) where
 
   module _ (code : List ℕ) (z : 16384 ≡ length code) {a : Answer} (q : a ≡ compileAnswer (compiling (length code) text)) where
     room : compiling (length code) text ≡ judge text
-    room = rw (le-ltb (length code) 16384 (omega arith))
+    room = text-judged code text z
 
     pub text-done : {v : Value} {n : ℕ} {c : Bank} {i : ℕ} {new : List ℕ} → a ≡ Done v n c i → new ≡ codedBytes code (compiling (length code) text)
         → codeText new n ++ indexPart index k b ≡ judgedText index k b (compiling 16384 text)
@@ -97,23 +82,18 @@ module _ (text index : List ℕ) (k : ℕ) (b : Bank) where
 module _ (target text : List ℕ) where
   asked : listingText target text ≡ requestText (ofTarget text (zeros 16384) (zeros 16384) (targetOf target))
   unfolding listingText
-  asked =
-      let room : 16384 ≤ length (zeros 16384) = omega (arith, zeros-length 16384) in
-      ap requestText (rw (eq-eqb (length (zeros imageSize)) imageSize (zeros-length imageSize), le-ltb (length (zeros 16384)) 16384 room))
+  asked = ap requestText (target-first target text)
 
   no-target : refusalText (reportOf (Refused 2 0)) ≡ requestText (ofTarget text (zeros 16384) (zeros 16384) noTarget)
   unfolding requestText
   no-target = refl
 
   module _ {index : List ℕ} (z : index ≡ zeros 16384) {a : Answer} (q : a ≡ compileTargetAnswer index target) where
-    index-room : 16384 ≤ length index
-    index-room = let e : length index ≡ 16384 = ap length z ∙ zeros-length 16384 in omega arith
-
     answered : a ≡ targetAnswer (targetOf target)
-    answered = q ∙ rw (le-ltb (length index) 16384 index-room)
+    answered = target-judged target z q
 
     coded : compileTargetCode index target ≡ indexBytes index (targetOf target)
-    coded = rw (le-ltb (length index) 16384 index-room)
+    coded = rw (le-ltb (length index) 16384 (index-room z))
 
     -- the index's part
     index-is : (g : Target) → targetOf target ≡ g → {v : Value} {k : ℕ} {b : Bank} {i : ℕ} → targetAnswer g ≡ Done v k b i
@@ -129,7 +109,7 @@ module _ (target text : List ℕ) where
         rw (ne-eqb k 0 (λ w. omega (arith, some-code 1 (indexText target) index u judged, count)))
         (ap (λ (x : Bank). (ascii "index=" ++ (letterByte x ∷ byte "\n" ∷ [])) ++ codeText (codedBytes index (accepted u)) k) bank
         ∙ ap (λ (s : List ℕ). (ascii "index=" ++ (letterByte c ∷ byte "\n" ∷ [])) ++ s)
-        (ap (codeText (codedBytes index (accepted u))) count ∙ code-is 1 (indexText target) index u judged index-room))
+        (ap (codeText (codedBytes index (accepted u))) count ∙ code-is 1 (indexText target) index u judged (index-room z)))
     index-is noTarget e d = let y : _≡_ {A = ℕ} 0 1 = cc in absurd (omega arith)
 
     -- with a good target

@@ -1,5 +1,4 @@
--- Laws for the proofs of the functions; the programs cite Prefix.
-pub mod Prefix
+-- Laws for the proofs of the functions.
 mod Names
 mod Loops
 mod Lists

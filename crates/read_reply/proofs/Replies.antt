@@ -5,13 +5,10 @@ use mathlib.Core.List.{List}
 use Prim.Native.Nat.{ℕ, _≤_}
 use native.Mathlib.Omega.{arith}
 use lib.IntN.{pos}
-use lib.ListN.{length, length-replicate}
-use borrow.Author.Tests.{eq-eqb, le-ltb}
+use lib.ListN.{length}
 use Rattle.values.specs.declared.Value.{Value}
 use Rattle.values.specs.declared.Value.the-variants.{Int}
-use Rattle.values.specs.declared.Fault.{Fault as FaultName}
 use Rattle.memory.specs.declared.Bank.{Bank}
-use Rattle.memory.specs.Layout.{imageSize}
 use Rattle.text.specs.Judge.{Judgement, accepted, refused, judge}
 use Rattle.text.specs.Targets.{Target, toCell, toIndexed, noTarget, targetOf}
 use Rattle.code.specs.Instructions.{instructions}
@@ -21,27 +18,14 @@ use Rattle.read_set.specs.Cells.{union, codeCells, readBy}
 use Rattle.read_laws.specs.Formulas.{treeCells, targetCells}
 use Rattle.read_laws.proofs.Laws.{read-theorems}
 use Rattle.delivery.specs.declared.Answer.{Answer}
-use Rattle.delivery.specs.declared.Answer.the-variants.{Done, Fault, Refused}
+use Rattle.delivery.specs.declared.Answer.the-variants.{Done, Refused}
 use Rattle.operations.specs.Operations.{reportOf, compileAnswer, targetAnswer, compileTargetAnswer, compileTargetCode, ofText, ofTarget}
 use Rattle.read_answers.proofs.Compiled.{coded-cells, index-cells}
 use Rattle.program.specs.Cases.{zeros}
+use Rattle.program.proofs.Answers.{NotDone, text-judged, target-judged, target-first}
 use Rattle.program.specs.Reply.{reportText}
 use Rattle.read_reply.specs.Listing.{cellLines, requestLines, listing}
 use Rattle.read_reply.specs.private.Numbers.{textLines}
-
--- the answer is no 0
-abbrev pub NotDone : Answer → Type 0
-NotDone a = (v : Value) (n : ℕ) (b : Bank) (i : ℕ) → a ≡ Done v n b i → ⊥
-
-pub fault-not : {a : Answer} {f : FaultName} {n : ℕ} → a ≡ Fault f n → NotDone a
-fault-not e v k b i d = let z : _≡_ {A = ℕ} 0 1 = cc in omega arith
-
-pub refused-not : {a : Answer} {x p : ℕ} → a ≡ Refused x p → NotDone a
-refused-not e v k b i d = let z : _≡_ {A = ℕ} 0 1 = cc in omega arith
-
-zeros-length : (n : ℕ) → length (zeros n) ≡ n
-unfolding zeros
-zeros-length n = length-replicate n 0
 
 -- ---- the expression
 module _ (text index : List ℕ) (k : ℕ) where
@@ -68,7 +52,7 @@ module _ (text index : List ℕ) (k : ℕ) where
 
   module _ (code : List ℕ) (z : 16384 ≡ length code) {a : Answer} (q : a ≡ compileAnswer (compiling (length code) text)) where
     room : compiling (length code) text ≡ judge text
-    room = rw (le-ltb (length code) 16384 (omega arith))
+    room = text-judged code text z
 
     pub text-done : {v : Value} {n : ℕ} {b : Bank} {i : ℕ} {new : List ℕ} → a ≡ Done v n b i → new ≡ codedBytes code (compiling (length code) text)
         → cellLines (readBy new n index k) ≡ textLines index k (compiling 16384 text)
@@ -81,9 +65,7 @@ module _ (text index : List ℕ) (k : ℕ) where
 module _ (target text : List ℕ) where
   asked : listing target text ≡ requestLines (ofTarget text (zeros 16384) (zeros 16384) (targetOf target))
   unfolding listing
-  asked =
-      let room : 16384 ≤ length (zeros 16384) = omega (arith, zeros-length 16384) in
-      ap requestLines (rw (eq-eqb (length (zeros imageSize)) imageSize (zeros-length imageSize), le-ltb (length (zeros 16384)) 16384 room))
+  asked = ap requestLines (target-first target text)
 
   no-target : reportText (reportOf (Refused 2 0)) ≡ requestLines (ofTarget text (zeros 16384) (zeros 16384) noTarget)
   unfolding requestLines
@@ -91,10 +73,7 @@ module _ (target text : List ℕ) where
 
   module _ {index : List ℕ} (z : index ≡ zeros 16384) {a : Answer} (q : a ≡ compileTargetAnswer index target) where
     answered : a ≡ targetAnswer (targetOf target)
-    answered =
-        let e : length index ≡ 16384 = ap length z ∙ zeros-length 16384 in
-        let room : 16384 ≤ length index = omega arith in
-        q ∙ rw (le-ltb (length index) 16384 room)
+    answered = target-judged target z q
 
     -- with a good target
     module _ (k : ℕ) (new : List ℕ) (same : (c : Bank) (j : ℕ) → codeCells (instructions new k) c j ≡ targetCells (targetOf target) c j) where

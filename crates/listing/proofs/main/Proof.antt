@@ -1,6 +1,6 @@
 -- `main` is safe: what is printed lies in the buffer.
 use native.Mathlib.Omega.{arith}
-use Rattle.listing_reply.proofs.Prefix.{put-prefix}
+use Rattle.program.proofs.Sizes.{put-prefix}
 use borrow.Author.Needs.{needs}
 use Rattle.listing.proofs.main.Statement.{statement}
 use Rattle.listing.proofs.main.Tie as tie

@@ -1,7 +1,8 @@
 -- `reply` meets its contract: a bad target comes first, then what the text comes to.
 use mathlib.Core.Path.{ap, _∙_}
 use Rattle.listing_reply.specs.Reply.{refusalText}
-use Rattle.listing_reply.proofs.Replies.{fault-not, refused-not, target-done, target-not}
+use Rattle.program.proofs.Answers.{fault-not, refused-not}
+use Rattle.listing_reply.proofs.Replies.{target-done, target-not}
 use Rattle.lines.proofs.Stores.{as-text}
 use borrow.Author.Needs.{needs}
 use Rattle.listing_reply.proofs.reply.Statement.{statement}

@@ -1,7 +1,8 @@
 -- `reply_to_text` meets its contract: the code of an accepted text, or its refusal.
 use mathlib.Core.Path.{ap, _∙_}
 use Rattle.listing_reply.specs.Reply.{refusalText}
-use Rattle.listing_reply.proofs.Replies.{fault-not, refused-not, text-done, text-not}
+use Rattle.program.proofs.Answers.{fault-not, refused-not}
+use Rattle.listing_reply.proofs.Replies.{text-done, text-not}
 use Rattle.lines.proofs.Stores.{then, as-text}
 use native.Mathlib.Omega.{arith}
 use borrow.Author.Needs.{needs}

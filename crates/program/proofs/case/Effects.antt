@@ -6,7 +6,7 @@ use Prim.Native.Nat.{ℕ, suc, _+_, _-_, _≤_, _<_}
 use native.Mathlib.Numerals.{add-one}
 use native.Mathlib.Omega.{arith}
 use lib.ListN.{length, take, drop, length-drop}
-use lib.Seq.{take-all, length-take-le, length-sets}
+use lib.Seq.{take-all, length-sets}
 use borrow.Author.Tests.{lt-ltb, le-ltb}
 use Rattle.memory.specs.Names.{namedRule}
 use Rattle.tokens.specs.Symbols.{equalBytes}
@@ -16,9 +16,6 @@ use Rattle.program.specs.Cases.{Case, targetKey, exprKey, setCell, keyed
 use Rattle.lines.specs.private.Steps.{Puts}
 use Rattle.program.specs.Stream.{caseIn, LengthsInside}
 use Rattle.program.proofs.reply.Whole.{front}
-
-pub key-long : (s : List ℕ) (k : ℕ) → k ≤ length s → k ≡ length (take k s)
-key-long s k h = sym (length-take-le k s h)
 
 -- ---- by the definition
 module _ (s : Case) (l : List ℕ) {k : ℕ} (e : k ≡ keyLength l) where

@@ -1,11 +1,11 @@
 -- What is kept of an input, in its buffers: one byte more, and the bytes of a piece in turn. Assumes nothing.
-use mathlib.Core.Path.{_≡_, refl, sym, ap, _∙_}
+use mathlib.Core.Path.{_≡_, sym, ap, _∙_}
 use mathlib.Core.List.{List, [], _∷_, _++_}
 use Prim.Native.Nat.{ℕ, suc, _+_, _≤_, _<_}
 use native.Mathlib.Numerals.{add-one}
 use native.Mathlib.Omega.{arith}
 use lib.ListN.{length, getD, take, drop, set, length-append, length-set, drop-of-length-le}
-use lib.Seq.{take-all, take-append-le, take-take, take-suc-set, length-take-le, drop-cons}
+use lib.Seq.{take-all, take-append-le, take-suc-set, length-take-le, drop-cons}
 use borrow.Author.Tests.{eq-eqb, ne-eqb}
 use Rattle.program.specs.declared.case.Lengths.{Lengths}
 use Rattle.program.specs.Cases.{Case, afterLine}
@@ -15,9 +15,6 @@ abbrev kept : Case → List ℕ → Progress
 kept s l = record { case = s; line = l }
 
 -- the part of the line that is taken when it ends
-pub taken : (l : List ℕ) (k : ℕ) → k ≤ length l → k ≡ length (take k l)
-taken l k h = sym (length-take-le k l h)
-
 pub within : {m t x l : List ℕ} {n : Lengths} → StreamBuffers m t x l n → (length (take (n .line) l) ≤ length t) × (length (take (n .line) l) ≤ length x)
 within {m} {t} {x} {l} {n} p =
     let e = length-take-le (n .line) l (omega (arith, p .line, p .lines)) in

@@ -3,17 +3,17 @@ use mathlib.Core.Path.{_≡_, sym, ap, subst, _∙_}
 use mathlib.Core.List.{List, [], _++_}
 use Prim.Native.Nat.{ℕ, _≤_}
 use native.Mathlib.Omega.{arith}
-use lib.ListN.{length, take, length-replicate}
+use lib.ListN.{length, take}
 use Rattle.memory.specs.Layout.{imageSize}
 use Rattle.operations.specs.Operations.{request}
 use Rattle.program.specs.declared.case.Lengths.{Lengths}
 use Rattle.program.specs.declared.stream.Receipt.{Receipt}
-use Rattle.program.specs.declared.stream.Receipt.the-variants.{All, Unread}
+use Rattle.program.specs.declared.stream.Receipt.the-variants.{All}
 use Rattle.program.specs.Cases.{Case, emptyCase, zeros, caseOf}
 use Rattle.program.specs.Reply.{replyTo, reply, writeText, writtenLength, HasPrefix, unreadLine, answer, unread, Outputs}
 use Rattle.program.specs.Stream.{keptBytes, Progress, noProgress, afterBytes, caseAtEnd, askedFor, noLengths, caseIn, progressIn}
 use Rattle.program.specs.Stream.{LengthsInside, BlankBuffers, StreamBuffers, HoldsCase, Receives, all, missed, Replies}
-use Rattle.program.proofs.stream.Buffers.{taken}
+use Rattle.program.proofs.Sizes.{zeros-length, prefix-length}
 use Rattle.program.proofs.stream.Pieces.{stream-laws}
 
 -- the buffers keep what the input so far leaves
@@ -21,10 +21,6 @@ pub record Receiving (m t x l : List ℕ) (n : Lengths) : Type 0 where
   pub ready : StreamBuffers m t x l n
   pub input : List ℕ
   pub kept : progressIn m t x l n ≡ afterBytes noProgress input
-
-zeros-length : (n : ℕ) → length (zeros n) ≡ n
-unfolding zeros
-zeros-length n = length-replicate n 0
 
 pub image-long : {m t x : List ℕ} → BlankBuffers m t x → length m ≡ imageSize
 image-long p = ap length (p .image) ∙ zeros-length imageSize
@@ -86,10 +82,10 @@ known missed f = absurd (let z : _≡_ {A = ℕ} 0 1 = cc in omega arith)
 
 module _ {m t x : List ℕ} {n : Lengths} {input : List ℕ} (h : HoldsCase m t x n input) where
   pub target-long : n .target ≡ length (take (n .target) t)
-  target-long = taken t (n .target) (h .inside .target)
+  target-long = prefix-length t (n .target) (h .inside .target)
 
   pub text-long : n .text ≡ length (take (n .text) x)
-  text-long = taken x (n .text) (h .inside .text)
+  text-long = prefix-length x (n .text) (h .inside .text)
 
   -- it asks for what the input asks for
   pub asked : (image : List ℕ) → request (take (n .target) t) (take (n .text) x) image (zeros 16384) (zeros 16384) ≡ askedFor (caseOf input) image

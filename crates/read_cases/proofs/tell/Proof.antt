@@ -1,6 +1,6 @@
 -- `tell` is safe: what is printed lies in the buffer.
 use native.Mathlib.Omega.{arith}
-use Rattle.read_reply.proofs.Prefix.{put-prefix}
+use Rattle.program.proofs.Sizes.{put-prefix}
 use borrow.Author.Needs.{needs}
 use Rattle.read_cases.proofs.tell.Statement.{statement}
 use Rattle.read_cases.proofs.tell.Tie as tie

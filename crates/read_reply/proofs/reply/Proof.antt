@@ -3,7 +3,8 @@ use mathlib.Core.Path.{ap, _∙_}
 use native.Mathlib.Omega.{arith}
 use Rattle.lines.proofs.Stores.{as-text}
 use Rattle.program.specs.Reply.{reportText}
-use Rattle.read_reply.proofs.Replies.{fault-not, refused-not, target-done, target-not}
+use Rattle.program.proofs.Answers.{fault-not, refused-not}
+use Rattle.read_reply.proofs.Replies.{target-done, target-not}
 use borrow.Author.Needs.{needs}
 use Rattle.read_reply.proofs.reply.Statement.{statement}
 use Rattle.read_reply.proofs.reply.Tie as tie

@@ -1,7 +1,8 @@
 -- `case::take_line` meets its contract: one law for each kind of line.
 use mathlib.Core.Path.{sym, _∙_}
 use borrow.Author.Needs.{needs}
-use Rattle.program.proofs.case.Effects.{key-long, value-of, skipped, target-line, expr-line, cell-line}
+use Rattle.program.proofs.Sizes.{prefix-length}
+use Rattle.program.proofs.case.Effects.{value-of, skipped, target-line, expr-line, cell-line}
 use Rattle.program.proofs.case.take_line.Statement.{statement}
 use Rattle.program.proofs.case.take_line.Tie as tie
 
@@ -16,7 +17,7 @@ returns c = skipped (c .before .before .before .before .before .before .args .me
     (c .before .before .before .before .before .before .pre .1 .1) (c .before .until .ensures) (c .if1 .taken)
 
 slice-aggregate-key : tie.Need-slice-aggregate-key
-slice-aggregate-key c = key-long (c .before .before .before .before .before .before .before .args .line .now) (c .before .before .until .result)
+slice-aggregate-key c = prefix-length (c .before .before .before .before .before .before .before .args .line .now) (c .before .before .until .result)
     (c .before .before .until .ensures .1)
 
 add-from : tie.Need-add-from

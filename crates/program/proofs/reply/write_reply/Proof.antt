@@ -6,7 +6,7 @@ use lib.ListN.{length, take, length-take}
 use Rattle.program.specs.Cases.{Case}
 use Rattle.program.specs.Reply.{replyTo, writeText, writtenLength}
 use Rattle.program.proofs.reply.Whole.{text, inside, front}
-use Rattle.program.proofs.stream.Buffers.{taken}
+use Rattle.program.proofs.Sizes.{prefix-length}
 use borrow.Author.Needs.{needs}
 use Rattle.program.proofs.reply.write_reply.Statement.{statement}
 use Rattle.program.proofs.reply.write_reply.Tie as tie
@@ -46,7 +46,7 @@ array-share-prefix-bytes : tie.Need-array-share-prefix-bytes
 array-share-prefix-bytes c = search needs
 
 slice-aggregate-write-text : tie.Need-slice-aggregate-write-text
-slice-aggregate-write-text c = taken (c .before .before .put-reply .last .0) (c .before .before .put-reply .result) (omega arith)
+slice-aggregate-write-text c = prefix-length (c .before .before .put-reply .last .0) (c .before .before .put-reply .result) (omega arith)
 
 write-text-requires : tie.Need-write-text-requires
 write-text-requires c κs = search needs

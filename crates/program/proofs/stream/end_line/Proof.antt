@@ -1,12 +1,13 @@
 -- `stream::end_line` meets its contract: what is kept of the line is taken.
 use native.Mathlib.Omega.{arith}
-use Rattle.program.proofs.stream.Buffers.{taken, within}
+use Rattle.program.proofs.Sizes.{prefix-length}
+use Rattle.program.proofs.stream.Buffers.{within}
 use borrow.Author.Needs.{needs}
 use Rattle.program.proofs.stream.end_line.Statement.{statement}
 use Rattle.program.proofs.stream.end_line.Tie as tie
 
 slice-aggregate-take-line : tie.Need-slice-aggregate-take-line
-slice-aggregate-take-line c = let s = c .before .before .before .before .before in taken (s .args .line .now) (s .args .n .line) (omega
+slice-aggregate-take-line c = let s = c .before .before .before .before .before in prefix-length (s .args .line .now) (s .args .n .line) (omega
     (arith, s .pre .line, s .pre .lines))
 
 take-line-requires : tie.Need-take-line-requires
