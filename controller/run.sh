@@ -78,6 +78,13 @@ test_web() {
     node controller/web/test.mjs "$PWD/$out/web" crates/vector_cases/stdin crates/vector_cases/stdout $calls || fail "formula.wasm"
 }
 
+measure_memory() {
+    echo "== the stack of every operation, and the RAM of a whole application"
+    # shellcheck disable=SC2086
+    sh controller/count/stack.sh $only || fail "the depths of stacks"
+    sh controller/count/ram.sh || fail "the sum of RAM"
+}
+
 test_controls() {
     have "arm-none-eabi-gcc qemu-system-arm" "the controls are" || return
     echo "== controls: each mistake must be noticed"
@@ -90,6 +97,7 @@ prepare
 while read -r library target numbers firmware; do
     make_and_test "$library" "$target" "$numbers" "$firmware" < /dev/null
 done < "$out/archives"
+measure_memory
 ! chosen m4f || test_controls
 if [ "$failed" -eq 0 ]; then
     echo "as on x86-64:$only"

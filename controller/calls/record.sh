@@ -37,6 +37,8 @@ record formula_c 4000 6000 "$seed"
 for part in literals cards salvage reads images lists replay formats; do
     record formula_c 400 $part 1000 "$seed"
 done
+# every answer's words are tried with buffers of every size, before any listing
+record formula_c 3000 listings 600 "$seed"
 between formula_int_c
 record formula_int_c 4000 profile 6000 "$seed"
 wc -c "$work"/*.bin

@@ -1,5 +1,5 @@
 #!/bin/sh
-# What compile, check and run cost on a target, and the deepest stack: sh controller/count/count.sh TARGET [ARCHIVE.a]
+# What compile, check and run cost on a target: sh controller/count/count.sh TARGET [ARCHIVE.a]
 # For scans of forty formulas, those of bench/: instructions by QEMU, and on a Cortex-M4 cycles by counter.c's estimate, with the share of 50 ms
 # at 100 MHz that a run with its check takes. PROFILE=1 also lists the functions that take most of all cycles.
 set -eu
@@ -38,7 +38,3 @@ paste -d ' ' - - - < "$work/counts" | paste -d ' ' "$work/scans" - | awk -v targ
     }'
 
 [ -z "${PROFILE:-}" ] || { "$nm" -n "$work/scans.elf" | awk -f controller/count/profile.awk - "$work/profile" | sort -rn | head -20; }
-
-echo "deepest stack on $target"
-CFLAGS="-include controller/count/inputs.h -DINPUTS=\"$inputs\"" sh controller/board/build.sh "$target" "$work/stack.elf" "$archive" bench/stack.c
-sh controller/board/emulate.sh "$target" "$work/stack.elf"

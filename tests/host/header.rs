@@ -39,6 +39,13 @@ pub struct Salvaged {
     pub named: u64,
 }
 
+#[derive(Clone, Copy, PartialEq, Debug)]
+#[repr(C)]
+pub struct Listed {
+    pub answer: u32,
+    pub length: u32,
+}
+
 /// All 0 before the first call.
 #[derive(Clone, Copy, PartialEq, Debug, Default)]
 #[repr(C)]
@@ -98,6 +105,8 @@ extern "C" {
         code: *const u8, code_len: usize, instructions: usize, index_code: *const u8, index_len: usize,
         index_instructions: usize, list: *mut u16, list_len: usize,
     ) -> u32;
+    pub fn formula_listing(code: *const u8, code_len: usize, instructions: usize, text: *mut u8, text_len: usize, result: *mut Listed);
+    pub fn formula_words(answer: u32, text: *mut u8, text_len: usize) -> u32;
 }
 
 #[rustfmt::skip]

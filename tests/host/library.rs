@@ -214,6 +214,18 @@ pub fn cells(code: Code, index_code: Code, list: &mut [u16]) -> u32 {
     unsafe { formula_cells(code.0, code.1, n, index.0, index.1, k, list.as_mut_ptr(), list.len()) }
 }
 
+pub fn listing(code: Code, text: &mut Lent) -> Listed {
+    let mut result = Listed { answer: 77, length: 77 };
+    let (instructions, code, text) = (code.instructions, code.lent.lend(), text.lend_to_write());
+    unsafe { formula_listing(code.0, code.1, instructions, text.0, text.1, &mut result) };
+    result
+}
+
+pub fn words(answer: u32, text: &mut Lent) -> u32 {
+    let text = text.lend_to_write();
+    unsafe { formula_words(answer, text.0, text.1) }
+}
+
 pub fn pack(old: &Lent, image: &mut Lent) -> u32 {
     let (old, image) = (old.lend(), image.lend_to_write());
     unsafe { formula_pack(old.0, old.1, image.0, image.1) }

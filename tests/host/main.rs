@@ -9,6 +9,7 @@
 //!   host lists [NUMBER [SEED]]    lists of formulas, and pairs of them in both orders
 //!   host replay [NUMBER [SEED]]   nights replayed in calls
 //!   host formats [NUMBER [SEED]]  formulas saved, read again and saved again
+//!   host listings [NUMBER [SEED]] codes listed, and the words of answers
 //!   host profile [CASES [SEED [FIRST]]] random cases and the stored ones in the profile without reals, by both libraries
 //!   host examples DOCUMENT...     the examples of the documents
 
@@ -19,6 +20,7 @@ mod examples;
 mod formats;
 mod header;
 mod library;
+mod listings;
 mod lists;
 mod literals;
 mod profiles;
@@ -62,6 +64,7 @@ fn main() {
         ["lists", ref numbers @ ..] => random_lists(numbers),
         ["replay", ref numbers @ ..] => random_replay(numbers),
         ["formats", ref numbers @ ..] => random_formats(numbers),
+        ["listings", ref numbers @ ..] => random_listings(numbers),
         ["profile", ref numbers @ ..] => random_profile(numbers),
         _ => random_cases(&words),
     };
@@ -112,6 +115,10 @@ fn random_replay(words: &[&str]) -> Result<(), String> {
 
 fn random_formats(words: &[&str]) -> Result<(), String> {
     formats::try_formats(argument(words, 0, DEFAULT_FORMULAS)?, argument(words, 1, clock())?)
+}
+
+fn random_listings(words: &[&str]) -> Result<(), String> {
+    listings::try_listings(argument(words, 0, DEFAULT_FORMULAS)?, argument(words, 1, clock())?)
 }
 
 fn random_profile(words: &[&str]) -> Result<(), String> {

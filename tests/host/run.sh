@@ -26,6 +26,7 @@ rustc --edition 2021 -O -L target/staticlib -o "$out/host" tests/host/main.rs
 "$out/host" lists
 "$out/host" replay
 "$out/host" formats
+"$out/host" listings
 "$out/host" profile
 sh tests/host/windows.sh
 sh tests/host/runs.sh

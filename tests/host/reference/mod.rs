@@ -7,6 +7,7 @@ pub mod code;
 pub mod compile;
 pub mod format;
 pub mod grammar;
+pub mod listing;
 pub mod literal;
 pub mod machine;
 pub mod memory;
