@@ -21,6 +21,8 @@
 #endif
 
 #define STACK (1u << 17)
+#define DEEPEST 8       /* open brackets */
+#define LONG_TEXT 512   /* bytes that make a text a long one */
 #define SHORT_TEXT 127u /* bytes */
 #define SHORT_CODE 128u /* instructions */
 
@@ -296,25 +298,43 @@ static void measure(const char *name, const char *target_text, const char *expr_
     }
 }
 
-/* Texts that nest as deep as may be, in every way that a reader may call itself, and one bracket too many. */
+/* A text that nests so deep: blanks, some brackets of one form, and plain ones inside them. */
+struct unit {
+    const char *before, *behind;
+};
+
+static void append(char *text, const char *part, int times) {
+    for (int i = 0; i < times; i++) {
+        strcat(text, part);
+    }
+}
+
+static void measure_one(const struct unit *unit, int units, int deep, int blanks) {
+    static char text[FORMULA_TEXT_BYTES + 1];
+    text[0] = '\0';
+    append(text, " ", blanks);
+    append(text, unit->before, units);
+    append(text, "(", deep - units);
+    append(text, "1", 1);
+    append(text, ")", deep - units);
+    append(text, unit->behind, units);
+    measure(deep == DEEPEST ? "eight brackets" : "nine brackets", "D0", text);
+}
+
+/* As deep as may be, in every way that a reader may call itself, and one bracket too many; with fewer of the longer forms in short texts, and behind
+ * blanks in long ones, since the text's length decides on the size of the tables. */
 static void measure_nested(void) {
 #define GROUPS "1||1&&1|1^1&1==1<1<<1+1*1**"
-    static const struct {
-        const char *before, *behind;
-    } units[] = {{"(", ")"},       {"D[", "]"},     {"MAX(1,", ")"},           {"IF(1,1,", ")"},
-                 {"IF(1,", ",1)"}, {"-~!(", ")"}, {GROUPS "IF(1,1,", ")"}, {GROUPS "IF(1,", ",1)"}};
-    static char text[FORMULA_TEXT_BYTES + 1];
+    static const struct unit units[] = {
+        {"D[", "]"},     {"MAX(1,", ")"},    {"IF(1,1,", ")"},           {"IF(1,", ",1)"},
+        {"-~!(", ")"},   {GROUPS "(", ")"},  {GROUPS "IF(1,1,", ")"},    {GROUPS "IF(1,", ",1)"},
+    };
     for (size_t u = 0; u < sizeof units / sizeof units[0]; u++) {
-        for (int deep = 8; deep <= 9; deep++) {
-            text[0] = '\0';
-            for (int i = 0; i < deep; i++) {
-                strcat(text, units[u].before);
+        for (int deep = DEEPEST; deep <= DEEPEST + 1; deep++) {
+            for (int number = 0; number <= deep; number++) {
+                measure_one(&units[u], number, deep, 0);
+                measure_one(&units[u], number, deep, LONG_TEXT);
             }
-            strcat(text, "1");
-            for (int i = 0; i < deep; i++) {
-                strcat(text, units[u].behind);
-            }
-            measure(deep == 8 ? "eight brackets" : "nine brackets", "D0", text);
         }
     }
 }

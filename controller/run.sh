@@ -20,12 +20,11 @@ chosen() {
     case $only in *" $1 "*) return 0 ;; *) return 1 ;; esac
 }
 
-# LIBRARY TARGET NUMBERS FIRMWARE, a line for each archive that was asked for
-list_archives() {
-    awk -F ' *[|] *' '!/^#/ { n = split($2, targets, " "); for (i = 1; i <= n; i++) print $1, targets[i], $3, $4 }' controller/archives.txt |
-        while read -r library target rest; do
-            ! chosen "$target" || echo "$library $target $rest"
-        done
+# Those that were asked for.
+chosen_archives() {
+    list_archives | while read -r library target rest; do
+        ! chosen "$target" || echo "$library $target $rest"
+    done
 }
 
 keep_modules() {
@@ -91,7 +90,7 @@ test_controls() {
     sh controller/board/controls.sh || fail "a control"
 }
 
-list_archives > "$out/archives"
+chosen_archives > "$out/archives"
 keep_modules
 prepare
 while read -r library target numbers firmware; do

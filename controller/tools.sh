@@ -42,3 +42,12 @@ target_words() {
 target_tool() {
     target_words "$1" "$2" | cut -d ' ' -f 1
 }
+
+# LIBRARY TARGET NUMBERS FIRMWARE, a line for each archive of archives.txt
+list_archives() {
+    awk -F ' *[|] *' '!/^#/ { n = split($2, targets, " "); for (i = 1; i <= n; i++) print $1, targets[i], $3, $4 }' controller/archives.txt
+}
+
+# A function for awk: a number with its commas.
+# shellcheck disable=SC2034
+shown='function shown(n) { n = n ""; while (n ~ /[0-9][0-9][0-9][0-9]/) sub(/[0-9][0-9][0-9]($|,)/, ",&", n); return n }'

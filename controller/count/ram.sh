@@ -49,8 +49,7 @@ for wanted in m4f/firmware.elf m0/feeder.elf stack/formula_c.m4f stack/formula_i
 done
 box=$(column formula_c m4f firmware)
 feeder=$(column formula_int_c m0 feeder)
-echo "$box $feeder" | awk '
-    function shown(n) { n = n ""; while (n ~ /[0-9][0-9][0-9][0-9]/) sub(/[0-9][0-9][0-9]($|,)/, ",&", n); return n }
+echo "$box $feeder" | awk "$shown"'
     BEGIN {
         print "| RAM, bytes | dosing box, m4f | yarn feeder, m0 |\n|---|---|---|"
         rows = split("the memory|code of all formulas, set aside|one buffer to compile into|lines, counters, the rest of the data|" \

@@ -35,24 +35,26 @@ print_table() {
         [ ! -s "$work/$library.$machine" ] || files="$files $work/$library.$machine"
     done
     # shellcheck disable=SC2086
-    awk '
+    awk "$shown"'
         FNR == 1 { n = split(FILENAME, part, "."); head = head " " part[n] " |"; rule = rule "---|"; files++ }
         { name = $0; sub(/ +[0-9]+ bytes.*/, "", name); match($0, /[0-9]+ bytes/); bytes = substr($0, RSTART, RLENGTH - 6) }
         files == 1 { row[FNR] = "| " name " |" }
-        { while (bytes ~ /[0-9][0-9][0-9][0-9]/) sub(/[0-9][0-9][0-9]($|,)/, ",&", bytes); row[FNR] = row[FNR] " " bytes " |"; last = FNR }
+        { row[FNR] = row[FNR] " " shown(bytes) " |"; last = FNR }
         END { print "| Deepest stack, bytes |" head "\n|---|" rule; for (i = 1; i <= last; i++) print row[i]; print "" }' $files
 }
 
-while IFS='|' read -r library targets numbers _; do
-    case $library in '#'*) continue ;; esac
+# The board's programs read none of the list.
+for library in $(list_archives | cut -d ' ' -f 1 | uniq); do
+    rm -f "$work/$library".*
+    machines=x86-64
+    list_archives > "$work/archives"
+    while read -r name target numbers _; do
+        [ "$name" = "$library" ] || continue
+        definition=$(echo "$numbers" | tr '[:lower:]' '[:upper:]')
+        [ "$machines" != x86-64 ] || measure_here "$library" "$definition"
+        machines="$machines $target"
+        case $only in *" $target "*) [ "$target" = wasm32 ] || measure_on "$library" "$definition" "$target" < /dev/null ;; esac
+    done < "$work/archives"
     # shellcheck disable=SC2086
-    set -- $library $numbers
-    rm -f "$work/$1".*
-    definition=$(echo "$2" | tr '[:lower:]' '[:upper:]')
-    measure_here "$1" "$definition"
-    for target in $targets; do
-        case $only in *" $target "*) [ "$target" = wasm32 ] || measure_on "$1" "$definition" "$target" < /dev/null ;; esac
-    done
-    # shellcheck disable=SC2086
-    print_table "$1" x86-64 $targets
-done < controller/archives.txt
+    print_table "$library" $machines
+done
