@@ -1,7 +1,8 @@
 #!/bin/sh
 # The proved library on 32-bit machines and in the web, from the proof to tested archives: sh controller/run.sh [TARGET...]
 # Proves the libraries of archives.txt and writes target/controller/TARGET/libLIBRARY.a for the targets of targets.txt (all, if none is named),
-# then tests each on its emulated board. What a missing tool would do is left out, and said so; docs/CONTROLLER.md names the tools.
+# then tests each on its emulated board: some minutes, behind the proof. What a missing tool would do is left out, and said so; docs/CONTROLLER.md names
+# the tools.
 set -u
 cd "$(dirname "$0")/.." || exit 1
 . controller/tools.sh
@@ -38,7 +39,7 @@ keep_modules() {
 
 # The calls that are replayed, and the scans that are counted, come from this machine.
 prepare() {
-    echo "== calls recorded on this machine"
+    echo "== calls recorded on this machine, to be replayed on the others"
     have "rustc cc ar objcopy" "replays and counts are" || return
     sh controller/calls/record.sh || fail "recording"
     rustc --edition 2021 -O -L target/staticlib -o "$out/bench" bench/main.rs || { fail "bench/main.rs"; return; }
@@ -69,7 +70,7 @@ test_board() {
 
 test_web() {
     sh controller/web/build.sh || { fail "formula.wasm"; return; }
-    wc -c "$out/web/formula.wasm"
+    echo "wasm32: formula.wasm has $(wc -c < "$out/web/formula.wasm") bytes"
     have node "the test of formula.wasm is" || return
     calls=
     [ ! -s "$out/calls/formula_c.bin" ] || calls=$out/calls/formula_c.bin
@@ -99,7 +100,7 @@ done < "$out/archives"
 measure_memory
 ! chosen m4f || test_controls
 if [ "$failed" -eq 0 ]; then
-    echo "as on x86-64:$only"
+    echo "all is as on x86-64:${only% }"
     [ "$left_out" -eq 0 ] || echo "but not all was tested: see what is missing, above"
 fi
 exit "$failed"

@@ -1,6 +1,6 @@
 #!/bin/sh
 # Builds a program of tests, with the C library's files on the host, for an emulated board: sh controller/board/build.sh TARGET PROGRAM.elf ARCHIVE.a
-# "FILE.c ..." [WORDS...]. WORDS become those of its main. CFLAGS adds words for the compiler.
+# "FILE.c ..." [WORDS...]. WORDS become those of its main. CFLAGS adds words for the compiler, LIBRARIES for the linker.
 set -eu
 cd "$(dirname "$0")/../.."
 . controller/tools.sh
@@ -36,4 +36,4 @@ done
 compile -DWORDS="$words" -c -o "$work/program.o" controller/board/program.c
 compile -c -o "$work/board.o" "$board"
 # shellcheck disable=SC2086
-$cross $specs $start -Wl,--gc-sections -o "$program" "$work"/*.o "$archive"
+$cross $specs $start -Wl,--gc-sections -o "$program" "$work"/*.o "$archive" ${LIBRARIES:-}

@@ -18,10 +18,10 @@ must_fail() {
 }
 
 must_fail "subnormals flushed to zero" env CFLAGS=-DFLUSH_TO_ZERO sh controller/board/test.sh m4f
-grep -E 'FAILED|replayed' "$out/control" | sed 's/^/    /; s/ FAILED,//'
+grep -E 'FAILED|replayed|pairs' "$out/control" | sed 's/^/    /; s/ FAILED,//'
 REMAINDER=naive_remainder sh controller/module/archive.sh formula_c m4f "$out/m4f/naive.a"
 must_fail "% of reals sent to another function" env MORE=controller/board/naive_remainder.c sh controller/board/test.sh m4f "$out/m4f/naive.a"
-grep -E 'FAILED|replayed' "$out/control" | sed 's/^/    /; s/ FAILED,//'
+grep -E 'FAILED|replayed|pairs' "$out/control" | sed 's/^/    /; s/ FAILED,//'
 
 # Each line is no part of a module that means the same everywhere.
 refused() {

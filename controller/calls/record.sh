@@ -41,4 +41,6 @@ done
 record formula_c 3000 listings 600 "$seed"
 between formula_int_c
 record formula_int_c 4000 profile 6000 "$seed"
-wc -c "$work"/*.bin
+for library in formula_c formula_int_c; do
+    echo "$library: $(wc -c < "$work/$library.bin") bytes of recorded calls"
+done

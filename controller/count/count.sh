@@ -23,16 +23,16 @@ words=$PWD/$work/counter.so,begin=$(address count_begin),end=$(address count_end
 sh controller/board/emulate.sh "$target" "$work/scans.elf" -plugin "$words" > "$work/scans"
 
 # Three lines of counts belong to each scan.
-echo "scans of forty formulas on $target"
+echo "scans of forty formulas on $target: instructions of each operation; on a Cortex-M cycles too, and the shares of 50 ms at 100 MHz"
 paste -d ' ' - - - < "$work/counts" | paste -d ' ' "$work/scans" - | awk -v target="$target" -v budget="$budget" '
     BEGIN {
         cycles = target ~ /^m/
-        printf "%-18s %10s %10s %10s", "", "compile", "check", "run"
-        print cycles ? sprintf("  %10s %10s %10s %9s %9s", "cycles", "", "", "compile", "run") : " instructions"
+        printf "%-20s %10s %10s %10s", "", "compile", "check", "run"
+        print cycles ? sprintf("  %10s %10s %10s %9s %9s", "compile", "check", "run", "compile", "run") : ""
     }
     {
         n = NF - 5
-        printf "%-18s %10d %10d %10d", $1, $(n), $(n + 2), $(n + 4)
+        printf "%-20s %10d %10d %10d", $1, $(n), $(n + 2), $(n + 4)
         if (cycles) printf "  %10d %10d %10d %8.1f%% %8.1f%%", $(n + 1), $(n + 3), $(n + 5), 100 * $(n + 1) / budget, 100 * $(n + 5) / budget
         print ""
     }'

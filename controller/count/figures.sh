@@ -1,6 +1,7 @@
 #!/bin/sh
-# Every table of figures of docs/CONTROLLER.md, as it stands there: sh controller/count/figures.sh
-# Of the archives, programs and counts that run.sh made last; the stacks are measured anew.
+# Every table of figures of docs/CONTROLLER.md, as it stands there: sh controller/count/figures.sh [write]
+# Of the archives, programs and counts that run.sh made last; the stacks are measured anew. With `write` each table takes the place of the one in the
+# document that has the same first line.
 set -eu
 cd "$(dirname "$0")/../.."
 . controller/tools.sh
@@ -48,9 +49,26 @@ print_runs() {
         END { for (i = 1; i <= n; i++) { name = order[i]; gsub(/_/, " ", name); print "| " name " |" row[order[i]] } }'
 }
 
-print_sizes
-[ ! -s "$out/m4f/count/counts" ] || print_scans
-print_runs
-echo
-sh controller/count/stack.sh
-sh controller/count/ram.sh
+print_all() {
+    print_sizes
+    [ ! -s "$out/m4f/count/counts" ] || print_scans
+    print_runs
+    echo
+    sh controller/count/stack.sh
+    sh controller/count/ram.sh
+}
+
+# $1: the tables, $2: the document
+put_tables() {
+    awk '
+        NR == FNR { if (!/^\|/) table = ""; else if (table == "") table = $0; else rows[table] = rows[table] "\n" $0; next }
+        /^\|/ && inside { next }
+        { inside = 0; print; if ($0 in rows) { print substr(rows[$0], 2); inside = 1 } }' "$1" "$2"
+}
+
+print_all > "$out/figures"
+cat "$out/figures"
+if [ "${1:-}" = write ]; then
+    put_tables "$out/figures" docs/CONTROLLER.md > "$out/document"
+    cp "$out/document" docs/CONTROLLER.md
+fi

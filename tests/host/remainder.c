@@ -1,14 +1,13 @@
 /* formula_remainder beside the C library's fmodf, bit for bit and in every floating-point mode; `%` of a formula beside both; and
- * the header's test of the mode. run.sh links it with either archive.
+ * the header's test of the mode. run.sh links it with either archive; controller/board/test.sh runs it on boards, in the mode of their start.
  *
  *   remainder [BATCHES]
  */
-#include <fenv.h>
+#include <inttypes.h>
 #include <math.h>
 #include <stdio.h>
 #include <stdlib.h>
 #include <string.h>
-#include <xmmintrin.h>
 
 #include "formula.h"
 
@@ -18,17 +17,33 @@
 
 /* ---- floating-point modes: bits of the processor's MXCSR ---- */
 
+#if defined __SSE__
+#include <xmmintrin.h>
+#else
+static unsigned _mm_getcsr(void)
+{
+    return 0;
+}
+
+static void _mm_setcsr(unsigned mode)
+{
+    (void)mode;
+}
+#endif
+
 static const struct mode {
     const char *name;
     unsigned set;
     int ok;
 } modes[] = {
     {"as the library needs it", 0, 1},
+#if defined __SSE__
     {"results flushed to zero", 0x8000, 0},
     {"operands flushed to zero", 0x0040, 0},
     {"rounding down", 0x2000, 0},
     {"rounding up", 0x4000, 0},
     {"rounding toward zero", 0x6000, 0},
+#endif
 };
 #define MODES (sizeof modes / sizeof modes[0])
 
@@ -106,7 +121,8 @@ static unsigned compare_batch(const char *name)
     unsigned wrong = 0;
     for (unsigned i = 0; i < BATCH; i++) {
         if (!same(found[i], expected[i])) {
-            printf("%s: %08x %% %08x gives %08x, fmodf %08x\n", name, dividends[i], divisors[i], found[i], expected[i]);
+            printf("%s: %08" PRIx32 " %% %08" PRIx32 " gives %08" PRIx32 ", fmodf %08" PRIx32 "\n", name, dividends[i], divisors[i], found[i],
+                   expected[i]);
             wrong++;
         }
     }
@@ -150,7 +166,7 @@ static unsigned test_operator(void)
         formula_run(code, sizeof code, instructions, memory, sizeof memory, (const uint8_t *)"R2", 2, no_index, 0, 0, 0, &report);
         found[i] = fault ? expected[i] : report.bits;
         if (fault != (report.answer != FORMULA_DONE)) {
-            printf("R0 %% R1: %08x %% %08x gives answer %u, %s\n", dividends[i], divisors[i], report.answer,
+            printf("R0 %% R1: %08" PRIx32 " %% %08" PRIx32 " gives answer %" PRIu32 ", %s\n", dividends[i], divisors[i], report.answer,
                    formula_answer_text(report.answer, words));
             return 1;
         }
