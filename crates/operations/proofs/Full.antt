@@ -19,7 +19,8 @@ use Rattle.machine.specs.Machine.{runsAt}
 use Rattle.machine.specs.Profile.{runsIn}
 use Rattle.verifier.specs.declared.Verdict.{Verdict}
 use Rattle.verifier.specs.Profile.{verdictIn}
-use Rattle.profile_code.proofs.Theorems.{profile-code}
+use Rattle.machine.proofs.Profile.{profile-runs}
+use Rattle.verifier.proofs.Profile.{profile-verdicts}
 use Rattle.compiler.specs.Compile.{inRoom, compiling, compilingIn}
 use Rattle.targets.specs.declared.Element.{Element}
 use Rattle.targets.specs.declared.Element.the-variants.{Is, By}
@@ -64,16 +65,16 @@ module _ (text code index : List ℕ) where
 -- ---- checks and runs
 
 pub full-runs : (tick : ℕ) (code : List ℕ) (n : ℕ) (m : List ℕ) → runsIn true tick code n m ≡ runsAt tick code n m
-full-runs tick code n m = profile-code .full-run (memoryAt tick m) (instructions code n) 0 []
+full-runs tick code n m = profile-runs .full (memoryAt tick m) (instructions code n) 0 []
 
 pub full-check : (code : List ℕ) (n : ℕ) → checkAnswerFor true code n ≡ checkAnswer code n
-full-check code n = ap verdictAnswer (profile-code .full-verdict (instructions code n))
+full-check code n = ap verdictAnswer (profile-verdicts .full-verdict (instructions code n))
 
 pub full-evaluate : (tick : ℕ) (code : List ℕ) (n : ℕ) (m : List ℕ) → evaluateAnswerFor true tick code n m ≡ evaluateAnswer tick code n m
 full-evaluate tick code n m =
     ap (λ (x : Ran). cond (eqb (length m) imageSize) (valueAnswer x (verdictIn true (instructions code n))) (Refused 1 0)) (full-runs tick code n m)
     ∙ ap (λ (v : Verdict). cond (eqb (length m) imageSize) (valueAnswer (runsAt tick code n m) v) (Refused 1 0))
-    (profile-code .full-verdict (instructions code n))
+    (profile-verdicts .full-verdict (instructions code n))
 
 pub evaluates-full : (tick : ℕ) (code : List ℕ) (n : ℕ) (m : List ℕ) {r : Answer} → r ≡ evaluateAnswerFor true tick code n m
     → r ≡ evaluateAnswer tick code n m
@@ -89,7 +90,7 @@ arrival-same reals tick index m b (By k) h = ap (λ (x : Ran). record { destinat
 
 full-passes : (index : List ℕ) (e : Element) → indexPassesFor true index e ≡ indexPasses index e
 full-passes index (Is i) = refl
-full-passes index (By k) = ap isAccepted (profile-code .full-verdict (instructions index k))
+full-passes index (By k) = ap isAccepted (profile-verdicts .full-verdict (instructions index k))
 
 full-given : (index : List ℕ) (f : Found) → givenGoalOfFor true index f ≡ givenGoalOf index f
 full-given index (In b e) = ap (λ (x : Bool). cond x (to b e) (none 15)) (full-passes index e)
@@ -103,7 +104,7 @@ full-goal : (code target index m : List ℕ) (n k : ℕ) → goalFor true code n
 full-goal code target index m n k =
     ap (λ (g : Goal). cond (eqb (length m) imageSize) g (none 1))
     (full-goal-of index (verdictIn true (instructions code n)) (foundToRun k target)
-    ∙ ap (λ (v : Verdict). goalOf index v (foundToRun k target)) (profile-code .full-verdict (instructions code n)))
+    ∙ ap (λ (v : Verdict). goalOf index v (foundToRun k target)) (profile-verdicts .full-verdict (instructions code n)))
 
 full-given-goal : (target index m : List ℕ) (k : ℕ) → givenGoalFor true target index k m ≡ givenGoal target index k m
 full-given-goal target index m k = ap (λ (g : Goal). cond (eqb (length m) imageSize) g (none 1)) (full-given index (foundToRun k target))

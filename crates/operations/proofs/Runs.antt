@@ -17,7 +17,7 @@ use Rattle.machine.specs.Profile.{runsIn}
 use Rattle.verifier.specs.declared.Verdict.{Verdict}
 use Rattle.verifier.specs.declared.Verdict.the-variants as Verdict
 use Rattle.verifier.specs.Profile.{verdictIn}
-use Rattle.profile_code.proofs.Theorems.{profile-code}
+use Rattle.verifier.proofs.Profile.{profile-verdicts}
 use Rattle.targets.specs.declared.Element.{Element}
 use Rattle.targets.specs.declared.Element.the-variants.{Is, By}
 use Rattle.targets.specs.declared.Found.{Found}
@@ -39,7 +39,7 @@ module _ (reals : Bool) (code : List ℕ) (n : ℕ) where
 
   -- no more instructions than the check accepts
   pub few-accepted : {k : Kind} → verdictIn reals (instructions code n) ≡ Verdict.Accepted k → n ≤ 2048
-  few-accepted {k} e = omega (arith, profile-code .exact reals (instructions code n) k .0 e .few, decode-length code 0 n)
+  few-accepted {k} e = omega (arith, profile-verdicts .exact reals (instructions code n) k .0 e .few, decode-length code 0 n)
 
 -- index code that is checked is short
 pub few-checked : (reals : Bool) (index : List ℕ) (e : Element) → indexPassesFor reals index e ≡ true → Few e

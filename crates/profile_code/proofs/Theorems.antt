@@ -8,9 +8,7 @@ use Rattle.values.specs.declared.Kind.the-variants.{Int}
 use Rattle.operators.specs.Kinds.{isInt}
 use Rattle.code.specs.declared.Instr.{Instr}
 use Rattle.machine.specs.Configurations.{first}
-use Rattle.machine.proofs.Profile.{profile-runs}
 use Rattle.verifier.specs.Profile.{AcceptsIn}
-use Rattle.verifier.proofs.Profile.{profile-verdicts}
 use Rattle.profile_code.specs.Theorems.{ProfileCode}
 use Rattle.profile.proofs.Tests.{both}
 use Rattle.profile.proofs.Integers.{int-kind}
@@ -25,12 +23,8 @@ ends-int c k a = int-kind k (both (isInt k) true (integers c k a (length c) (k �
 pub profile-code : ProfileCode
 profile-code =
     record {
-      full = profile-verdicts .full;
-      full-verdict = profile-verdicts .full-verdict;
-      full-run = profile-runs .full;
       checked = λ c k. (λ a. (accepted c k a, (integers c k a, no-reader c k a)), λ h. in-profile c k (h .0) (h .1 .0) (h .1 .1));
       reads-integers = reads-integers;
-      exact = profile-verdicts .exact;
       ran = λ E c k K a. (ends-int c k a, same-run E K c k a c 0 [] first);
       integers-held = λ E c k K a C. held-ints E K c k a C;
     }

@@ -1,7 +1,7 @@
 -- What the check and the machine of the profile are to the full box's (paper 02, Ask 12). proofs/Theorems.antt proves the record.
 use mathlib.Core.Path.{_≡_}
 use mathlib.Core.Logic.{_↔_}
-use mathlib.Core.Bool.{Bool, true, false}
+use mathlib.Core.Bool.{true, false}
 use mathlib.Core.List.{List, []}
 use Prim.Native.Nat.{ℕ, _<_}
 use lib.ListN.{length}
@@ -13,15 +13,13 @@ use Rattle.memory.specs.Environment.{Environment}
 use Rattle.code.specs.declared.Instr.{Instr}
 use Rattle.machine.specs.Machine.{exec}
 use Rattle.machine.specs.Configurations.{Configuration}
-use Rattle.verifier.specs.declared.Verdict.the-variants.{Accepted}
 use Rattle.verifier.specs.Typing.{Shape}
 use Rattle.verifier.specs.Accepts.{instrAt, Reached, Accepts}
-use Rattle.verifier.specs.Verdicts.{verdict}
 use Rattle.verifier.specs.Safety.{Kinded}
 use Rattle.read_set.specs.Cells.{codeCells}
 use Rattle.profile.specs.Parts.{realBank}
 use Rattle.code.specs.Reals.{readsReal}
-use Rattle.verifier.specs.Profile.{allInt, AcceptsIn, verdictIn}
+use Rattle.verifier.specs.Profile.{allInt, AcceptsIn}
 use Rattle.machine.specs.Profile.{realAmong, execIn}
 
 -- "holds only integers", wherever the code can come
@@ -33,16 +31,10 @@ abbrev pub NoReader : List Instr → Type 0
 NoReader c = (p : ℕ) → p < length c → readsReal (instrAt c p) ≡ false
 
 pub record ProfileCode : Type 0 where
-  -- with reals nothing changes
-  pub full : (c : List Instr) (k : Kind) → AcceptsIn true c k ↔ Accepts c k
-  pub full-verdict : (c : List Instr) → verdictIn true c ≡ verdict c
-  pub full-run : (E : Environment) (c : List Instr) (d : ℕ) (st : List Value) → execIn true E c d st ≡ exec E c d st
   -- "Code checked for the profile holds only integers and has no instruction that reads R": exactly such code of the full box's
   pub checked : (c : List Instr) (k : Kind) → AcceptsIn false c k ↔ (Accepts c k × (HoldsIntegers c × NoReader c))
   -- of R no cell is among those that it reads (Ask 11), so its R cells may hold anything
   pub reads-integers : (c : List Instr) → NoReader c → (b : Bank) (i : ℕ) → codeCells c b i ≡ true → realBank b ≡ false
-  -- the check as a function says the same
-  pub exact : (reals : Bool) (c : List Instr) (k : Kind) → verdictIn reals c ≡ Accepted k ↔ AcceptsIn reals c k
   -- "the feeder and the full box give the same answer, value, .. and count": on such code the machine without reals does what the full one does, to an integer
   pub ran : (E : Environment) (c : List Instr) (k : Kind) → Kinded E → AcceptsIn false c k → (k ≡ Int) × (execIn false E c 0 [] ≡ exec E c 0 [])
   -- and never holds a real on the way

@@ -29,7 +29,7 @@ use Rattle.operations.specs.Operations.{Arrival, Goal, to, none, isAccepted, gi
 use Rattle.operations.specs.Operations.{finished, memoryAfter, followAnswer, followMemory, ranAnswer, ranMemory, gaveAnswer, gaveMemory}
 use Rattle.profile.specs.Parts.{realBank}
 use Rattle.verifier.specs.Profile.{AcceptsIn, verdictIn}
-use Rattle.profile_code.proofs.Theorems.{profile-code}
+use Rattle.verifier.proofs.Profile.{profile-verdicts}
 use Rattle.operations.specs.Profile.{arrivalFor, givenGoalOfFor, goalOfFor, goalFor, givenGoalFor, ranAnswerFor, ranMemoryFor, gaveAnswerFor}
 use Rattle.operations.specs.Profile.{gaveMemoryFor}
 use Rattle.operations.proofs.Full.{arrival-same}
@@ -150,7 +150,7 @@ not-one (inr (inl e)) i = omega arith
 not-one (inr (inr e)) i = omega arith
 
 passes-code : (c : List Instr) → AcceptsIn false c K.Int → isAccepted (verdictIn false c) ≡ true
-passes-code c a = ap isAccepted (profile-code .exact false c K.Int .1 a)
+passes-code c a = ap isAccepted (profile-verdicts .exact false c K.Int .1 a)
 
 module _ (index : List ℕ) (f : Found) (taken : takenFound false f ≡ Other → ⊥)
     (by-index : (b : Bank) (j : ℕ) → takenFound false f ≡ In b (By j) → IntegerCode index j) where

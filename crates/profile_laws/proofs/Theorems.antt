@@ -17,6 +17,7 @@ use Rattle.delivery.specs.declared.Answer.the-variants.{Refused}
 use Rattle.operations.specs.Operations.{valueAnswer, compileAnswer, evaluateAnswer}
 use Rattle.operations.proofs.Full.{full-evaluate}
 use Rattle.verifier.specs.Profile.{verdictIn}
+use Rattle.verifier.proofs.Profile.{profile-verdicts}
 use Rattle.profile_code.proofs.Theorems.{profile-code}
 use Rattle.profile_trees.proofs.Theorems.{profile-trees}
 use Rattle.operations.specs.Profile.{evaluateAnswerFor}
@@ -36,7 +37,7 @@ same-evaluate code m n tick a =
     let c = instructions code n in
     ap (λ (x : Ran). cond (eqb (length m) imageSize) (valueAnswer x (verdictIn false c)) (Refused 1 0)) (same-runs tick code n m a)
     ∙ ap (λ (v : Verdict). cond (eqb (length m) imageSize) (valueAnswer (runsAt tick code n m) v) (Refused 1 0))
-    (profile-code .exact false c K.Int .1 a ∙ sym (verdict-laws .exact c K.Int .1 (profile-code .checked c K.Int .0 a .0)))
+    (profile-verdicts .exact false c K.Int .1 a ∙ sym (verdict-laws .exact c K.Int .1 (profile-code .checked c K.Int .0 a .0)))
 
 -- ---- all of it
 

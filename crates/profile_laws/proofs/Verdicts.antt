@@ -19,6 +19,7 @@ use Rattle.delivery.specs.declared.Answer.the-variants as Answer
 use Rattle.operations.specs.Operations.{doneWith, verdictAnswer}
 use Rattle.operations.proofs.Requests.{kinded}
 use Rattle.verifier.specs.Profile.{AcceptsIn, verdictIn}
+use Rattle.verifier.proofs.Profile.{profile-verdicts}
 use Rattle.profile_code.proofs.Theorems.{profile-code}
 use Rattle.operations.specs.Profile.{checkAnswerFor}
 
@@ -35,9 +36,9 @@ both-checks c = by (verdictIn false c) refl
 
     by : (v : Verdict) → verdictIn false c ≡ v → BothChecks c v (verdict c)
     by Refused e = fails (verdict c)
-    by (Accepted K.Int) e = accepted (profile-code .exact false c K.Int .0 e)
+    by (Accepted K.Int) e = accepted (profile-verdicts .exact false c K.Int .0 e)
     by (Accepted K.Real) e =
-        let k : K.Real ≡ K.Int = profile-code .ran (memoryAt 0 []) c K.Real (kinded 0 []) (profile-code .exact false c K.Real .0 e) .0 in
+        let k : K.Real ≡ K.Int = profile-code .ran (memoryAt 0 []) c K.Real (kinded 0 []) (profile-verdicts .exact false c K.Real .0 e) .0 in
         let z : _≡_ {A = ℕ} 0 1 = cc in absurd (omega arith)
 
 -- ---- runs
@@ -56,15 +57,15 @@ module _ (reals : Bool) (code : List ℕ) (n : ℕ) where
   checks-only e = by (verdictIn reals (instructions code n)) refl e
     where
       by : (v : Verdict) → verdictIn reals (instructions code n) ≡ v → verdictAnswer v ≡ doneWith 0 → (k : Kind) × AcceptsIn reals (instructions code n) k
-      by (Accepted k) q e = (k, profile-code .exact reals (instructions code n) k .0 q)
+      by (Accepted k) q e = (k, profile-verdicts .exact reals (instructions code n) k .0 q)
       by Refused q e = done-not e
 
   pub checks-all : (k : Kind) → AcceptsIn reals (instructions code n) k → checkAnswerFor reals code n ≡ doneWith 0
-  checks-all k a = ap verdictAnswer (profile-code .exact reals (instructions code n) k .1 a)
+  checks-all k a = ap verdictAnswer (profile-verdicts .exact reals (instructions code n) k .1 a)
 
   pub checks-else : ((k : Kind) → AcceptsIn reals (instructions code n) k → ⊥) → checkAnswerFor reals code n ≡ Answer.Refused 15 0
   checks-else none = by (verdictIn reals (instructions code n)) refl
     where
       by : (v : Verdict) → verdictIn reals (instructions code n) ≡ v → verdictAnswer v ≡ Answer.Refused 15 0
-      by (Accepted k) q = absurd (none k (profile-code .exact reals (instructions code n) k .0 q))
+      by (Accepted k) q = absurd (none k (profile-verdicts .exact reals (instructions code n) k .0 q))
       by Refused q = refl

@@ -12,13 +12,14 @@ use Rattle.verifier.specs.Accepts.{Accepts}
 use Rattle.verifier.specs.Safety.{Kinded}
 use Rattle.tree_code.specs.Code.{codeOf}
 use Rattle.profile_text.specs.Trees.{integerOnly}
+use Rattle.machine.proofs.Profile.{profile-runs}
 use Rattle.profile_code.proofs.Theorems.{profile-code}
 use Rattle.profile_trees.specs.Theorems.{ProfileTrees}
 use Rattle.profile_trees.proofs.Compiled.{compiled}
 
 ran : (reals : Bool) (E : Environment) (t : Tree) (k : Kind) → Kinded E → (reals || integerOnly t) ≡ true → Accepts (codeOf t) k
     → execIn reals E (codeOf t) 0 [] ≡ exec E (codeOf t) 0 []
-ran true E t k K e a = profile-code .full-run E (codeOf t) 0 []
+ran true E t k K e a = profile-runs .full E (codeOf t) 0 []
 ran false E t k K e a = profile-code .ran E (codeOf t) Int K (compiled t k e a) .1
 
 pub profile-trees : ProfileTrees
