@@ -97,18 +97,19 @@ module _ (target text m code index : List ℕ) where
   abbrev asked : Request
   asked = ofTarget text code index (targetOf target)
 
-  pub no-memory : (length m ≡ imageSize → ⊥) → request target text m code index ≡ stops 1 0
-  no-memory h = wrong-size m code index asked h
-
   module _ (h : length m ≡ imageSize) where
-    pub no-room : length code < 16384 → request target text m code index ≡ stops 10 0
-    no-room l = short-code m code index asked h l
-
+    -- whatever the target is
     pub no-index-room : 16384 ≤ length code → length index < 16384 → request target text m code index ≡ stops 10 0
     no-index-room c l = short-index m code index asked h c l
 
+    pub no-room : length code < 16384 → request target text m code index ≡ stops 10 0
+    no-room l = short-code m code index asked h l
+
     pub named : {g : Target} → 16384 ≤ length code → 16384 ≤ length index → targetOf target ≡ g → request target text m code index ≡ ofTarget text code index g
     named c l e = right-sizes m code index asked h c l ∙ ap (ofTarget text code index) e
+
+  pub no-memory : (length m ≡ imageSize → ⊥) → request target text m code index ≡ stops 1 0
+  no-memory h = wrong-size m code index asked h
 
 -- a target that is found
 pub good-target : {b : Bank} {e : Element} (text code index : List ℕ) (g : Target) → foundOf g ≡ In b e
