@@ -32,7 +32,7 @@ use values::Outcome;
 use values::Value;
 
 // How a run ends: with the one value held, with a fault, or stuck: short of a value, given one of a wrong kind, past 128 held, at
-// bytes that are no instruction, or past the end.
+// bytes that are no instruction, or past the end; without reals also at an instruction that reads R, makes a real or takes one.
 pub enum Ended {
     Done(Value),
     Stopped(Fault),

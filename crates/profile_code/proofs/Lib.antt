@@ -4,3 +4,4 @@ pub mod Checked
 mod Readers
 mod Runs
 mod Shown
+mod Held

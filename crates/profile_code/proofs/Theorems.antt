@@ -15,6 +15,7 @@ use Rattle.profile.proofs.Integers.{int-kind}
 use Rattle.profile_code.proofs.Checked.{integers, no-reader, accepted, in-profile}
 use Rattle.profile_code.proofs.Readers.{reads-integers}
 use Rattle.profile_code.proofs.Runs.{held-ints, same-run}
+use Rattle.profile_code.proofs.Held.{held}
 
 -- the kind at the end is held there
 ends-int : (c : List Instr) (k : Kind) → AcceptsIn false c k → k ≡ Int
@@ -27,4 +28,5 @@ profile-code =
       reads-integers = reads-integers;
       ran = λ E c k K a. (ends-int c k a, same-run E K c k a c 0 [] first);
       integers-held = λ E c k K a C. held-ints E K c k a C;
+      held = held;
     }

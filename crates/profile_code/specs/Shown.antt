@@ -52,7 +52,7 @@ shown =
     ∷ accepts (one ∷ Jump 1 ∷ PushReal oneReal ∷ [])
     ∷ refuses (one ∷ Jump 1 ∷ Load R 0 ∷ [])
     ∷ refuses (one ∷ Jump 1 ∷ LoadIndexed R ∷ [])
-    -- every range of R, also one that leaves an integer
+    -- ranges of R, also one that leaves an integer
     ∷ refuses (Total T'.Sum R 0 2 ∷ Unary Trunc ∷ [])
     ∷ refuses (Total (T'.Choice Max) R 0 2 ∷ Unary Trunc ∷ [])
     ∷ refuses (Total (T'.Choice Min) R 0 2 ∷ Unary Trunc ∷ [])

@@ -5,10 +5,12 @@ use mathlib.Core.List.{List}
 use Prim.Native.Nat.{ℕ, _+_, _*_}
 use native.Mathlib.Omega.{arith}
 use lib.Dec.{ltb}
+use lib.IntN.{pos}
 use lib.ListN.{length}
 use borrow.Author.Tests.{le-ltb}
 use Rattle.values.specs.declared.Kind.{Kind}
 use Rattle.values.specs.declared.Kind.the-variants as K
+use Rattle.values.specs.declared.Value.the-variants.{Int}
 use Rattle.operators.specs.Laws.{OfKind}
 use Rattle.memory.specs.declared.Bank.{Bank}
 use Rattle.memory.specs.Environment.{memoryAt}
@@ -28,8 +30,9 @@ use Rattle.tree_code.specs.Demand.{Compiled}
 use Rattle.compiler.specs.Compile.{compiling, codedBytes}
 use Rattle.compiler.proofs.Theorems.{compile-theorems}
 use Rattle.targets.specs.Found.{indexBytes}
-use Rattle.operations.specs.Operations.{doneWith, compileAnswer}
-use Rattle.operations.specs.Profile.{compiledCodeFor, compileTargetCodeFor}
+use Rattle.delivery.specs.declared.Answer.the-variants.{Done, Refused}
+use Rattle.operations.specs.Operations.{doneWith, compileAnswer, targetAnswer}
+use Rattle.operations.specs.Profile.{compileAnswerFor, compiledCodeFor, compileTargetAnswerFor, compileTargetCodeFor}
 use Rattle.operations.proofs.Requests.{kinded, with-room}
 use Rattle.promises.specs.Terms.{compileAnswerOf, compiledCode, Room, Ends}
 use Rattle.promises.specs.Promises.{Faithful}
@@ -78,6 +81,16 @@ module _ (text : List ℕ) (t : Tree) (code : List ℕ) (j : judge text ≡ acce
         quick = λ tick m. omega (arith, ap (λ (x : Ran). x .count) (runs tick m), whole .ends .quick tick m);
         integer = λ tick m. subst (λ (k : Kind). OfKind k (eval (memoryAt tick m) t)) (kind-int t w) (demand .kind (memoryAt tick m) (kinded tick m));
       }
+
+pub compiles : (text : List ℕ) (t : Tree) (code : List ℕ) → judgeIn false 0 text ≡ accepted t → Room code
+    → compileAnswerFor false text code ≡ doneWith (length (codeOf t))
+compiles text t code e room =
+    ap (λ (b : Bool). compileAnswer (cond b (refused 10 0) (judgeIn false 0 text))) (le-ltb (length code) 16384 room) ∙ ap compileAnswer e
+
+pub compiles-index : (target index : List ℕ) (b : Bank) (t : Tree) → targetIn false target ≡ toIndexed b t → Room index
+    → compileTargetAnswerFor false index target ≡ Done (Int (pos 0)) (length (codeOf t)) b 0
+compiles-index target index b t e room =
+    ap (λ (l : Bool). cond l (Refused 10 0) (targetAnswer (targetIn false target))) (le-ltb (length index) 16384 room) ∙ ap targetAnswer e
 
 pub faithful : (text : List ℕ) (t : Tree) (code : List ℕ) → judgeIn false 0 text ≡ accepted t → Room code
     → IntegerFaithful text t (compiledCodeFor false text code) (length (codeOf t))

@@ -27,7 +27,7 @@ use Rattle.profile_laws.proofs.Goals.{run-goals, store-goals, ran-alike
 use Rattle.profile_laws.proofs.Asked.{same-compiling, same-target, same-target-answer, same-target-code, same-request}
 use Rattle.profile_laws.proofs.Results.{performs, full, either, either-evaluate, keeps, never-19, never-19-evaluate}
 use Rattle.profile_laws.proofs.Integers.{integers, integers-evaluate}
-use Rattle.profile_laws.proofs.Faithful.{faithful, faithful-index, safe}
+use Rattle.profile_laws.proofs.Faithful.{compiles, compiles-index, faithful, faithful-index, safe}
 use Rattle.profile_laws.proofs.Taken.{taken-run, store-real}
 
 -- ---- evaluate
@@ -47,6 +47,8 @@ profile-theorems =
       full = full;
       full-evaluate = full-evaluate;
       compiled = profile-trees .compiled;
+      compiles = compiles;
+      compiles-index = compiles-index;
       faithful = faithful;
       faithful-index = faithful-index;
       safe = safe;

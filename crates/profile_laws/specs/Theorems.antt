@@ -5,7 +5,7 @@ use mathlib.Core.Logic.{_↔_, _⊎_}
 use mathlib.Core.Bool.{Bool, true, false}
 use mathlib.Core.List.{List}
 use Prim.Native.Nat.{ℕ, _+_, _*_, _≤_}
-use lib.IntN.{ℤ}
+use lib.IntN.{ℤ, pos}
 use lib.ListN.{length}
 use lib.Ieee.{Float}
 use Rattle.values.specs.declared.Kind.{Kind}
@@ -29,7 +29,7 @@ use Rattle.targets.specs.declared.Element.{Element}
 use Rattle.targets.specs.declared.Element.the-variants.{By}
 use Rattle.targets.specs.declared.Found.the-variants.{In, Other}
 use Rattle.targets.specs.Found.{foundToRun, runTargetIn}
-use Rattle.delivery.specs.declared.Answer.the-variants.{Refused}
+use Rattle.delivery.specs.declared.Answer.the-variants.{Done, Refused}
 use Rattle.operations.specs.Operations.{reportOf, doneWith, compileTargetAnswer, compileTargetCode, runAnswer, runMemory, evaluateAnswer, givenAnswer}
 use Rattle.operations.specs.Operations.{to, givenMemory, request}
 use Rattle.promises.specs.Terms.{compileAnswerOf, compiledCode, answerNumber, Room, Ends}
@@ -70,6 +70,11 @@ pub record ProfileTheorems : Type 0 where
   pub full-evaluate : (tick : ℕ) (code : List ℕ) (n : ℕ) (m : List ℕ) → evaluateAnswerFor true tick code n m ≡ evaluateAnswer tick code n m
   -- the code of a formula without a real part is code of the profile
   pub compiled : (t : Tree) (k : Kind) → integerOnly t ≡ true → Accepts (codeOf t) k → AcceptsIn false (codeOf t) K.Int
+  -- compile answers 0 for it, with the number of its instructions, and so does compile_target for a target with an index, with the bank
+  pub compiles : (text : List ℕ) (t : Tree) (code : List ℕ) → judgeIn false 0 text ≡ accepted t → Room code
+      → compileAnswerFor false text code ≡ doneWith (length (codeOf t))
+  pub compiles-index : (target index : List ℕ) (b : Bank) (t : Tree) → targetIn false target ≡ toIndexed b t → Room index
+      → compileTargetAnswerFor false index target ≡ Done (Int (pos 0)) (length (codeOf t)) b 0
   -- "in the profile, demand 3 speaks of the formulas that it accepts"
   pub faithful : (text : List ℕ) (t : Tree) (code : List ℕ) → judgeIn false 0 text ≡ accepted t → Room code
       → IntegerFaithful text t (compiledCodeFor false text code) (length (codeOf t))

@@ -62,7 +62,7 @@ pub record ProfileTexts : Type 0 where
       → judgeIn false d s ≡ accepted t ↔ ((judgeFrom d s ≡ accepted t) × (integerOnly t ≡ true))
   -- without a real token the judgement is the full box's, a refusal and its place too
   pub plain : (d : ℕ) (s : List ℕ) → ((w : List Tok) → scan s ≡ tokens w → noReal w ≡ true) → judgeIn false d s ≡ judgeFrom d s
-  -- "19, at the first real token, looked for just before 7": after 3 to 6, before all else
+  -- "19, at the first real token, looked for just before 7": after 3, 4, 5 and the 6 of a token, before 7, 8, 9 and the 6 of a range
   pub nineteen : (d : ℕ) (s : List ℕ) (p : ℕ) → d ≤ mostOpen → judgeIn false d s ≡ refused 19 p ↔ FirstRealAt s p
   -- "no part is real"
   pub whole : (t u : Tree) → integerOnly t ≡ true → PartOf u t → (integerOnly u ≡ true) × (treeKind u ≡ Int)
