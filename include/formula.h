@@ -37,8 +37,8 @@ extern "C" {
 #define FORMULA_CODE_BYTES        16384u /* the least size of a code buffer to compile into */
 #define FORMULA_INSTRUCTION_BYTES 8u
 #define FORMULA_INSTRUCTIONS      2048u  /* the most that are accepted or compiled */
-#define FORMULA_STACK_BYTES       61440u /* the deepest call that was found takes 44,256, and a list 224 more */
-#define FORMULA_REPLAY_STACK_BYTES 98304u /* 76,592 were found; each run of a card has its code buffers there */
+#define FORMULA_STACK_BYTES       61440u /* the deepest call that was found takes 44,544, a list on a Cortex-M4F */
+#define FORMULA_REPLAY_STACK_BYTES 98304u /* 77,888 were found, on a Cortex-M3; each run of a card has its code buffers there */
 
 /* Where the banks and the fault flags stand in the memory. All numbers are little-endian. */
 #define FORMULA_X 0u    /* X0-X63, inputs, eight bits to a byte, the lowest first: formula_bit and formula_set_bit, below */
@@ -105,7 +105,7 @@ enum formula_bank {
 
 struct formula_report {
     uint32_t answer;  /* one of enum formula_answer */
-    uint32_t place;   /* answers 4 to 9 and 19: the byte of the expression that it is about; else 0, and 0 for formatting's own 3, 8 and 10 */
+    uint32_t place;   /* answers 4 to 9 and 19: the byte of the expression that it is about; else 0, and 0 for formatting's own 3, 8 and 10 and a store's 19 */
     uint32_t kind;    /* one of enum formula_kind: the value's. 0 on a refusal or fault, and for compiling and checking */
     uint32_t bits;    /* the value's 32-bit pattern, before the store; 0 where kind is 0 for want of a value */
     uint32_t count;   /* compiling: instructions written; formatting: bytes written; running: instructions begun and cells visited, the index's included; else 0 */

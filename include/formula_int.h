@@ -1,7 +1,7 @@
 /* Formulas in the profile without reals, for controllers without floating point: docs/LANGUAGE.md has the profile, docs/PROFILE.md what is proved of it.
  *
  * The profile takes the formulas in which no part is real: no R bank, real literals, TOREAL, FRAC or AVGR. A formula with a real token is answer 19, at
- * the first of them, looked for after 3 to 6 and before 7 and 8; so 9 never comes. A target in R, or with a real part in its index, is 2. Code that would
+ * the first of them, looked for after 3, 4, 5 and the 6 of a token, before 7, 8 and the 6 of a range; so 9 never comes. A target in R, or with a real part in its index, is 2. Code that would
  * hold a real, or has an instruction that reads R, reached or not, is 15. All else is as the functions of formula.h do it, whose names these have and whose
  * parameters: on every formula that the profile takes, into a target that it takes, both give the same report, memory and code, so code compiled by either
  * library is run by the other.
@@ -10,8 +10,8 @@
  * They call memset and memcpy alone, and on a Cortex-M the compiler's whole-number routines (divisions, shifts, a product, leading zeros); no float is added, compared or converted in them, so the
  * floating-point mode does not matter. libformula_c.a may be linked beside them.
  *
- * Reports, constants, answers, and what formula.h says of buffers, calls, the tick and the stack, hold here too (the deepest call that was found takes 52,040
- * bytes on x86-64). A report's kind is always 0: FORMULA_INTEGER.
+ * Reports, constants, answers, and what formula.h says of buffers, calls, the tick and the stack, hold here too (the deepest call that was found takes 50,688
+ * bytes on x86-64 and 49,120 on a Cortex-M0). A report's kind is always 0: FORMULA_INTEGER.
  * The memory has the same size and layout; no formula reads its bank R and none stores there. */
 #ifndef FORMULA_INT_H
 #define FORMULA_INT_H
