@@ -7,7 +7,7 @@ ghost use Rattle.card_file.specs.Spans.{length_in, line_number, spans};
 use memory::names::Number;
 
 // The length of the value of a line that has its key and its end.
-#[derive(Drop)]
+#[derive(Clone, Copy)]
 pub enum Field {
     Value(usize),
     Wrong,
@@ -15,7 +15,7 @@ pub enum Field {
 
 // Whether the four lines stand at the front of a text, the card's number, where target, expression and check begin, and where the fourth line ends; of any
 // other text all 0.
-#[derive(Drop)]
+#[derive(Clone, Copy)]
 pub struct FourLines {
     pub good: bool,
     pub number: u32,

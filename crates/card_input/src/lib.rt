@@ -14,7 +14,7 @@ pub fn file_buffer() -> [u8; MOST_BYTES]
 }
 
 // Why no more was read: the input's end, a full buffer, or a read that failed.
-#[derive(Drop)]
+#[derive(Clone, Copy)]
 pub enum Stop {
     End,
     Limit,

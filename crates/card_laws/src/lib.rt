@@ -2,7 +2,7 @@
 // code.
 
 // What a judge says of a target and an expression, or of a card: nothing, or the answer that refuses it.
-#[derive(Drop)]
+#[derive(Clone, Copy)]
 pub enum Verdict {
     Fine,
     Refusal(u32),

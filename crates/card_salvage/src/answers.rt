@@ -7,7 +7,7 @@ ghost use Rattle.card_salvage.specs.private.Steps.{answer_in, last_in};
 use card_file::{form, judging};
 use card_laws::Verdict;
 
-#[derive(Drop)]
+#[derive(Clone, Copy)]
 pub enum Answer {
     Keeps(u32),
     Leaves(u32),

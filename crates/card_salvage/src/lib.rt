@@ -9,7 +9,7 @@ mod cutting;
 mod outputs;
 
 // 0, and how many bytes of each output were written; or 10, and nothing was.
-#[derive(Drop)]
+#[derive(Clone, Copy)]
 pub struct Salvaged {
     pub answer: u32,
     pub kept: usize,

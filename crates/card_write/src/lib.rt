@@ -14,7 +14,7 @@ use card_laws::Verdict;
 use lines::printing;
 
 // Answer, place, and how many bytes were written.
-#[derive(Drop)]
+#[derive(Clone, Copy)]
 pub struct Written {
     pub answer: u32,
     pub place: u32,
@@ -22,7 +22,7 @@ pub struct Written {
 }
 
 // A card as the caller gives it: its number, and its target and its expression as the parts t0 to t1 and e0 to e1 of the texts.
-#[derive(Drop)]
+#[derive(Clone, Copy)]
 struct Given {
     number: u32,
     t0: usize,
@@ -32,7 +32,7 @@ struct Given {
 }
 
 // Answer and place, how many bytes the cards have, and how many of them are to be put: all, or none.
-#[derive(Drop)]
+#[derive(Clone, Copy)]
 struct Judged {
     answer: u32,
     place: u32,

@@ -16,7 +16,7 @@ pub mod encoding;
 // A jump's number is how many instructions it skips after itself. JumpIf takes a value, and jumps if its truth is the one given.
 // Tick leaves the tick, and Since takes a value and leaves the tick less it. Total and Match go over a range of cells: a bank, its first
 // element and a count.
-#[derive(Drop)]
+#[derive(Clone, Copy)]
 pub enum Instr {
     PushInt(i32),
     PushReal(f32),
@@ -72,7 +72,7 @@ const FIRST: u32 = 0x100;
 const COUNT: u32 = 0x1_0000;
 
 // What an instruction is, by its opcode.
-#[derive(Drop)]
+#[derive(Clone, Copy)]
 pub enum Class {
     PushInt,
     PushReal,

@@ -45,7 +45,7 @@ SUMIFLT";
 
 const BANKS: [u8; 11] = *b"X\nC\nV\nN\nD\nR";
 
-#[derive(Drop)]
+#[derive(Clone, Copy)]
 pub struct ListedText {
     pub answer: u32,
     pub length: usize,

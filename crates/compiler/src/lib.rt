@@ -13,7 +13,7 @@ mod copying;
 mod reader;
 
 // How many instructions the code has, or the answer and place that refuse the text.
-#[derive(Drop)]
+#[derive(Clone, Copy)]
 pub enum Coded {
     Done(usize),
     Refused(u32, usize),

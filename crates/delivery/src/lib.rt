@@ -17,7 +17,7 @@ use values::{Fault, Value};
 
 // Done with a value, a count and a cell: after a run what its instructions counted, the cells that they visited included, and the cell
 // stored to. A fault and what was counted until then; or a refusal's number and place.
-#[derive(Drop)]
+#[derive(Clone, Copy)]
 pub enum Answer {
     Done(Value, usize, Bank, u32),
     Fault(Fault, usize),

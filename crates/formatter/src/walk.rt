@@ -19,7 +19,7 @@ use tokens::symbols;
 const LOOSEST: u8 = 11;
 
 // What was written of a part of the formula: the first token behind it, the end of its text, and the group of the operator at its top, or 0.
-#[derive(Drop)]
+#[derive(Clone, Copy)]
 pub struct Piece {
     pub next: usize,
     pub end: usize,

@@ -8,7 +8,7 @@ use memory::names::Number;
 use tokens::{Scanned, Token};
 use values::Value;
 
-#[derive(Drop)]
+#[derive(Clone, Copy)]
 pub enum Form {
     Pattern(u32),
     Other,

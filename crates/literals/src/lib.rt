@@ -42,7 +42,7 @@ const UNITS: u32 = 149;
 const EXPONENT: u32 = 0x0080_0000;
 
 // whole + (high * a + low) / (b * a).
-#[derive(Drop)]
+#[derive(Clone, Copy)]
 struct Mixed {
     whole: u64,
     high: u64,
@@ -78,7 +78,7 @@ fn multiply(x: Mixed, b: u64, a: u64, f: u64) -> Mixed
 }
 
 // A mixed number, doubled as often as `shift` says.
-#[derive(Drop)]
+#[derive(Clone, Copy)]
 struct Normal {
     number: Mixed,
     shift: u32,

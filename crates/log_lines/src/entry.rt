@@ -12,7 +12,7 @@ use memory::names::Named;
 use tokens::identifiers;
 
 // A cell and its pattern, the tick, the card that is run; or the line is bad.
-#[derive(Drop)]
+#[derive(Clone, Copy)]
 pub enum Entry {
     Change(Bank, u32, u32),
     Tick(u32),

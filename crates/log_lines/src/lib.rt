@@ -19,7 +19,7 @@ pub mod entry;
 pub const LINE_ROOM: usize = 64;
 
 // After a line: the tick, and where what was printed ends; or the line is bad.
-#[derive(Drop)]
+#[derive(Clone, Copy)]
 pub enum Step {
     On(u32, usize),
     Stop,

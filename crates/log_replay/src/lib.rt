@@ -16,21 +16,21 @@ use program::reply;
 const BAD_LINE: u32 = 16;
 
 // The byte of the log that is next, and the tick.
-#[derive(Drop)]
+#[derive(Clone, Copy)]
 pub struct ReplayCursor {
     pub at: u64,
     pub tick: u32,
 }
 
 // No room for a further line; the end of what is lent; a bad line.
-#[derive(Drop)]
+#[derive(Clone, Copy)]
 pub enum Pause {
     Full,
     End,
     BadLine,
 }
 
-#[derive(Drop)]
+#[derive(Clone, Copy)]
 pub struct Replayed {
     pub cursor: ReplayCursor,
     pub pause: Pause,
@@ -115,7 +115,7 @@ pub fn replay_lines(
 }
 
 // Of a call: the byte of the log that is next, the tick, whether the replay is over, and how many bytes were written.
-#[derive(Drop)]
+#[derive(Clone, Copy)]
 pub struct ReplayWords {
     pub at: u64,
     pub tick: u64,

@@ -11,7 +11,7 @@ ghost use Rattle.log_window.specs.Turns.{TurnGives, TurnInside};
 use log_replay::{ReplayCursor, Replayed};
 
 // What was played, and how many bytes of the window are held.
-#[derive(Drop)]
+#[derive(Clone, Copy)]
 pub struct Turned {
     pub replayed: Replayed,
     pub held: usize,

@@ -25,7 +25,7 @@ use values::{Fault, Outcome, Value};
 
 // How a run ends: with the one value held, with a fault, or stuck: short of a value, given one of a wrong kind, past 128 held, at
 // bytes that are no instruction, or past the end; without reals also at an instruction that reads R, makes a real or takes one.
-#[derive(Drop)]
+#[derive(Clone, Copy)]
 pub enum Ended {
     Done(Value),
     Stopped(Fault),
@@ -33,14 +33,14 @@ pub enum Ended {
 }
 
 // count: the instructions begun, and the cells that they began.
-#[derive(Drop)]
+#[derive(Clone, Copy)]
 pub struct Ran {
     pub end: Ended,
     pub count: usize,
 }
 
 // What an instruction does with the values held and the place. Stop and Stuck end the run.
-#[derive(Drop)]
+#[derive(Clone, Copy)]
 pub enum How {
     Push,
     Skip,
@@ -50,7 +50,7 @@ pub enum How {
 
 // Of the values held the first are kept, as many as height says; then value is pushed (Push), or instructions are skipped (Skip), or
 // the run stops with the fault (Stop). A struct, and not an enum with a value in each variant, stays in registers.
-#[derive(Drop)]
+#[derive(Clone, Copy)]
 pub struct Step {
     pub how: How,
     pub height: u32,

@@ -11,7 +11,7 @@ pub mod names;
 pub mod numbers;
 pub mod store;
 
-#[derive(Drop)]
+#[derive(Clone, Copy)]
 pub enum Bank {
     X,
     C,
@@ -22,7 +22,7 @@ pub enum Bank {
 }
 
 // A bank's place in the image, how many elements it has, and the bytes of each of its blocks: a byte of eight bits, or an element's own.
-#[derive(Drop)]
+#[derive(Clone, Copy)]
 pub struct Layout {
     pub place: usize,
     pub elements: u32,

@@ -4,27 +4,27 @@ ghost use Rattle.memory.specs.Names.{letter_bank, is_digit, digits_of, decimal_f
 
 use crate::Bank;
 
-#[derive(Drop)]
+#[derive(Clone, Copy)]
 pub enum Letter {
     Of(Bank),
     Other,
 }
 
 // Digits that were read: their number, at most LIMIT, where they end, and the byte that stands there, 0 past the end of the text.
-#[derive(Drop)]
+#[derive(Clone, Copy)]
 pub struct Reading {
     pub value: u64,
     pub end: usize,
     pub next: u8,
 }
 
-#[derive(Drop)]
+#[derive(Clone, Copy)]
 pub enum Number {
     Is(u32),
     Other,
 }
 
-#[derive(Drop)]
+#[derive(Clone, Copy)]
 pub enum Named {
     Cell(Bank, u32),
     Other,

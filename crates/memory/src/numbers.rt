@@ -5,7 +5,7 @@ ghost use Rattle.memory.specs.Numbers.{bank_numbered, bank_number, bank_typed, b
 use crate::Bank;
 use operators::kinds;
 
-#[derive(Drop)]
+#[derive(Clone, Copy)]
 pub enum BankOf {
     Is(Bank),
     Nothing,

@@ -9,13 +9,13 @@ use crate::{Bank, IMAGE_SIZE, cells};
 use values::{Cut, Fault, Value};
 
 // The pattern that a bank holds of a value.
-#[derive(Drop)]
+#[derive(Clone, Copy)]
 pub enum Encoded {
     Pattern(u32),
     Stopped(Fault),
 }
 
-#[derive(Drop)]
+#[derive(Clone, Copy)]
 pub enum Stored {
     Done,
     Stopped(Fault),

@@ -20,7 +20,7 @@ use values::{Fault, Value};
 use verifier::Verdict;
 
 // The answer by its number, as paper 01 returns it, with the cell that paper 02 adds.
-#[derive(Drop)]
+#[derive(Clone, Copy)]
 pub struct Report {
     pub answer: u32,
     pub place: usize,

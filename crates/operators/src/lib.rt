@@ -14,7 +14,7 @@ pub mod numbered;
 pub mod tables;
 
 // The operators whose two operands are both worked out: && and || are not among them.
-#[derive(Drop)]
+#[derive(Clone, Copy)]
 pub enum BinaryOp {
     Arith(ArithOp),
     Power,
@@ -25,7 +25,7 @@ pub enum BinaryOp {
 }
 
 // Trunc is both TRUNC and TOINT.
-#[derive(Drop)]
+#[derive(Clone, Copy)]
 pub enum UnaryOp {
     Neg,
     Complement,
@@ -38,14 +38,14 @@ pub enum UnaryOp {
 }
 
 // Two operands of one kind.
-#[derive(Drop)]
+#[derive(Clone, Copy)]
 pub enum Pair {
     Ints(i32, i32),
     Reals(f32, f32),
 }
 
 // What an index names: an element of its bank, or none.
-#[derive(Drop)]
+#[derive(Clone, Copy)]
 pub enum Position {
     At(u32),
     Stopped(Fault),

@@ -27,14 +27,14 @@ pub const MAX: u8 = 18;
 
 pub const MIN: u8 = 19;
 
-#[derive(Drop)]
+#[derive(Clone, Copy)]
 pub enum UnaryOf {
     Is(UnaryOp),
     Nothing,
 }
 
 // What `binary_of` of the definitions gives.
-#[derive(Drop)]
+#[derive(Clone, Copy)]
 pub enum BinaryOf {
     Is(BinaryOp),
     Nothing,

@@ -11,7 +11,7 @@ use memory::names::Named;
 use tokens::identifiers;
 
 // How many bytes of their buffers the target, the expression and the line in progress take.
-#[derive(Drop)]
+#[derive(Clone, Copy)]
 pub struct Lengths {
     pub target: usize,
     pub text: usize,

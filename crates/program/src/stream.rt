@@ -11,7 +11,7 @@ use crate::case::Lengths;
 pub const KEPT_BYTES: usize = 1032;
 
 // A whole case, with how much of their buffers its target and its expression take; or a read failed.
-#[derive(Drop)]
+#[derive(Clone, Copy)]
 pub enum Receipt {
     All(Lengths),
     Unread,

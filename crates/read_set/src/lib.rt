@@ -19,7 +19,7 @@ use totals::{ranges, tables};
 pub const CELLS: usize = 1152;
 
 // Cells by number: so many from the first on.
-#[derive(Drop)]
+#[derive(Clone, Copy)]
 pub struct Interval {
     pub first: usize,
     pub count: u32,

@@ -14,7 +14,7 @@ use log_replay::{Pause, ReplayCursor};
 const MOST_READ: u64 = 4611686018427387904;
 
 // What a read of the log came to.
-#[derive(Drop)]
+#[derive(Clone, Copy)]
 enum Got {
     Bytes(usize),
     End,

@@ -4,7 +4,7 @@ ghost use Rattle.list_laws.specs.Running.{ran_table};
 ghost use Rattle.run_list.specs.private.Parts.{PartOf};
 
 // The operation's own answer, 0 or 20, and one for each place of a list.
-#[derive(Drop)]
+#[derive(Clone, Copy)]
 pub struct Answers {
     pub answer: u32,
     pub answers: [u32; 40],
@@ -15,7 +15,7 @@ const MOST_LISTED: usize = 40;
 const WORDS_LISTED: usize = 4;
 
 // A part of the lent texts.
-#[derive(Drop)]
+#[derive(Clone, Copy)]
 struct Part {
     from: usize,
     to: usize,

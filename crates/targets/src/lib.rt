@@ -12,13 +12,13 @@ use memory::names::{Letter, Named};
 use memory::{Bank, names};
 
 // Which element of a bank: its number, or how many instructions of index code give it.
-#[derive(Drop)]
+#[derive(Clone, Copy)]
 pub enum Element {
     Is(u32),
     By(usize),
 }
 
-#[derive(Drop)]
+#[derive(Clone, Copy)]
 pub enum Found {
     In(Bank, Element),
     Other,

@@ -13,7 +13,7 @@ mod packing;
 mod symbols;
 
 // Every token is in the table; or the first that is none, with its answer and place.
-#[derive(Drop)]
+#[derive(Clone, Copy)]
 pub enum Filled {
     Good,
     Wrong(u32, usize),
@@ -21,7 +21,7 @@ pub enum Filled {
 
 // A token's word, its place still 0, and where the token ends. Bytes that are no token have class 0 and their answer as the number. The functions that make
 // one are inlined, so that it stays in registers, where an enum would pass through memory.
-#[derive(Drop)]
+#[derive(Clone, Copy)]
 pub struct Lex {
     pub word: u64,
     pub end: usize,

@@ -19,7 +19,7 @@ const DIGITS: usize = 9;
 const EXPONENT: u64 = 20;
 
 // The digits before an exponent: the number that they make, where they end, how many they are, and how many of them stand behind the dot.
-#[derive(Drop)]
+#[derive(Clone, Copy)]
 pub struct Mantissa {
     value: u64,
     end: usize,

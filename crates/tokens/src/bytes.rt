@@ -42,7 +42,7 @@ pub fn is_hex(b: u8) -> bool
 }
 
 // Classes of which runs are made: the bytes of words, those of numerals, hexadecimal digits.
-#[derive(Drop)]
+#[derive(Clone, Copy)]
 pub enum ByteClass {
     Word,
     Numeral,

@@ -9,7 +9,7 @@ pub mod identifiers;
 pub mod numerals;
 pub mod symbols;
 
-#[derive(Drop)]
+#[derive(Clone, Copy)]
 pub enum Function {
     Abs,
     ToReal,
@@ -27,7 +27,7 @@ pub enum Function {
 }
 
 // Symbol: an operator, a bracket or the comma, by its number in the table of symbols.
-#[derive(Drop)]
+#[derive(Clone, Copy)]
 pub enum Token {
     Number(Value),
     Cell(Bank, u32),
@@ -37,7 +37,7 @@ pub enum Token {
 }
 
 // What some bytes are: a token, or one of the answers 4, 5 and 6.
-#[derive(Drop)]
+#[derive(Clone, Copy)]
 pub enum Scanned {
     Good(Token),
     Bad(u32),

@@ -48,7 +48,7 @@ fn hex_value(run: &[u8]) -> u32
 }
 
 // What was read of a hexadecimal numeral: the answer that refuses it, or 0 and its pattern of 32 bits.
-#[derive(Drop)]
+#[derive(Clone, Copy)]
 pub struct Pattern {
     pub answer: u32,
     pub bits: u32,

@@ -137,7 +137,7 @@ const LEAST: i32 = -2147483648;
 const GREATEST: i32 = 2147483647;
 
 // The integers that compare so with a value: those from the least to the greatest, or all others.
-#[derive(Drop)]
+#[derive(Clone, Copy)]
 struct Bounds {
     least: i32,
     greatest: i32,

@@ -16,7 +16,7 @@ pub mod tables;
 pub mod tally;
 
 // SUMR, AVGR, MAXR and MINR.
-#[derive(Drop)]
+#[derive(Clone, Copy)]
 pub enum TotalOp {
     Sum,
     Average,
@@ -24,14 +24,14 @@ pub enum TotalOp {
 }
 
 // The COUNTIF and SUMIF families: how a cell compares with the expression.
-#[derive(Drop)]
+#[derive(Clone, Copy)]
 pub enum MatchOp {
     Count(CompareOp),
     Sum(CompareOp),
 }
 
 // What a run over cells comes to, and how many cells it began.
-#[derive(Drop)]
+#[derive(Clone, Copy)]
 pub struct Visited {
     pub result: Outcome,
     pub cells: u32,
@@ -45,7 +45,7 @@ pub fn ended(res: Outcome, cells: u32) -> Visited
 }
 
 // What a run does with each cell, whatever its bank; the expression's value stands behind its comparison.
-#[derive(Drop)]
+#[derive(Clone, Copy)]
 pub enum Step {
     Add,
     Average,

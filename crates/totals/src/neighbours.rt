@@ -12,7 +12,7 @@ use values::{Cut, Value, singles};
 const WHOLE: i32 = 16777216;
 
 // The least integer that is not less than the value, and the greatest that is not greater.
-#[derive(Drop)]
+#[derive(Clone, Copy)]
 pub struct Neighbours {
     pub low: i32,
     pub high: i32,

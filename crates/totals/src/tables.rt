@@ -8,13 +8,13 @@ use memory::numbers;
 use operators::kinds;
 use values::{ChoiceOp, CompareOp};
 
-#[derive(Drop)]
+#[derive(Clone, Copy)]
 pub enum TotalOf {
     Is(TotalOp),
     Nothing,
 }
 
-#[derive(Drop)]
+#[derive(Clone, Copy)]
 pub enum MatchOf {
     Is(MatchOp),
     Nothing,

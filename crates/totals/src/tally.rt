@@ -15,7 +15,7 @@ use reals::ArithOp;
 use values::{ChoiceOp, CompareOp, Fault, Outcome, Value, singles};
 
 // The least and the greatest begin as the first cell, which is then taken like any other.
-#[derive(Drop)]
+#[derive(Clone, Copy)]
 pub struct Tally {
     pub sum: f32,
     pub least: f32,

@@ -73,7 +73,7 @@ const EXPONENTS: [i32; 19] = [
 ];
 
 // What takes one operand. An operator with its left operand is among these: it takes the right one.
-#[derive(Drop)]
+#[derive(Clone, Copy)]
 enum Function {
     Unary(UnaryOp),
     Truth,

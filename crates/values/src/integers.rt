@@ -87,14 +87,14 @@ pub fn absolute(a: i32) -> Outcome
 }
 
 // A product, and how many multiplications were made up to it.
-#[derive(Drop)]
+#[derive(Clone, Copy)]
 struct Product {
     value: i64,
     count: u32,
 }
 
 // The outcome of a power, and how many multiplications it took.
-#[derive(Drop)]
+#[derive(Clone, Copy)]
 pub struct CountedPower {
     pub outcome: Outcome,
     pub count: u32,

@@ -8,19 +8,19 @@ pub mod integers;
 pub mod patterns;
 pub mod singles;
 
-#[derive(Drop)]
+#[derive(Clone, Copy)]
 pub enum Kind {
     Int,
     Real,
 }
 
-#[derive(Drop)]
+#[derive(Clone, Copy)]
 pub enum Value {
     Int(i32),
     Real(f32),
 }
 
-#[derive(Drop)]
+#[derive(Clone, Copy)]
 pub enum Fault {
     DividedByZero,
     Overflow,
@@ -29,7 +29,7 @@ pub enum Fault {
 }
 
 // What working something out gives. WrongKind: an operand was of a kind that the operator does not take.
-#[derive(Drop)]
+#[derive(Clone, Copy)]
 pub enum Outcome {
     Done(Value),
     Stopped(Fault),
@@ -37,27 +37,27 @@ pub enum Outcome {
 }
 
 // A cut of a single to an integer.
-#[derive(Drop)]
+#[derive(Clone, Copy)]
 pub enum Cut {
     Whole(i32),
     Outside,
 }
 
-#[derive(Drop)]
+#[derive(Clone, Copy)]
 pub enum BitOp {
     And,
     Or,
     Xor,
 }
 
-#[derive(Drop)]
+#[derive(Clone, Copy)]
 pub enum ShiftOp {
     Left,
     Right,
     RightZero,
 }
 
-#[derive(Drop)]
+#[derive(Clone, Copy)]
 pub enum CompareOp {
     Lt,
     Gt,
@@ -67,7 +67,7 @@ pub enum CompareOp {
     Ne,
 }
 
-#[derive(Drop)]
+#[derive(Clone, Copy)]
 pub enum ChoiceOp {
     Max,
     Min,

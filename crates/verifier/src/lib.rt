@@ -18,7 +18,7 @@ use packing::Held;
 use typing::Flow;
 use values::Kind;
 
-#[derive(Drop)]
+#[derive(Clone, Copy)]
 pub enum Verdict {
     Accepted(Kind),
     Refused,

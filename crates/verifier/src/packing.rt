@@ -4,7 +4,7 @@ ghost use Rattle.verifier.specs.private.Shapes.{kinds_of, word, Canonical, Array
 ghost use Rattle.verifier.specs.private.Pass.{Agrees};
 
 // How many, and a bit for each, the last pushed in the lowest: 1 for a real.
-#[derive(Drop)]
+#[derive(Clone, Copy)]
 pub struct Held {
     pub height: usize,
     pub low: u64,

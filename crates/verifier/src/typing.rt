@@ -15,7 +15,7 @@ use values::Kind;
 
 // What flows on from an instruction: reach is 0 where the code is refused, 1 where the next place is not reached from here, and 2 where
 // it is, with these values held. Numbers, since an enum would pass through memory.
-#[derive(Drop)]
+#[derive(Clone, Copy)]
 pub struct Flow {
     pub reach: usize,
     pub held: Held,
