@@ -13,7 +13,7 @@ import os
 import re
 import sys
 
-WORD = re.compile(r"[A-Za-z_][A-Za-z0-9_'′ℤℕ₀-₉-]*")
+WORD = re.compile(r"(?<![0-9A-Za-z_'])[A-Za-z_][A-Za-z0-9_'′ℤℕ₀-₉-]*")
 # Lemmas and cases that would take the name of a definition, and the module of each: they end in _lem.
 LEMMAS = {
     "no_target": "card_file/proofs/judging/Parts lines/proofs/Long listing_reply/proofs/Replies profile_text/specs/Shown read_reply/proofs/Replies",

@@ -1,4 +1,4 @@
--- What is printed of a cell (paper 01): "Integers print in signed decimal"; R "as its pattern", in the form `0x437_a8000`.
+-- What is printed of a cell (paper 01): "Integers print in signed decimal"; R "as its pattern", in the form `0x437A8000`.
 use Rattle.std.specs.Prelude.{cond, List, [], ◌∷◌, ℕ, zero, suc, ◌+◌, ◌-◌, ◌/◌, ◌%◌, ltb, ℤ, pos, negsuc}
 use Rattle.values.specs.Patterns.{signed_of}
 use Rattle.memory.specs.declared.Bank.{Bank}

@@ -55,7 +55,7 @@ power = refl
 too_far : binary_rule Power (Int (pos 1)) (Int (pos 65)) ≡ Stopped OutOfRange
 too_far = refl
 
--- 0x_fffffff8 >>> 28 is 15, and >> keeps the sign
+-- 0xFFFFFFF8 >>> 28 is 15, and >> keeps the sign
 zeros : binary_rule (Shift RightZero) (Int (negsuc 7)) (Int (pos 28)) ≡ Done (Int (pos 15))
 zeros = refl
 
@@ -69,21 +69,21 @@ masks = refl
 flips : unary_rule Complement (Int (pos 0)) ≡ Done (Int (negsuc 0))
 flips = refl
 
-wrong : binary_rule (Bits Xor) (Int (pos 6)) (real 0x3_f80_0000) ≡ WrongKind
+wrong : binary_rule (Bits Xor) (Int (pos 6)) (real 0x3F80_0000) ≡ WrongKind
 wrong = refl
 
 -- TOREAL(16777217) is TOREAL(16777216)
-ties : pattern (unary_rule ToReal (Int (pos 16777217))) ≡ 0x4_b80_0000
+ties : pattern (unary_rule ToReal (Int (pos 16777217))) ≡ 0x4B80_0000
 unfolding Ieee.to_bits Ieee.of_int
 ties = refl
 
 -- 16777217 == 16777216.0 promotes first
-promotes : binary_rule (Compare Eq) (Int (pos 16777217)) (real 0x4_b80_0000) ≡ Done (Int (pos 1))
+promotes : binary_rule (Compare Eq) (Int (pos 16777217)) (real 0x4B80_0000) ≡ Done (Int (pos 1))
 unfolding Ieee.of_bits Ieee.of_int Ieee.eq
 promotes = refl
 
 -- ROUND(-2.5) is -3, and of the single below 0.5 it is 0
-away : unary_rule Round (real 0x_c020_0000) ≡ Done (Int (negsuc 2))
+away : unary_rule Round (real 0xC020_0000) ≡ Done (Int (negsuc 2))
 unfolding Ieee.of_bits
 away = refl
 
@@ -104,11 +104,11 @@ negates : unary_rule Neg (Int (negsuc 2147483647)) ≡ Stopped Overflow
 negates = refl
 
 -- D[-0.5] is 14, as is the single below -2147483648.0; D[-0.0] is D0; 2147483648.0 is 13, and 256.0 is past the last
-below-zero : index_rule 256 (real 0x_bf00_0000) ≡ P.Stopped IndexError
+below-zero : index_rule 256 (real 0xBF00_0000) ≡ P.Stopped IndexError
 unfolding Ieee.of_bits Ieee.lt
 below-zero = refl
 
-far-below : index_rule 256 (real 0x_cf00_0001) ≡ P.Stopped IndexError
+far-below : index_rule 256 (real 0xCF00_0001) ≡ P.Stopped IndexError
 unfolding Ieee.of_bits Ieee.lt
 far-below = refl
 
@@ -116,7 +116,7 @@ minus-nothing : index_rule 256 (real 0x8000_0000) ≡ P.At 0
 unfolding Ieee.of_bits Ieee.lt
 minus-nothing = refl
 
-far-above : index_rule 256 (real 0x4_f00_0000) ≡ P.Stopped OutOfRange
+far-above : index_rule 256 (real 0x4F00_0000) ≡ P.Stopped OutOfRange
 unfolding Ieee.of_bits Ieee.lt
 far-above = refl
 

@@ -117,8 +117,8 @@ fn on_run_target(target: &[u8], index_code: &[u8]) {
     run(&SEVEN, target, index_code);
     let mut memory = [0u8; IMAGE_SIZE];
     store(INTEGER, 0x8000_0001, &mut memory, target, index_code);
-    store(REAL, 0x3_f80_0000, &mut memory, target, index_code);
-    store(REAL, 0x7_f80_0000, &mut memory, target, index_code);
+    store(REAL, 0x3F80_0000, &mut memory, target, index_code);
+    store(REAL, 0x7F80_0000, &mut memory, target, index_code);
     store(77, 0, &mut memory, target, index_code);
 }
 
@@ -178,7 +178,7 @@ fn every_line(input: &[u8]) {
 // 1 and 10 come before 2 and 19.
 fn sizes() {
     let mut short = [0u8; IMAGE_SIZE - 1];
-    store(REAL, 0x3_f80_0000, &mut short, b"R0", b"");
+    store(REAL, 0x3F80_0000, &mut short, b"R0", b"");
     let mut code = [SENTINEL; CODE_BYTES - 1];
     let a = operations::compile_in(b"R0", &mut code, false);
     tell(a, b"", &code, b"");

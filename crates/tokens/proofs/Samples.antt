@@ -44,7 +44,7 @@ no-hex = refl
 upper-x : numeral_of (48 ∷ 88 ∷ 49 ∷ []) ≡ Bad 4
 upper-x = refl
 
--- `0.5` has the pattern 0x3_f000000; nine digits are good, ten are 5
+-- `0.5` has the pattern 0x3F000000; nine digits are good, ten are 5
 half : numeral_of (ascii "0.5") ≡ Good (Number (Real (nearest_decimal 5 (negsuc 0))))
 half = refl
 
@@ -99,7 +99,7 @@ dot-in-exponent = refl
 two-exponents : numeral_of (ascii "1E5E5") ≡ Bad 4
 two-exponents = refl
 
--- the run goes on past the sign of an exponent, and past no other: `1E+5-3`, `1E5-3`, `0x1_e-3`, `1E- 5`
+-- the run goes on past the sign of an exponent, and past no other: `1E+5-3`, `1E5-3`, `0x1E-3`, `1E- 5`
 signed-run : numeral_len (ascii "1E+5-3") ≡ 4
 signed-run = refl
 

@@ -47,7 +47,7 @@ i : Worth (binary 2 (Bits And) (int 0 (pos 6)) (binary 6 (Compare Eq) (int 4 (po
 unfolding eval exec code_of
 i = record { value = λ E. refl; run = λ E. refl }
 
--- `0x_fffffff8 >>> 28`
+-- `0xFFFFFFF8 >>> 28`
 j : Worth (binary 11 (Shift RightZero) (int 0 (negsuc 7)) (int 15 (pos 28))) (pos 15) 3
 unfolding eval exec code_of
 j = record { value = λ E. refl; run = λ E. refl }
