@@ -11,7 +11,7 @@ weighs c =
     weighed a.byte a.k c.weight.result (omega (arith, c.ranges.byte)) c.requires c.weight.ensures
 
 pub nonzero_div-result : goal.nonzero_div-result
-nonzero_div-result : tie.Need-nonzero-div-result div-result c = omega (arith, (weighs (goal.at.nonzero_div-result c).After-weight).positive)
+nonzero_div-result c = omega (arith, (weighs (goal.at.nonzero_div-result c).After-weight).positive)
 
 pub returns : goal.returns
-returns : tie.Need-returns returns c = omega (arith, (weighs (goal.at.returns c).After-weight).read)
+returns c = omega (arith, (weighs (goal.at.returns c).After-weight).read)

@@ -11,19 +11,19 @@ weighs c =
     weighed a.byte a.k c.weight-w.result (omega (arith, c.ranges.byte)) c.requires c.weight-w.ensures
 
 pub nonzero_div-others : goal.nonzero_div-others
-nonzero_div-others : tie.Need-nonzero-div-others div-others c = omega (arith, (weighs (goal.at.nonzero_div-others c).After-weight-w).positive)
+nonzero_div-others c = omega (arith, (weighs (goal.at.nonzero_div-others c).After-weight-w).positive)
 
 pub overflow_mul-others : goal.overflow_mul-others
-overflow_mul-others : tie.Need-overflow-mul-others mul-others c = omega (arith, (weighs (goal.at.overflow_mul-others c).After-weight-w).part, c.ranges.byte)
+overflow_mul-others c = omega (arith, (weighs (goal.at.overflow_mul-others c).After-weight-w).part, c.ranges.byte)
 
 pub overflow_sub-others : goal.overflow_sub-others
-overflow_sub-others : tie.Need-overflow-sub-others sub-others c = omega (arith, (weighs (goal.at.overflow_sub-others c).After-weight-w).part)
+overflow_sub-others c = omega (arith, (weighs (goal.at.overflow_sub-others c).After-weight-w).part)
 
 pub overflow_add-result : goal.overflow_add-result
-overflow_add-result : tie.Need-overflow-add-result add-result c = omega (arith, (weighs (goal.at.overflow_add-result c).After-weight-w).on, (weighs (goal.at.overflow_add-result c).After-weight-w).byte)
+overflow_add-result c = omega (arith, (weighs (goal.at.overflow_add-result c).After-weight-w).on, (weighs (goal.at.overflow_add-result c).After-weight-w).byte)
 
 pub returns-then-on : goal.returns-then-on
-returns-then-on : tie.Need-returns returns c = rw c.if-on.true (omega (arith, (weighs (goal.at.returns-then-on c).After-weight-w).on))
+returns-then-on c = rw c.if-on.true (omega (arith, (weighs (goal.at.returns-then-on c).After-weight-w).on))
 
 pub returns-else-on : goal.returns-else-on
-returns-else-on : tie.Need-returns-2 returns-2 c = rw c.if-on.false (omega (arith, (weighs (goal.at.returns-else-on c).After-weight-w).off))
+returns-else-on c = rw c.if-on.false (omega (arith, (weighs (goal.at.returns-else-on c).After-weight-w).off))
