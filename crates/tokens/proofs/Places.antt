@@ -27,6 +27,7 @@ inside-before x l (one h) = one h
 
 -- a lexeme has a byte
 a_byte : {class : ℕ → Bool} (w : List ℕ) → Starts class w → 0 < length w
+a_byte {class = class} [] x' = elim x' [ ]
 a_byte (c ∷ cs) (first e) = omega arith
 
 some : {w r : List ℕ} {j : Scanned} → LongestLexeme w r j → 0 < length w

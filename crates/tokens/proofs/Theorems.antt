@@ -172,12 +172,15 @@ letter-lexeme c cs p l =
 
 pub digit-lexeme : (s : List ℕ) (p : ℕ) → Starts is_digit s → lexeme_of s p ≡ numeral_lexeme s p
 unfolding lexeme_of
+digit-lexeme [] p x' = elim x' [ ]
 digit-lexeme (c ∷ cs) p (first d) = choose (λ (x : Lexeme). x ≡ numeral_lexeme (c ∷ cs) p) (is_digit c) _ _ (λ m. refl) (λ m. no (sym m ∙ d))
 
 pub longer-start : (w r : List ℕ) → Starts is_digit w → Starts is_digit (w ++ r)
+longer-start [] r x' = elim x' [ ]
 longer-start (c ∷ cs) r (first d) = first d
 
 word-lexeme : (w r : List ℕ) (p : ℕ) → Starts is_letter w → all is_word w ≡ true → Stops is_word r → lexeme_of (w ++ r) p ≡ lexeme p (length w) (word_token w)
+word-lexeme [] r p x3 e s = elim x3 [ ]
 word-lexeme (c ∷ cs) r p (first l) e s = letter-lexeme c (cs ++ r) p l ∙ run-lexeme is_word word_token (c ∷ cs) r p e s
 
 numeral-lexeme : {w r : List ℕ} (p : ℕ) → NumeralRun w r → lexeme_of (w ++ r) p ≡ lexeme p (length w) (numeral_of w)
@@ -207,9 +210,11 @@ lexeme-of {w} {r} (stray c q s l d no_symbol) p =
 
 -- no lexeme begins with a blank
 word-front : (w r : List ℕ) → Starts is_letter w → Stops is_space (w ++ r)
+word-front [] r x' = elim x' [ ]
 word-front (c ∷ cs) r (first l) = other (no-space c (omega (arith, letter-range c l)))
 
 numeral-front : (w r : List ℕ) → Starts is_digit w → Stops is_space (w ++ r)
+numeral-front [] r x' = elim x' [ ]
 numeral-front (c ∷ cs) r (first d) = other (no-space c (omega (arith, digit-range c d)))
 
 no-blank : {w r : List ℕ} {j : Scanned} → LongestLexeme w r j → Stops is_space (w ++ r)

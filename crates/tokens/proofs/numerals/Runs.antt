@@ -76,6 +76,7 @@ module _ {m ds ps x : List ℕ} where
       (runs ps (both (non_empty ps) (all_digits ps) g).1))
 
 some-length : (s : List ℕ) → Starts is_digit s → 0 < length s
+some-length [] x' = elim x' [ ]
 some-length (c ∷ cs) (first e) = omega arith
 
 -- before an `E`

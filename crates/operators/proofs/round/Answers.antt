@@ -1,0 +1,9 @@
+-- `operators::round` meets its contract: an integer as it is, a real rounded.
+use borrow.Author.Rules.{rules}
+use Rattle.operators.proofs.round.Goals as goal
+
+pub returns-in-Int : goal.returns-in-Int
+returns-in-Int c = rw c.in-Int.is
+
+pub returns-in-Real : goal.returns-in-Real
+returns-in-Real c = rw (c.in-Real.is, ← c.round.ensures) c.from_cut.ensures

@@ -1,0 +1,44 @@
+-- `remainder::remainder` meets its contract: a law for each way through it.
+use mathlib.Core.Path.{sym, ◌∙◌}
+use mathlib.Core.Logic.{⊎_elim}
+use native.Mathlib.Omega.{arith}
+use lib.Dec.{T}
+use lib.Ieee.{binary32, fits}
+use lib.Ieee.Bits.{to_bits-lt}
+use borrow.Author.Tests.{leb-true, leb-false, ltb-true}
+use borrow.Author.Rules.{rules}
+use Rattle.remainder.proofs.Specials.{same, nan-dividend, nan-divisor, zero-divisor, infinite-dividend, below-infinity}
+use Rattle.remainder.proofs.Remainders.{of-smaller, of-larger}
+use Rattle.remainder.proofs.remainder.Goals as goal
+
+pub float_to_bits-p : goal.float_to_bits-p
+float_to_bits-p c = same c.args.x c.if-x.false
+
+pub float_to_bits-b : goal.float_to_bits-b
+float_to_bits-b c = same c.args.y c.if-y.false
+
+pub returns-then-a-b : goal.returns-then-a-b
+returns-then-a-b c =
+    let x = c.args.x in
+    let y = c.args.y in
+    let F : T (fits binary32 x) = search rules in
+    let G : T (fits binary32 y) = search rules in
+    of-smaller x y F G (omega (arith, leb-false)) (same y c.if-y.false) (omega arith)
+
+pub overflow_add-result : goal.overflow_add-result
+overflow_add-result c =
+    let x = c.args.x in
+    let F : T (fits binary32 x) = search rules in
+    omega (arith, to_bits-lt binary32 x F)
+
+pub float_from_bits-result : goal.float_from_bits-result
+float_from_bits-result c = below-infinity _ (omega arith)
+
+pub returns : goal.returns
+returns c =
+    let x = c.args.x in
+    let y = c.args.y in
+    let F : T (fits binary32 x) = search rules in
+    let G : T (fits binary32 y) = search rules in
+    let r = c.pattern_rem in
+    of-larger x y F G (omega (arith, leb-false)) _ r.result (omega arith) (omega arith) r.ensures.0 r.ensures.1 (omega arith)
