@@ -12,7 +12,7 @@ use Rattle.tokens.specs.declared.Token.TheVariants.{Symbol}
 use Rattle.tokens.specs.Scan.{Tok}
 use Rattle.grammar.specs.Tree.{Tree}
 use Rattle.grammar.specs.Symbols.{open_paren, close_paren, open_index, close_index, loosest, Callee, of_one, of_two, of_choice, of_since, more_arguments}
-use Rattle.grammar.specs.Symbols.{call_tree, Arguments, argument}
+use Rattle.grammar.specs.Symbols.{call_tree, Arguments, argument, more}
 use Rattle.grammar.specs.Grammar.{tok, Range, range, Derives, number, name, index, parenthesis, call, clocked, totalled, tested, prefixed, up}
 use Rattle.grammar.specs.Grammar.{infixed, last, next, Formula}
 use Rattle.grammar.specs.Parse.{most_open}
@@ -106,10 +106,10 @@ low d = elim d as (λ l w t d. Low l w t) (λ m w ts a. Lows m w ts) [
   | last q {w} {t} (d → h) ↦ λ o v lt s.
       let b = within w t h o _ [] v lt s in
       ((λ k g. b.0), closed o refl refl b.1)
-  | next q {w} {v = x} {t} (d → h) (a → h') ↦ λ o v lt s.
+  | next {m} q {w} {v = x} {t} {ts} (d → h) (a → h') ↦ λ o v lt s.
       let b = within w t h o _ x v lt s in
       let c = h' o v lt (passed refl b.1) in
-      ((λ k. elim k [ zero ↦ λ g. b.0 | suc k ↦ λ g. c.0 k (omega arith) ]), c.1)
+      ((λ k. elim k as (λ j. j ≤ suc m → need (argument j (more t ts)) ≤ 12 * (most_open - o)) [ zero ↦ λ g. b.0 | suc j ↦ λ g. c.0 j (omega arith) ]), c.1)
 ]
 
 pub height : {w : List Tok} {t : Tree} → Formula w t → Shallow 0 w → need t ≤ 108
