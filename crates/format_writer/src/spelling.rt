@@ -36,7 +36,7 @@ fn opens_exponent(text: &[u8], at: usize) -> bool
     requires { at ≤ length text.now }
     ensures { result ≡ opens_exponent (drop at text.now) }
 {
-    if bytes::byte_at(text, at) != b'e' {
+    if bytes::byte_at(text, at) != b'E' {
         return false;
     }
     is_sign(bytes::byte_at(text, at + 1))

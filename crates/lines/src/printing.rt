@@ -121,12 +121,12 @@ fn letter(bank: Bank) -> u8
     ensures { result ≡ letter_byte bank }
 {
     match bank {
-        Bank::X => b'x',
-        Bank::C => b'c',
-        Bank::V => b'v',
-        Bank::N => b'n',
-        Bank::D => b'd',
-        Bank::R => b'r',
+        Bank::X => b'X',
+        Bank::C => b'C',
+        Bank::V => b'V',
+        Bank::N => b'N',
+        Bank::D => b'D',
+        Bank::R => b'R',
     }
 }
 

@@ -34,12 +34,12 @@ pub fn bank_of(letter: u8) -> Letter
     ensures { result ≡ letter_bank letter }
 {
     match letter {
-        b'x' => Letter::Of(Bank::X),
-        b'c' => Letter::Of(Bank::C),
-        b'v' => Letter::Of(Bank::V),
-        b'n' => Letter::Of(Bank::N),
-        b'd' => Letter::Of(Bank::D),
-        b'r' => Letter::Of(Bank::R),
+        b'X' => Letter::Of(Bank::X),
+        b'C' => Letter::Of(Bank::C),
+        b'V' => Letter::Of(Bank::V),
+        b'N' => Letter::Of(Bank::N),
+        b'D' => Letter::Of(Bank::D),
+        b'R' => Letter::Of(Bank::R),
         _ => Letter::Other,
     }
 }

@@ -117,7 +117,7 @@ fn real_at(text: &[u8], at: usize, dot: usize, whole: u64) -> Lex
         places: end - dot - 1,
     };
     let next = d.next;
-    if next == b'e' {
+    if next == b'E' {
         return exponent_at(text, at, m);
     }
     if bytes::is_run(next) {
@@ -140,7 +140,7 @@ pub fn numeral_at(text: &[u8], at: usize) -> Lex
     if next == b'.' {
         return real_at(text, at, end, n);
     }
-    if next == b'e' {
+    if next == b'E' {
         let m = Mantissa {
             value: n,
             end,
