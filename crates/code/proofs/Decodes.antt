@@ -25,7 +25,6 @@ use Rattle.memory.specs.declared.Bank.{Bank}
 use Rattle.memory.specs.declared.Bank.TheVariants.{X}
 use Rattle.memory.specs.Layout.{layout_of}
 use Rattle.memory.specs.declared.numbers.BankOf.{BankOf}
-use Rattle.memory.specs.declared.numbers.BankOf.TheVariants as BankOf
 use Rattle.memory.specs.Numbers.{banks, bank_numbered, bank_number}
 use Rattle.values.specs.declared.CompareOp.TheVariants.{Eq}
 use Rattle.operators.proofs.Gives.{picked}

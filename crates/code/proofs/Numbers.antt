@@ -19,16 +19,13 @@ use Rattle.operators.specs.declared.BinaryOp.{BinaryOp}
 use Rattle.operators.specs.declared.BinaryOp.TheVariants.{Arith, Power, Shift, Compare, Bits, Choice}
 use Rattle.memory.specs.declared.Bank.{Bank}
 use Rattle.memory.specs.declared.Bank.TheVariants.{X, C, «V», N, D, R}
-use Rattle.memory.specs.declared.numbers.BankOf.TheVariants as BankOf
 use Rattle.operators.specs.declared.tables.UnaryOf.TheVariants as UnaryOf
 use Rattle.operators.specs.declared.tables.BinaryOf.TheVariants as BinaryOf
 use Rattle.operators.specs.Tables.{unary_ops, binary_ops, unary_of, binary_of, unary_number, binary_number}
 use Rattle.memory.specs.declared.numbers.BankOf.{BankOf}
 use Rattle.memory.specs.Numbers.{banks, bank_numbered, bank_number}
 use Rattle.totals.specs.declared.TotalOp.{TotalOp}
-use Rattle.totals.specs.declared.TotalOp.TheVariants as TotalOp
 use Rattle.totals.specs.declared.MatchOp.{MatchOp}
-use Rattle.totals.specs.declared.MatchOp.TheVariants as MatchOp
 use Rattle.totals.specs.declared.tables.TotalOf.TheVariants as TotalOf
 use Rattle.totals.specs.declared.tables.MatchOf.TheVariants as MatchOf
 use Rattle.totals.specs.Numbers.{total_ops, match_ops, total_of, match_of, total_number, match_number}

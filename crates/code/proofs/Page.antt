@@ -12,26 +12,20 @@ use Rattle.reals.specs.declared.ArithOp.TheVariants.{Add}
 use Rattle.operators.specs.declared.UnaryOp.TheVariants.{Neg}
 use Rattle.operators.specs.declared.BinaryOp.TheVariants.{Arith}
 use Rattle.operators.specs.declared.tables.UnaryOf.{UnaryOf}
-use Rattle.operators.specs.declared.tables.UnaryOf.TheVariants as UnaryOf
 use Rattle.operators.specs.declared.tables.BinaryOf.{BinaryOf}
-use Rattle.operators.specs.declared.tables.BinaryOf.TheVariants as BinaryOf
 use Rattle.operators.specs.Tables.{unary_ops, binary_ops, unary_of, binary_of}
 use Rattle.memory.specs.declared.Bank.TheVariants.{X}
 use Rattle.memory.specs.declared.numbers.BankOf.{BankOf}
-use Rattle.memory.specs.declared.numbers.BankOf.TheVariants as BankOf
 use Rattle.memory.specs.Numbers.{banks, bank_numbered}
 use Rattle.values.specs.declared.CompareOp.TheVariants.{Eq}
 use Rattle.totals.specs.declared.TotalOp.TheVariants as TotalOp
 use Rattle.totals.specs.declared.MatchOp.TheVariants as MatchOp
 use Rattle.totals.specs.declared.tables.TotalOf.{TotalOf}
-use Rattle.totals.specs.declared.tables.TotalOf.TheVariants as TotalOf
 use Rattle.totals.specs.declared.tables.MatchOf.{MatchOf}
-use Rattle.totals.specs.declared.tables.MatchOf.TheVariants as MatchOf
 use Rattle.totals.specs.Numbers.{total_ops, match_ops, total_of, match_of}
 use Rattle.code.specs.declared.Instr.{Instr}
 use Rattle.code.specs.declared.Instr.TheVariants.{Jump, JumpIf, Unknown}
 use Rattle.code.specs.declared.Class.{Class}
-use Rattle.code.specs.declared.Class.TheVariants as Class
 use Rattle.code.specs.Instructions.{PUSH-INT, PUSH-REAL, JUMP, JUMP-IF-FALSE, JUMP-IF-TRUE, TICK, SINCE, LOAD, LOAD-INDEXED, UNARY, BINARY, TOTAL, MATCH}
 use Rattle.code.specs.Instructions.{push_int, push_real, load_element, load_indexed, apply_unary, apply_binary, apply_total, apply_match, push_tick, apply_since}
 use Rattle.code.specs.Instructions.{Row, rows, unnumbered, lookup, instruction, opcode_of, word_of, instruction_of}

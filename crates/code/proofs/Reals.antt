@@ -1,44 +1,31 @@
 -- Which instructions read R: one law for each class of those that read a bank, and one for the others.
 use mathlib.Core.Path.{◌≡◌, refl, sym, ap, ◌∙◌}
-use mathlib.Core.Bool.{Bool, true, false, not, ◌||◌, cond, true≢false}
-use mathlib.Core.List.{[], ◌∷◌}
+use mathlib.Core.Bool.{Bool, true, false, not, cond}
 use Prim.Native.Nat.{ℕ}
 use lib.Dec.{eqb, ltb}
 use lib.Ieee.{Float, nan, inf, fin, binary32, of_bits}
-use denote.Enum.Declared.{tag_of}
-use types.Run.{OneOf}
 use Rattle.values.specs.declared.Kind.{Kind}
-use Rattle.values.specs.declared.Kind.TheVariants as Kind
 use Rattle.operators.specs.declared.tables.UnaryOf.{UnaryOf}
-use Rattle.operators.specs.declared.tables.UnaryOf.TheVariants as UnaryOf
 use Rattle.operators.specs.declared.tables.BinaryOf.{BinaryOf}
-use Rattle.operators.specs.declared.tables.BinaryOf.TheVariants as BinaryOf
 use Rattle.operators.specs.Tables.{unary_of, binary_of}
 use Rattle.operators.specs.Kinds.{is_int, kind_number}
-use Rattle.operators.proofs.Keys.{by-keys}
 use Rattle.memory.specs.declared.Bank.{Bank}
 use Rattle.memory.specs.declared.numbers.BankOf.{BankOf}
-use Rattle.memory.specs.declared.numbers.BankOf.TheVariants as BankOf
 use Rattle.memory.specs.Layout.{layout_of}
 use Rattle.memory.specs.Cells.{bank_kind, real_bank}
 use Rattle.memory.specs.Numbers.{bank_numbered, bank_typed}
 use Rattle.totals.specs.declared.tables.TotalOf.{TotalOf}
-use Rattle.totals.specs.declared.tables.TotalOf.TheVariants as TotalOf
 use Rattle.totals.specs.declared.tables.MatchOf.{MatchOf}
-use Rattle.totals.specs.declared.tables.MatchOf.TheVariants as MatchOf
 use Rattle.totals.specs.Totals.{good_range}
 use Rattle.totals.specs.Numbers.{total_of, match_of}
 use Rattle.code.specs.declared.Instr.{Instr}
-use Rattle.code.specs.declared.Instr.TheVariants as Instr
 use Rattle.code.specs.declared.Instr.TheVariants.{Unknown}
 use Rattle.code.specs.declared.Class.{Class}
 use Rattle.code.specs.declared.Class.TheVariants.{PushInt, PushReal, Jump, JumpIfFalse, JumpIfTrue, Tick, Since, Load, LoadIndexed, Unary}
-use Rattle.code.specs.declared.Class.TheVariants as Class
 use Rattle.code.specs.declared.Class.TheVariants.{Binary, Total, Match}
 use Rattle.code.specs.Instructions.{finite_only, load_element, load_indexed, range_bank, range_first, range_count, over_range, opcode_of, word_of, instruction_of}
 use Rattle.code.specs.Reals.{reads_real}
 use Rattle.code.specs.private.Classes.{class_of, number_of, of_bank, of_unary, of_binary, of_total, of_match, instr_in}
-use Rattle.code.specs.contracts.Class.{the_type}
 use Rattle.code.proofs.Page.{number-class}
 
 -- what is an instruction reads R just if r
@@ -95,10 +82,6 @@ module _ (n : ℕ) {b k : ℕ} (t : k ≡ bank_typed (bank_numbered b)) where
 
 -- ---- the other classes
 
--- by a class's place among the classes: whether it reads a bank
-abbrev reads_bank : ℕ → Bool
-reads_bank t = eqb t 7 || (eqb t 8 || (eqb t 11 || eqb t 12))
-
 finite-reads : (x : Float) → false ≡ reads_real (finite_only x)
 finite-reads nan = refl
 finite-reads (inf s) = refl
@@ -112,23 +95,18 @@ binary-reads : (o : BinaryOf) (w : ℕ) → SaysReal false (of_binary o w)
 binary-reads (BinaryOf.Is o) w = tested (eqb w 0) (Instr.Binary o) refl
 binary-reads BinaryOf.Nothing w = λ n. refl
 
-no-bank : (k : Class) (n : ℕ) → false ≡ reads_bank (tag_of the_type k) → SaysReal false (instr_in k n)
-no-bank PushInt n e = λ i. refl
-no-bank PushReal n e = λ i. finite-reads (of_bits binary32 (word_of n))
-no-bank Jump n e = λ i. refl
-no-bank JumpIfFalse n e = λ i. refl
-no-bank JumpIfTrue n e = λ i. refl
-no-bank Tick n e = tested (eqb (word_of n) 0) Instr.Tick refl
-no-bank Since n e = tested (eqb (word_of n) 0) Instr.Since refl
-no-bank Load n e = absurd (true≢false (sym e))
-no-bank LoadIndexed n e = absurd (true≢false (sym e))
-no-bank Unary n e = unary-reads (unary_of (number_of n)) (word_of n)
-no-bank Binary n e = binary-reads (binary_of (number_of n)) (word_of n)
-no-bank Total n e = absurd (true≢false (sym e))
-no-bank Match n e = absurd (true≢false (sym e))
-no-bank Class.Unknown n e = λ i. refl
-
-pub other-reads : (n : ℕ) (k : Class) → OneOf (0 ∷ 1 ∷ 2 ∷ 3 ∷ 4 ∷ 5 ∷ 6 ∷ 9 ∷ 10 ∷ 13 ∷ []) (tag_of the_type k) → SaysReal false (instr_in k n)
-other-reads n k o =
-    no-bank k n (by-keys false reads_bank (0 ∷ 1 ∷ 2 ∷ 3 ∷ 4 ∷ 5 ∷ 6 ∷ 9 ∷ 10 ∷ 13 ∷ []) _
-    (refl, (refl, (refl, (refl, (refl, (refl, (refl, (refl, (refl, (refl, tt)))))))))) o)
+pub other-reads : (n : ℕ) (k : Class) → (k ≡ Load → ⊥) → (k ≡ LoadIndexed → ⊥) → (k ≡ Total → ⊥) → (k ≡ Match → ⊥) → SaysReal false (instr_in k n)
+other-reads n PushInt l x t m = λ i. refl
+other-reads n PushReal l x t m = λ i. finite-reads (of_bits binary32 (word_of n))
+other-reads n Jump l x t m = λ i. refl
+other-reads n JumpIfFalse l x t m = λ i. refl
+other-reads n JumpIfTrue l x t m = λ i. refl
+other-reads n Tick l x t m = tested (eqb (word_of n) 0) Instr.Tick refl
+other-reads n Since l x t m = tested (eqb (word_of n) 0) Instr.Since refl
+other-reads n Load l x t m = absurd (l refl)
+other-reads n LoadIndexed l x t m = absurd (x refl)
+other-reads n Unary l x t m = unary-reads (unary_of (number_of n)) (word_of n)
+other-reads n Binary l x t m = binary-reads (binary_of (number_of n)) (word_of n)
+other-reads n Total l x t m = absurd (t refl)
+other-reads n Match l x t m = absurd (m refl)
+other-reads n Class.Unknown l x t m = λ i. refl

@@ -1,4 +1,6 @@
 // Instructions and their eight bytes. docs/INSTRUCTIONS.md is the page of them.
+#![tactic(auto)]
+
 ghost use Rattle.std.specs.Prelude.{◌≡◌, ◌+◌, ◌<◌, ◌≤◌, length, take, drop};
 ghost use Rattle.words.specs.Words.{little_endian};
 ghost use Rattle.code.specs.declared.Instr.TheVariants.{Unknown};

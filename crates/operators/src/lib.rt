@@ -1,5 +1,6 @@
 // Every operator of paper 01 on values: mixed kinds, truth, the branches of IF, and the element that an index names.
 #![tactic(auto)]
+
 ghost use Rattle.std.specs.Prelude.{◌≡◌, true, not, ◌||◌};
 ghost use Rattle.operators.specs.Operators.{as_real, pair_of, arith_rule, power_rule};
 ghost use Rattle.operators.specs.Operators.{from_bool, cut_outcome, truth_rule, unary_rule, since_rule, branch_rule, cut_below, index_rule};

@@ -10,7 +10,7 @@ use lib.Pow.{pow-add, pow_mono, shl_lt}
 use Rattle.reals.specs.Laws.{pattern_units}
 use Rattle.reals.proofs.Grid.{split}
 use Rattle.remainder.proofs.Shifts.{places-apart}
-use Rattle.remainder.proofs.Patterns.{place, digits, in_place}
+use Rattle.remainder.proofs.Patterns.{place, in_place}
 
 -- ---- n with l leading zeros of 32 bits may be shifted until it has 24 digits
 pub record Room (n l : ℕ) : Type 0 where

@@ -1,6 +1,7 @@
 // The remainder of two singles on whole numbers: what the f32 `%` gives, bit for bit, for a machine whose C library has no fmodf, or
 // one that takes a step for each binary digit between the operands, up to 276 of them. Here a step takes eight.
 #![tactic(auto)]
+
 ghost use Rattle.std.specs.Prelude.{◌≡◌, ◌-◌, ◌*◌, ◌/◌, ◌%◌, ◌^◌, ◌≤◌, ◌<◌};
 ghost use Rattle.std.specs.Float.{binary32, nan};
 ghost use Rattle.std.specs.Float.Ieee.{rem};

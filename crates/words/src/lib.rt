@@ -1,5 +1,6 @@
 // Numbers as little-endian bytes, for memory cells and instructions; and the bits of a byte.
 #![tactic(auto)]
+
 ghost use Rattle.std.specs.Prelude.{◌≡◌, [], ◌∷◌, ◌/◌, ◌%◌, ◌^◌, ◌<◌};
 ghost use Rattle.words.specs.Bits.{bit, with_bit, digit_of};
 ghost use Rattle.words.specs.Words.{little_endian};

@@ -1,6 +1,5 @@
 -- `remainder::encode` meets its contract: a law for each way, and the room that n has.
 use native.Mathlib.Omega.{arith}
-use borrow.Author.Rules.{rules}
 use Rattle.remainder.proofs.Encodings.{room, subnormal, normal, none}
 use Rattle.remainder.proofs.encode.Goals as goal
 

@@ -2,7 +2,6 @@
 use mathlib.Core.Path.{◌∙◌}
 use native.Mathlib.Nat.{lt_trans, mod-lt}
 use native.Mathlib.Omega.{arith}
-use borrow.Author.Rules.{rules}
 use Rattle.remainder.proofs.Remainders.{of-patterns}
 use Rattle.remainder.proofs.pattern_rem.Goals as goal
 

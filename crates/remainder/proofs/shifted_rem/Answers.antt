@@ -1,10 +1,8 @@
 -- `remainder::shifted_rem` meets its contract. The invariant: what is left to do gives the whole remainder.
-use mathlib.Core.Path.{◌≡◌}
-use Prim.Native.Nat.{◌*◌, ◌%◌, ◌^◌, ◌<◌}
+use Prim.Native.Nat.{◌^◌, ◌<◌}
 use native.Mathlib.Nat.{lt_trans, mod-lt}
 use native.Mathlib.Omega.{arith}
 use lib.Pow.{shl_exact}
-use borrow.Author.Rules.{rules}
 use Rattle.remainder.proofs.Shifts.{places-first}
 use Rattle.remainder.proofs.shifted_rem.Goals as goal
 

@@ -5,9 +5,7 @@ use Prim.Native.Nat.{◌*◌}
 use lib.Dec.{T}
 use lib.Ieee.{Float, nan, inf, fin, binary32, up, down, is_nan, to_bits, eq}
 use borrow.Author.Tests.{eq-eqb}
-use borrow.Author.Rules.{rules}
-use Rattle.code.proofs.encoding.pattern_of.Statement.{statement}
-use Rattle.code.proofs.encoding.pattern_of.Tie as tie
+use Rattle.code.proofs.encoding.pattern_of.Goals as goal
 
 itself : (x : Float) → eq x x ≡ true → T (not (is_nan x))
 unfolding eq is_nan
@@ -23,14 +21,8 @@ other (inf false) h = absurd (true≢false h)
 other (fin true m e) h = absurd (true≢false (rw (eq-eqb (m * up e * down e) _ refl) at h))
 other (fin false m e) h = absurd (true≢false (rw (eq-eqb (m * up e * down e) _ refl) at h))
 
-float-to-bits-result : tie.Need-float-to-bits-result
-float-to-bits-result c = itself c.before.args.x c.if1.true
+pub float_to_bits-result : goal.float_to_bits-result
+float_to_bits-result c = itself c.args.x c.if-x.true
 
-returns : tie.Need-returns
-returns c = search rules
-
-returns-2 : tie.Need-returns-2
-returns-2 c = other c.before.args.x c.if1.false
-
-pub pattern-of-spec : {M : Type 1} → statement M
-pattern-of-spec = tie.close (tie.spec float-to-bits-result returns returns-2)
+pub returns-else-x : goal.returns-else-x
+returns-else-x c = other c.args.x c.if-x.false
