@@ -9,8 +9,7 @@ out=target/staticlib
 for tool in rt objcopy objdump nm awk; do
     command -v "$tool" > /dev/null || { echo "$tool is missing" >&2; exit 1; }
 done
-rt staticlib formula_c
-rt staticlib formula_int_c
+sh tools/build.sh formula_c formula_int_c
 objcopy --redefine-sym fmodf=formula_remainder "$out/libformula_c.a" "$out/libformula_bare.a"
 
 # what no member of an archive defines

@@ -32,6 +32,6 @@ done
 if [ -n "$missing" ]; then
     echo "missing in target/bin:$missing; proved and built first, which takes minutes"
     # shellcheck disable=SC2086
-    rt check $missing
+    sh tools/build.sh $missing
 fi
 node viewer/page.test.mjs "$PWD/$from" "${PICTURES:-}"

@@ -8,7 +8,7 @@ cd "$(dirname "$0")/../.."
 seed=${1:-20261117}
 work=$out/calls
 for library in formula_c formula_int_c; do
-    [ -s "target/staticlib/lib$library.a" ] || rt staticlib "$library"
+    [ -s "target/staticlib/lib$library.a" ] || sh tools/build.sh "$library"
 done
 
 # $1: the library whose calls are recorded: the tests are linked with functions of its names in front of it.
