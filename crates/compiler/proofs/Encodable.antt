@@ -27,7 +27,7 @@ use Rattle.code.specs.declared.Instr.TheVariants.{Jump, JumpIf}
 use Rattle.code.specs.Encode.{Encodable, push-int, push-real, load, load-indexed, unary, binary, jump, jump-if, push-tick, since, total, matching}
 use Rattle.grammar.specs.Tree as Tree
 use Rattle.grammar.specs.Tree.{Tree, literal, cell, indexed, logic, choice, tick, tree_kind}
-use Rattle.grammar.specs.Symbols.{Callee, of_one, of_two, of_choice, of_since, Arguments, argument, call_tree}
+use Rattle.grammar.specs.Symbols.{more, Callee, of_one, of_two, of_choice, of_since, Arguments, argument, call_tree}
 use Rattle.grammar.specs.Grammar.{Derives, number, name, index, parenthesis, call, Range, range, clocked, totalled, tested, prefixed, up, infixed}
 use Rattle.grammar.specs.Grammar.{last, next, Formula}
 use Rattle.tree_code.specs.Code.{push_bool, truth_tail, branch_tail, branch_tail_skip, code_of}
@@ -153,7 +153,9 @@ fits d = elim d as (λ l w t d. AllKnown w → Fits t) (λ m w ts a. AllKnown w 
   | up (d → f) ↦ f
   | infixed n p {w} {t = t} {u = u} q (d → f) (d' → g) ↦ λ e. on-infix (infix-node n p t u) (f (each-front w _ e)) (g (each-rest (each_back w _ e)))
   | last q {w} (d → f) ↦ λ e k. f (each-front w _ e)
-  | next q {w} (d → f) (a → g) ↦ λ e k. elim k [ zero ↦ f (each-front w _ e) | suc k ↦ g (each-rest (each_back w _ e)) k ]
+  | next q {w} {t = t} {ts = ts} (d → f) (a → g) ↦ λ e k. elim k as (λ j. Fits (argument j (more t ts))) [
+    zero ↦ f (each-front w _ e) | suc j ↦ g (each-rest (each_back w _ e)) j
+  ]
 ]
 
 pub encodable : {w : List Tok} {t : Tree} → Formula w t → AllKnown w → length (code_of t) ≤ 2048 → Each Encodable (code_of t)

@@ -119,11 +119,22 @@ data Calls : Form → Type 0 where
 total-back : (o : TotalOp) → total_at (total_number o) ≡ o
 total-back T'.Sum = refl
 total-back T'.Average = refl
-total-back (T'.Choice o) = elim o [ Choose.Max ↦ refl | Choose.Min ↦ refl ]
+total-back (T'.Choice Choose.Max) = refl
+total-back (T'.Choice Choose.Min) = refl
 
 match_back : (o : MatchOp) → match_at (match_number o) ≡ o
-match_back (M'.Count o) = elim o [ C'.Lt ↦ refl | C'.Gt ↦ refl | C'.Le ↦ refl | C'.Ge ↦ refl | C'.Eq ↦ refl | C'.Ne ↦ refl ]
-match_back (M'.Sum o) = elim o [ C'.Lt ↦ refl | C'.Gt ↦ refl | C'.Le ↦ refl | C'.Ge ↦ refl | C'.Eq ↦ refl | C'.Ne ↦ refl ]
+match_back (M'.Count C'.Lt) = refl
+match_back (M'.Count C'.Gt) = refl
+match_back (M'.Count C'.Le) = refl
+match_back (M'.Count C'.Ge) = refl
+match_back (M'.Count C'.Eq) = refl
+match_back (M'.Count C'.Ne) = refl
+match_back (M'.Sum C'.Lt) = refl
+match_back (M'.Sum C'.Gt) = refl
+match_back (M'.Sum C'.Le) = refl
+match_back (M'.Sum C'.Ge) = refl
+match_back (M'.Sum C'.Eq) = refl
+match_back (M'.Sum C'.Ne) = refl
 
 calls : (g : Function) → Calls (form_of g)
 calls F.Abs = one-call U.Abs refl (λ k. refl)

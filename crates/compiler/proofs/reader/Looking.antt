@@ -202,9 +202,20 @@ function-back TickMs = refl
 function-back Since = refl
 function-back (Total T'.Sum) = refl
 function-back (Total T'.Average) = refl
-function-back (Total (T'.Choice o)) = elim o [ Choose.Max ↦ refl | Choose.Min ↦ refl ]
-function-back (Match (M'.Count o)) = elim o [ C'.Lt ↦ refl | C'.Gt ↦ refl | C'.Le ↦ refl | C'.Ge ↦ refl | C'.Eq ↦ refl | C'.Ne ↦ refl ]
-function-back (Match (M'.Sum o)) = elim o [ C'.Lt ↦ refl | C'.Gt ↦ refl | C'.Le ↦ refl | C'.Ge ↦ refl | C'.Eq ↦ refl | C'.Ne ↦ refl ]
+function-back (Total (T'.Choice Choose.Max)) = refl
+function-back (Total (T'.Choice Choose.Min)) = refl
+function-back (Match (M'.Count C'.Lt)) = refl
+function-back (Match (M'.Count C'.Gt)) = refl
+function-back (Match (M'.Count C'.Le)) = refl
+function-back (Match (M'.Count C'.Ge)) = refl
+function-back (Match (M'.Count C'.Eq)) = refl
+function-back (Match (M'.Count C'.Ne)) = refl
+function-back (Match (M'.Sum C'.Lt)) = refl
+function-back (Match (M'.Sum C'.Gt)) = refl
+function-back (Match (M'.Sum C'.Le)) = refl
+function-back (Match (M'.Sum C'.Ge)) = refl
+function-back (Match (M'.Sum C'.Eq)) = refl
+function-back (Match (M'.Sum C'.Ne)) = refl
 
 -- a literal or a cell with the operand n, the number x and the place p: the tree it is, and its word as the instruction
 pub record Leaf (s : List ℕ) (at c n x p : ℕ) : Type 0 where

@@ -85,7 +85,7 @@ module _ (d : ℕ) {s : List ℕ} {at p pc : ℕ} {o o₁ : List ℕ} {a : Unary
           (λ t m. same_done (means-unary m p a refl) refl))
 
 -- ---- all of them
-up_to : {s : List ℕ} {first i : ℕ} {o o' : List ℕ} {r r' : Read} → Unaries s first o r i o' r' → i ≤ first
+up_to : {s : List ℕ} {first : ℕ} {o : List ℕ} {r : Read} {i : ℕ} {o' : List ℕ} {r' : Read} → Unaries s first o r i o' r' → i ≤ first
 up_to U.none = omega arith
 up_to (U.more v) = omega (arith, up_to v)
 
