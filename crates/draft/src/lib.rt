@@ -1,5 +1,7 @@
 // Instructions as words, written into a draft: what follows the parts of a formula. A jump is filled in when what it skips has been written; nothing is
 // written behind the draft's end.
+#![tactic(auto)]
+
 ghost use Rattle.std.specs.Prelude.{◌≡◌, false, ◌+◌, ◌-◌, ◌<◌, ◌≤◌, eqb, length, set};
 ghost use Rattle.values.specs.declared.Kind.TheVariants.{Int};
 ghost use Rattle.operators.specs.Kinds.{is_int, join, number_kind, unary_kind, unary_takes, binary_kind};

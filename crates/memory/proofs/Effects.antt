@@ -1,12 +1,10 @@
 -- What a store and a flag do to an image of any layout: a number is put into a cell, or a flag is set, or, in an image of another size, nothing.
 -- What is written to distinct places commutes. Assumes nothing.
-use mathlib.Core.Path.{◌≡◌, refl, sym, ap, subst, ◌∙◌}
-use mathlib.Core.Bool.{Bool, true, false, cond}
+use mathlib.Core.Path.{◌≡◌, refl, sym}
 use mathlib.Core.List.{List}
 use Prim.Native.Nat.{ℕ, ◌<◌}
 use native.Mathlib.Decide.{ℕ_discrete, dec_lt}
 use native.Mathlib.Omega.{arith}
-use lib.Dec.{eqb, ltb}
 use lib.ListN.{length, set, length-set}
 use lib.Seq.{set_comm}
 use borrow.Author.Tests.{eq-eqb, ne_eqb, lt-ltb, le-ltb}

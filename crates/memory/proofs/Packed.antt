@@ -9,7 +9,6 @@ use native.Mathlib.Omega.{arith}
 use lib.Dec.{eqb}
 use lib.ListN.{length, get_or, set, take, drop, length-set}
 use lib.Seq.{sets, length-sets, get_or-set_other}
-use Rattle.words.specs.Words.{little_endian}
 use Rattle.words.specs.Bits.{bit, with_bit}
 use Rattle.words.specs.Laws.{Bytes}
 use Rattle.words.proofs.Laws.{word_laws}

@@ -1,12 +1,10 @@
 -- Names of cells (paper 01): "a bank letter and a decimal number without a leading zero (`0` itself is good)", within its bank; and answer 2: "target is
 -- not exactly one word that is a C, V, N, D or R cell, no spaces".
 use Rattle.std.specs.Prelude.{Bool, true, false, ◌&&◌, cond, List, [], ◌∷◌, ℕ, ◌+◌, ◌-◌, ◌*◌, ◌^◌, eqb, leb, ltb}
-use Rattle.memory.specs.declared.Bank.{Bank}
 use Rattle.memory.specs.declared.Bank.TheVariants.{X, C, «V», N, D, R}
 use Rattle.memory.specs.declared.names.Letter.{Letter}
 use Rattle.memory.specs.declared.names.Letter.TheVariants as L
 use Rattle.memory.specs.declared.names.Number.{Number}
-use Rattle.memory.specs.declared.names.Number.TheVariants as Number
 use Rattle.memory.specs.declared.names.Named.{Named}
 use Rattle.memory.specs.declared.names.Named.TheVariants as A
 use Rattle.memory.specs.Layout.{layout_of}

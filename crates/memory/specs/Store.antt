@@ -2,7 +2,7 @@
 -- truncated first", 13 where it lies outside 32 bits. "11 to 14 set their flag's byte to 1 and change nothing else in memory".
 -- An infinite or NaN real, which no formula gives, is 13 into any cell. X is stored to as C is, though no target names it. An image of another size
 -- stays as it is.
-use Rattle.std.specs.Prelude.{Bool, true, false, cond, List, ℕ, eqb, ℤ, length, set}
+use Rattle.std.specs.Prelude.{Bool, true, false, cond, List, ℕ, eqb, length, set}
 use Rattle.std.specs.Float.Ieee as Ieee
 use Rattle.std.specs.Float.{binary32}
 use Rattle.std.specs.Float.Ieee.Scale.{finite}

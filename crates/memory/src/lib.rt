@@ -1,4 +1,6 @@
 // The memory image: 3,092 bytes that the caller lends. This crate alone knows where a cell lies.
+#![tactic(auto)]
+
 ghost use Rattle.std.specs.Prelude.{◌≡◌};
 ghost use Rattle.memory.specs.Layout.{layout_of, flag_at};
 ghost use Rattle.memory.specs.Cells.{real_bank};

@@ -16,7 +16,6 @@ use Rattle.tokens.specs.Scan.{Lexeme, Found, Wrong, End, Tok, Scan, cons_token, 
 use Rattle.tokens.proofs.Laws.{Lies, found as found_at, wrong-at, rest, no-blank, at_once, at-blank, at-found, at-wrong, at-end}
 use Rattle.tokens.proofs.Known.{known}
 use Rattle.token_table.specs.declared.Filled.{Filled}
-use Rattle.token_table.specs.declared.Filled.TheVariants as Filled
 use Rattle.token_table.specs.private.Table.{Entry, pack_fields, pack_token, word_class, word_number, word_place, entry_of, Fills, filled, stopped}
 use Rattle.token_table.specs.private.Table.{Sound, TokenWord, blank, TokenWords}
 use Rattle.token_table.specs.private.Lexing.{Lexes, found, wrong}
@@ -48,7 +47,7 @@ pub begin : (s o : List ℕ) → Filling s o o 0 0
 begin s o = record { within = omega arith; room = omega arith; size = refl; goes = λ u r h. h; all = λ h. h }
 
 -- what is promised of a table that was o
-abbrev Promised : List ℕ → List ℕ → List ℕ → Filled → Type 0
+abbrev pub Promised : List ℕ → List ℕ → List ℕ → Filled → Type 0
 Promised s o table r = (length table ≡ length o) × (Fills (scan s) table r × (TokenWords o → TokenWords table))
 
 -- ---- the word that was found, and where it goes

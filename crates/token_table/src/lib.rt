@@ -1,4 +1,6 @@
 // The tokens of a text, one to a word: the text is scanned once, and the reader and the compiler walk over the words.
+#![tactic(auto)]
+
 ghost use Rattle.std.specs.Prelude.{◌≡◌, ℕ, ◌<◌, ◌≤◌, length, drop};
 ghost use Rattle.tokens.specs.Scan.{Wrong, lexeme_of, scan};
 ghost use Rattle.token_table.specs.private.Table.{word_class, word_operand, word_place, word_number, word_at, Fills, TokenWords};

@@ -1,4 +1,6 @@
 // Tokens of a formula's text (paper 01, "Tokens"), and what the bytes of a whole numeral or word are.
+#![tactic(auto)]
+
 use memory::Bank;
 use totals::{MatchOp, TotalOp};
 use values::Value;

@@ -12,7 +12,7 @@ use Rattle.words.specs.Words.{little_endian, bytes_of}
 use Rattle.words.specs.Bits.{bit, with_bit}
 use Rattle.values.specs.declared.Outcome.{Outcome}
 use Rattle.memory.specs.declared.Bank.{Bank}
-use Rattle.memory.specs.declared.Bank.TheVariants.{X, C, «V», N, D, R}
+use Rattle.memory.specs.declared.Bank.TheVariants.{«V», N, D, R}
 use Rattle.memory.specs.Layout.{layout_of, block_place, block_of, number_in, block_with, packed, has_cell}
 use Rattle.memory.specs.Laws.{Bits, is_x, is_c, Holdable}
 use Rattle.memory.specs.Cells.{cell_value, read_rule}

@@ -1,6 +1,6 @@
 -- Numerals that are read at a position are what the definitions say of their runs.
 use mathlib.Core.Path.{◌≡◌, refl, sym, ap, subst, ◌∙◌}
-use mathlib.Core.Bool.{Bool, true, false, ◌&&◌, cond, and-false}
+use mathlib.Core.Bool.{Bool, true, false, cond, and-false}
 use mathlib.Core.List.{List, [], ◌∷◌, ◌++◌, append-nil, append_assoc}
 use Prim.Native.Nat.{ℕ, zero, suc, ◌+◌, ◌-◌, ◌^◌, ◌≤◌, ◌<◌, min}
 use native.Mathlib.Nat.{mod-eq_of_lt, add-zero}
@@ -16,10 +16,10 @@ use Rattle.memory.specs.Names.{is_digit, all_digits, digits_of, decimal_from, de
 use Rattle.memory.proofs.names.Decimals.{digits-split, digits-only, cut}
 use Rattle.tokens.specs.declared.Token.TheVariants.{Number}
 use Rattle.tokens.specs.declared.Scanned.{Scanned}
-use Rattle.tokens.specs.declared.Scanned.TheVariants.{Good, Bad}
+use Rattle.tokens.specs.declared.Scanned.TheVariants.{Bad}
 use Rattle.tokens.specs.Bytes.{is_word, is_run, run_len}
 use Rattle.tokens.specs.Numerals.{non_empty, decimal_digits, decimal_of, hex_of, is_hex_run, has_part, is_sign, without_sign, literal_of}
-use Rattle.tokens.specs.Scan.{Lexeme, Wrong, lexeme, numeral_lexeme}
+use Rattle.tokens.specs.Scan.{Wrong, lexeme, numeral_lexeme}
 use Rattle.tokens.proofs.Tests.{by-test, both, no}
 use Rattle.tokens.proofs.Runs.{run-most}
 use Rattle.tokens.proofs.Readings.{decimals, append}
@@ -29,7 +29,7 @@ use Rattle.tokens.proofs.numerals.Lexemes.{exponent_run, exponent_of}
 use Rattle.tokens.proofs.numerals.Values.{nine-digits}
 use Rattle.token_table.specs.declared.numerals.Mantissa.{Mantissa}
 use Rattle.token_table.specs.private.Table.{pack_fields}
-use Rattle.token_table.specs.private.Lexing.{scanned_word, Lexes, found, wrong, MantissaAt, OtherNumeral}
+use Rattle.token_table.specs.private.Lexing.{scanned_word, Lexes, found, MantissaAt, OtherNumeral}
 use Rattle.token_table.proofs.Digits.{digit-run, inside, behind, run-digits, run_more}
 use Rattle.token_table.proofs.Lexemes.{lexes-as, judged}
 

@@ -12,7 +12,6 @@ use Rattle.values.specs.Patterns.{low_bits, signed_of}
 use Rattle.memory.specs.declared.Bank.{Bank}
 use Rattle.memory.specs.Cells.{real_cell}
 use Rattle.memory.specs.declared.numbers.BankOf.{BankOf}
-use Rattle.memory.specs.declared.numbers.BankOf.TheVariants as BankOf
 use Rattle.memory.specs.Layout.{layout_of}
 use Rattle.memory.specs.Numbers.{bank_numbered, bank_number}
 use Rattle.totals.specs.Numbers.{total_number, match_number}

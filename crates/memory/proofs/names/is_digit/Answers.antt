@@ -1,0 +1,10 @@
+-- `memory::names::is_digit` meets its contract: from 48 to 57.
+use native.Mathlib.Omega.{arith}
+use borrow.Author.Tests.{le-leb, lt-leb}
+use Rattle.memory.proofs.names.is_digit.Goals as goal
+
+pub returns-then-b-lt48 : goal.returns-then-b-lt48
+returns-then-b-lt48 c = rw (lt-leb 48 c.args.b (omega arith))
+
+pub returns : goal.returns
+returns c = rw (le-leb 48 c.args.b (omega arith))

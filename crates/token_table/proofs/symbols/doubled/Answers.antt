@@ -1,0 +1,9 @@
+-- `symbols::doubled` meets its contract.
+use borrow.Author.Tests.{eq-eqb, ne_eqb}
+use Rattle.token_table.proofs.symbols.doubled.Goals as goal
+
+pub returns-then-x-b : goal.returns-then-x-b
+returns-then-x-b c = rw (eq-eqb _ _ c.if-x-b.true) c.symbol.ensures
+
+pub returns-else-x-b : goal.returns-else-x-b
+returns-else-x-b c = rw (ne_eqb _ _ c.if-x-b.false) c.symbol-else-x-b.ensures

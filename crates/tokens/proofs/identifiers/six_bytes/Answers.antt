@@ -1,0 +1,14 @@
+-- `identifiers::six_bytes` meets its contract: an arm for each name of the row.
+use mathlib.Core.Path.{refl}
+use native.Mathlib.Omega.{arith}
+use Rattle.tokens.proofs.identifiers.Names.{a-name, no_name}
+use Rattle.tokens.proofs.identifiers.six_bytes.Goals as goal
+
+pub returns-in-0 : goal.returns-in-0
+returns-in-0 c = a-name 6 _ c.requires c.place_in.ensures 0 _ c.in-0.is (λ o. refl)
+
+pub returns-in-1 : goal.returns-in-1
+returns-in-1 c = a-name 6 _ c.requires c.place_in.ensures 1 _ c.in-1.is (λ o. refl)
+
+pub returns-in_default : goal.returns-in_default
+returns-in_default c = no_name 6 _ c.requires c.place_in.ensures (omega arith)

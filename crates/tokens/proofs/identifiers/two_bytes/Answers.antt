@@ -1,0 +1,11 @@
+-- `identifiers::two_bytes` meets its contract: an arm for each name of the row.
+use mathlib.Core.Path.{refl}
+use native.Mathlib.Omega.{arith}
+use Rattle.tokens.proofs.identifiers.Names.{a-name, no_name}
+use Rattle.tokens.proofs.identifiers.two_bytes.Goals as goal
+
+pub returns-in-0 : goal.returns-in-0
+returns-in-0 c = a-name 2 _ c.requires c.place_in.ensures 0 _ c.in-0.is (λ o. refl)
+
+pub returns-in_default : goal.returns-in_default
+returns-in_default c = no_name 2 _ c.requires c.place_in.ensures (omega arith)
