@@ -126,5 +126,6 @@ module _ (reals : Bool) (i : Instr) (s : Shape) (n : ℕ) where
       → admitted_move reals i s ≡ leaving_under (kind_limit reals) n t
   leaves-replaced t = leaves reals i s true n t
 
-  pub leaves-pushed : move_of i s ≡ push_number n s → all_admitted reals s ≡ true → Silent reals n i → admitted_move reals i s ≡ push_under (kind_limit reals) n s
+  pub leaves-pushed : move_of i s ≡ push_number n s → all_admitted reals s ≡ true → Silent reals n i
+      → admitted_move reals i s ≡ push_under (kind_limit reals) n s
   leaves-pushed = leaves reals i s (has_room s) n s

@@ -12,7 +12,7 @@ use Rattle.code.specs.declared.Instr.{Instr}
 use Rattle.verifier.specs.Typing.{Shape, Move, ill_typed, next, jump, fork}
 use Rattle.verifier.specs.Accepts.{MovesTo, next_place, jump_target, not_taken, taken, instr_at}
 use Rattle.verifier.specs.Profile.{move_in, well_formed_in, ReachedIn, onward, AcceptsIn}
-use Rattle.verifier.specs.private.Shapes.{State, rejected, unreached, holds}
+use Rattle.verifier.specs.private.Shapes.{State, unreached, holds}
 use Rattle.verifier.specs.private.Pass.{Merges, adds, has, clashes, Steps, stuck, strays, goes, leaps, forks, leap_clash, fork_clash}
 use Rattle.verifier.proofs.Moves.{compare, upto, able}
 use Rattle.verifier.proofs.Pass.{holds_same, unheld, unfailed, unarrived, Arrives, first, from, In, flows, jumped, Comes, Knows, Or, refuses}
@@ -143,8 +143,8 @@ module _ (reals : Bool) (c : List Instr) (p : ℕ) (before : ℕ → State) (ins
 
 -- ---- a place that nothing comes to is passed over
 
-pub passed : (reals : Bool) (c : List Instr) (p : ℕ) (before : ℕ → State) → well_formed_in reals (length c - suc p) (instr_at c p) ≡ true → before p ≡ unreached
-    → Comes reals c p before unreached → Comes reals c (suc p) before unreached
+pub passed : (reals : Bool) (c : List Instr) (p : ℕ) (before : ℕ → State) → well_formed_in reals (length c - suc p) (instr_at c p) ≡ true
+    → before p ≡ unreached → Comes reals c p before unreached → Comes reals c (suc p) before unreached
 passed reals c p before known e k = advance reals c p before unreached w known (record {
   acts = λ s d. unheld (exact w s d);
   led = λ s q r d. unheld (exact w s d);

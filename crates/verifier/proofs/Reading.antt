@@ -9,28 +9,21 @@ use lib.Ieee.{Float, nan, inf, fin, binary32, of_bits}
 use Rattle.values.specs.declared.Kind.{Kind}
 use Rattle.values.specs.declared.Kind.TheVariants.{Int, Real}
 use Rattle.operators.specs.declared.tables.UnaryOf.{UnaryOf}
-use Rattle.operators.specs.declared.tables.UnaryOf.TheVariants as UnaryOf
 use Rattle.operators.specs.declared.tables.BinaryOf.{BinaryOf}
-use Rattle.operators.specs.declared.tables.BinaryOf.TheVariants as BinaryOf
 use Rattle.operators.specs.Tables.{unary_of, binary_of}
 use Rattle.operators.specs.Kinds.{is_int, kind_number}
 use Rattle.memory.specs.declared.Bank.{Bank}
 use Rattle.memory.specs.declared.numbers.BankOf.{BankOf}
-use Rattle.memory.specs.declared.numbers.BankOf.TheVariants as BankOf
 use Rattle.memory.specs.Layout.{layout_of}
 use Rattle.memory.specs.Cells.{bank_kind, real_bank}
 use Rattle.memory.specs.Numbers.{bank_numbered, bank_typed}
 use Rattle.totals.specs.declared.TotalOp.{TotalOp}
-use Rattle.totals.specs.declared.TotalOp.TheVariants as TotalOp
 use Rattle.totals.specs.declared.MatchOp.{MatchOp}
 use Rattle.totals.specs.declared.tables.TotalOf.{TotalOf}
-use Rattle.totals.specs.declared.tables.TotalOf.TheVariants as TotalOf
 use Rattle.totals.specs.declared.tables.MatchOf.{MatchOf}
-use Rattle.totals.specs.declared.tables.MatchOf.TheVariants as MatchOf
 use Rattle.totals.specs.Totals.{good_range}
 use Rattle.totals.specs.Numbers.{total_of, match_of}
 use Rattle.code.specs.declared.Instr.{Instr}
-use Rattle.code.specs.declared.Instr.TheVariants as Instr
 use Rattle.code.specs.declared.Instr.TheVariants.{Unknown}
 use Rattle.code.specs.declared.Class.TheVariants as Class
 use Rattle.code.specs.Instructions.{finite_only, load_element, load_indexed, range_bank, range_first, range_count, over_range, word_of}

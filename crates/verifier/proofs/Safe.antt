@@ -1,12 +1,12 @@
--- Accepted code, whatever it reads of the right kinds, reaches its end or a fault, and holds what each instruction takes: `Safe`, and that a memory's reads are
--- of the right kinds.
-use mathlib.Core.Path.{◌≡◌, refl, sym, ap, ◌∙◌, subst}
+-- Accepted code, whatever it reads of the right kinds, reaches its end or a fault, and holds what each instruction takes: `Safe`, and that a
+-- memory's reads are of the right kinds.
+use mathlib.Core.Path.{◌≡◌, refl, sym, ap, subst}
 use mathlib.Core.Bool.{Bool, true, false, cond, beq}
 use mathlib.Core.List.{List, [], ◌∷◌, map}
 use Prim.Native.Nat.{ℕ, zero, suc, ◌+◌, ◌≤◌, ◌<◌}
 use native.Mathlib.Nat.{add-zero, le_trans}
 use native.Mathlib.Omega.{arith}
-use lib.Dec.{T, ltb}
+use lib.Dec.{T}
 use lib.ListN.{length, drop, length-drop, length-map}
 use borrow.Author.Tests.{lt-ltb}
 use Rattle.values.specs.declared.Kind.{Kind}

@@ -16,7 +16,6 @@ use Rattle.code.proofs.Parts.{decode-fetched}
 use Rattle.verifier.specs.declared.packing.Held.{Held}
 use Rattle.verifier.specs.declared.typing.Flow.{Flow}
 use Rattle.verifier.specs.declared.Verdict.{Verdict}
-use Rattle.verifier.specs.declared.Verdict.TheVariants as Verdict
 use Rattle.verifier.specs.Typing.{Shape, Move, ill_typed, jump, fork, move_of}
 use Rattle.verifier.specs.Profile.{all_int, held_after, move_in, well_formed_in}
 use Rattle.verifier.specs.private.Shapes.{State, rejected, unreached, holds, kind_limit, push_under, LeavesKind, number_kind, bit_kinds, word}

@@ -1,4 +1,6 @@
 // The verifier: one pass over the code, with the kinds of the values held as its state.
+#![tactic(auto)]
+
 ghost use Rattle.std.specs.Prelude.{◌≡◌, Bool, true, cond, ℕ, ◌-◌, ◌<◌, ◌≤◌, List, length, get_or};
 ghost use Rattle.code.specs.declared.Instr.TheVariants.{Jump, JumpIf};
 ghost use Rattle.code.specs.Instructions.{word_of, instruction_of, instructions};

@@ -10,28 +10,22 @@ use borrow.Author.Tests.{ne_eqb, lt-ltb, le-ltb}
 use Rattle.values.specs.declared.Kind.{Kind}
 use Rattle.values.specs.declared.Kind.TheVariants.{Int, Real}
 use Rattle.operators.specs.declared.tables.UnaryOf.{UnaryOf}
-use Rattle.operators.specs.declared.tables.UnaryOf.TheVariants as UnaryOf
 use Rattle.operators.specs.declared.tables.BinaryOf.{BinaryOf}
-use Rattle.operators.specs.declared.tables.BinaryOf.TheVariants as BinaryOf
 use Rattle.operators.specs.Tables.{unary_of, binary_of}
 use Rattle.operators.specs.Kinds.{is_int, unary_takes, unary_kind, binary_takes, binary_kind, kind_number, typed, unary_typed, binary_typed}
 use Rattle.memory.specs.declared.Bank.{Bank}
 use Rattle.memory.specs.declared.Bank.TheVariants.{X, C, «V», N, D, R}
 use Rattle.memory.specs.declared.numbers.BankOf.{BankOf}
-use Rattle.memory.specs.declared.numbers.BankOf.TheVariants as BankOf
 use Rattle.memory.specs.Layout.{layout_of}
 use Rattle.memory.specs.Cells.{bank_kind}
 use Rattle.memory.specs.Numbers.{bank_numbered, bank_typed, bank_elements}
 use Rattle.totals.specs.declared.TotalOp.{TotalOp}
 use Rattle.totals.specs.declared.MatchOp.{MatchOp}
 use Rattle.totals.specs.declared.tables.TotalOf.{TotalOf}
-use Rattle.totals.specs.declared.tables.TotalOf.TheVariants as TotalOf
 use Rattle.totals.specs.declared.tables.MatchOf.{MatchOf}
-use Rattle.totals.specs.declared.tables.MatchOf.TheVariants as MatchOf
 use Rattle.totals.specs.Totals.{range_within, total_kind, match_kind}
 use Rattle.totals.specs.Numbers.{total_of, match_of, total_typed, match_typed}
 use Rattle.code.specs.declared.Instr.{Instr}
-use Rattle.code.specs.declared.Instr.TheVariants as Instr
 use Rattle.code.specs.declared.Instr.TheVariants.{Unknown}
 use Rattle.code.specs.declared.Class.TheVariants.{PushReal, Tick, Since, Load, LoadIndexed, Unary, Binary, Total, Match}
 use Rattle.code.specs.Instructions.{finite_only, load_element, load_indexed, push_tick, apply_since, range_bank, range_first, range_count, over_range, word_of}
@@ -129,7 +123,8 @@ unary-is UnaryOf.Nothing k = turns-none refl k
 
 binary-is : (o : BinaryOf) (j k : ℕ) → ReplacesTwo (of_binary o 0) j k (binary_typed o (number_kind j) (number_kind k))
 unfolding move_of
-binary-is (BinaryOf.Is o) j k = record { is = λ s. left-kind (binary_takes o (number_kind j) (number_kind k)) (binary_kind o (number_kind j) (number_kind k)) s }
+binary-is (BinaryOf.Is o) j k =
+    record { is = λ s. left-kind (binary_takes o (number_kind j) (number_kind k)) (binary_kind o (number_kind j) (number_kind k)) s }
 binary-is BinaryOf.Nothing j k = pairs-none refl j k
 
 -- ---- ranges

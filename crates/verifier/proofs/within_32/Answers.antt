@@ -1,0 +1,10 @@
+-- `verifier::within_32` meets its contract: the tables are blank, and have a place for each instruction and the end.
+use native.Mathlib.Omega.{arith}
+use Rattle.verifier.proofs.Checking.{blank}
+use Rattle.verifier.proofs.within_32.Goals as goal
+
+pub checked-requires : goal.checked-requires
+checked-requires c = record {
+  n_nonzero = (omega (arith, c.requires.0), omega (arith, c.requires.1));
+  blank = blank 32 _ (omega (arith, c.requires.1));
+}
