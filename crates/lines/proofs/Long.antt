@@ -12,14 +12,13 @@ use Rattle.memory.specs.declared.Bank.{Bank}
 use Rattle.memory.specs.declared.Bank.TheVariants.{X, C, «V», N, D, R}
 use Rattle.memory.specs.declared.names.Letter.{Letter}
 use Rattle.memory.specs.declared.names.Letter.TheVariants as L
-use Rattle.memory.specs.declared.names.Named.{Named}
 use Rattle.memory.specs.declared.names.Named.TheVariants.{Cell, Other}
 use Rattle.memory.specs.Layout.{layout_of}
-use Rattle.memory.specs.Names.{letter_bank, no_leading_zero, all_digits, decimal_value, number_below, cell_after_letter, named_rule, storable, target_rule}
+use Rattle.memory.specs.Names.{letter_bank, no_leading_zero, all_digits, decimal_value, number_below, cell_after_letter, named_rule, target_rule}
 use Rattle.tokens.specs.Bytes.{all, is_hex}
 use Rattle.tokens.specs.Numerals.{hex_from, is_hex_run}
 use Rattle.lines.specs.declared.forms.Form.TheVariants as Form
-use Rattle.lines.specs.Forms.{natural_form, negative_form, signed_form, hex_form, cell_pattern}
+use Rattle.lines.specs.Forms.{natural_form, signed_form, hex_form, cell_pattern}
 use Rattle.lines.specs.Printing.{width_of}
 use Rattle.lines.proofs.Decimals.{text_of}
 use Rattle.lines.proofs.printing.Digits.{length_digits}

@@ -1,4 +1,6 @@
 // Lines of text: numbers and cells in the forms in which they are read and printed.
+#![tactic(auto)]
+
 ghost use Rattle.std.specs.Prelude.{◌≡◌, ◌≤◌, length};
 ghost use Rattle.tokens.specs.Bytes.{run_len};
 ghost use Rattle.lines.specs.Lines.{except};
