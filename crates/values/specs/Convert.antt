@@ -1,6 +1,6 @@
 -- Between the kinds (paper 01): "Promotion gives the nearest single, ties to even"; "TRUNC and TOINT cut toward zero; ROUND takes the nearest, halves away
 -- from zero; all give integers, or 13 outside 32 bits". A cut is stated on the single's size in units of 2 ^ -149.
-use Rattle.std.specs.Prelude.{ℕ, ◌+◌, ◌*◌, ◌/◌, ◌^◌, Bool, true, false, cond, ℤ, Float}
+use Rattle.std.specs.Prelude.{ℕ, ◌+◌, ◌*◌, ◌/◌, ◌^◌, cond, ℤ, Float}
 use Rattle.std.specs.Float.Ieee as Ieee
 use Rattle.std.specs.Float.{binary32}
 use Rattle.std.specs.Float.Ieee.Scale.{finite}

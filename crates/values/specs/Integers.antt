@@ -1,6 +1,6 @@
 -- Integers (paper 01): "Integer `+ - * **`, negate, ABS: the exact value, or 12 if it lies outside 32 bits. `/` truncates, `%` takes the
 -- dividend's sign; zero divisor is 11; least integer / -1 is 12, % -1 is 0."
-use Rattle.std.specs.Prelude.{ℕ, zero, suc, ◌-◌, ◌^◌, Bool, true, false, cond, not, ◌&&◌, ℤ, pos, negsuc, ◌+ℤ◌, ◌-ℤ◌, ◌*ℤ◌, neg_ℤ, int_div, int_le, int_lt, int_rem, unsigned_abs}
+use Rattle.std.specs.Prelude.{ℕ, zero, suc, ◌-◌, ◌^◌, Bool, cond, not, ◌&&◌, ℤ, pos, ◌+ℤ◌, ◌-ℤ◌, ◌*ℤ◌, neg_ℤ, int_div, int_le, int_lt, int_rem, unsigned_abs}
 use Rattle.reals.specs.declared.ArithOp.{ArithOp}
 use Rattle.reals.specs.declared.ArithOp.TheVariants.{Add, Sub, Mul, Div, Rem}
 use Rattle.values.specs.declared.Value.TheVariants.{Int}

@@ -1,6 +1,6 @@
 -- Integers as patterns of binary digits (paper 01): the bitwise operators, and "Shift counts 0 to 31, else 13. `<<` keeps the low 32 bits,
 -- `>>` copies the sign, `>>>` shifts in zeros." Patterns are given at every width k, since memory has cells of 16 bits too.
-use Rattle.std.specs.Prelude.{ℕ, zero, suc, ◌+◌, ◌-◌, ◌*◌, ◌/◌, ◌%◌, ◌^◌, min, max, Bool, true, false, cond, ℤ, pos, negsuc, ◌-ℤ◌, nat_lt, unsigned_abs}
+use Rattle.std.specs.Prelude.{ℕ, zero, suc, ◌+◌, ◌-◌, ◌*◌, ◌/◌, ◌%◌, ◌^◌, min, max, cond, ℤ, pos, negsuc, ◌-ℤ◌, nat_lt, unsigned_abs}
 use Rattle.std.specs.Int.Signed.{shr_z}
 use Rattle.values.specs.declared.Value.TheVariants.{Int}
 use Rattle.values.specs.declared.Fault.TheVariants.{OutOfRange}

@@ -1,13 +1,12 @@
 -- Singles (paper 01): "Real: one IEEE operation; `%` as C's fmod. .. Zero divisor (either sign) is 11; an infinite result is 12. Underflow is gradual
 -- and no fault." What `ieee` gives on whole numbers is the crate reals'.
 -- A NaN never comes out of a memory, and no operation of finite singles with a divisor above zero gives one. So that the rules are total, a NaN result is 13.
-use Rattle.std.specs.Prelude.{ℕ, zero, suc, Bool, true, false, cond, not, ◌&&◌, ℤ, pos, unsigned_abs, Float}
+use Rattle.std.specs.Prelude.{ℕ, zero, suc, Bool, false, cond, ◌&&◌, ℤ, pos, unsigned_abs, Float}
 use Rattle.std.specs.Float.Ieee as Ieee
-use Rattle.std.specs.Float.{nan, inf, fin, binary32}
+use Rattle.std.specs.Float.{nan, inf, fin}
 use Rattle.reals.specs.declared.ArithOp.{ArithOp}
 use Rattle.reals.specs.declared.ArithOp.TheVariants.{Mul}
 use Rattle.reals.specs.Operations.{ieee, divides}
-use Rattle.values.specs.declared.Value.{Value}
 use Rattle.values.specs.declared.Value.TheVariants.{Int, Real}
 use Rattle.values.specs.declared.Fault.TheVariants.{DividedByZero, Overflow, OutOfRange}
 use Rattle.values.specs.declared.Outcome.{Outcome}

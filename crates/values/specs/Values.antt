@@ -1,5 +1,5 @@
 -- Paper 01, "Values and kinds": "A value is either a 32-bit integer or a single." The types themselves are the enums of src/lib.rt.
-use Rattle.std.specs.Prelude.{ℕ, Bool, true, false}
+use Rattle.std.specs.Prelude.{ℕ}
 use Rattle.values.specs.declared.Kind.{Kind}
 use Rattle.values.specs.declared.Kind.TheVariants as K
 use Rattle.values.specs.declared.Value.{Value}

@@ -1,5 +1,7 @@
 // What a value is, and how its two kinds of number behave: 32-bit integers and singles (paper 01, "Values and kinds").
 // Nothing here mixes kinds: that is the crate operators.
+#![tactic(auto)]
+
 ghost use Rattle.std.specs.Prelude.{◌≡◌};
 ghost use Rattle.values.specs.Values.{fault_number};
 

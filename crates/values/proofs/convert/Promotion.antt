@@ -2,7 +2,7 @@
 use Rattle.std.proofs.Common.{◌≡◌, ℕ, suc, ◌+◌, ◌-◌, ◌*◌, ◌/◌, ◌%◌, ◌^◌, ◌<◌, ◌≤◌, false, T, ◌⊎◌, pos, sym, ap, ◌∙◌, inl, inr, le_trans, lt_of_lt_of_le, lt_of_le_of_lt, mul-le-mul_right, zero-lt-suc, mul_assoc, mul_comm, le_antisymm, eq-or-lt_of_le, mul-lt-mul_of_pos_right, mul-pos, one-mul, lt_of_not-le, le-div_iff_mul-le, mul-one, not-le_of_lt, div-one, arith, lit<, lit≤, le→leb, pow_pos, pow_mono, pow-add, shr_lt}
 use Prim.Native.Nat.{compare}
 use lib.Pow.{pow-lt}
-use lib.Ieee.{binary32, up, size, units, round, mul, of_int, in_float}
+use lib.Ieee.{binary32, size, units, round, mul, of_int, in_float}
 use lib.Ieee.Digits.{size-lt, size-le}
 use lib.Ieee.Fits.{core, round_is, nearest-le, round-fits, of_int-fits}
 use lib.Ieee.Exact.{HasValue, units_val, round_exact}
