@@ -1,13 +1,13 @@
 -- The order of the answers: 10 for the buffer, 3 for the length, then 4 to 6 for the tokens, then what the table says; and the copy of the draft.
 use mathlib.Core.Path.{◌≡◌, refl, sym, ap, subst, ◌∙◌}
-use mathlib.Core.Bool.{Bool, true, false, not, ◌&&◌, cond}
-use mathlib.Core.List.{List, []}
-use Prim.Native.Nat.{ℕ, ◌*◌, ◌≤◌, ◌<◌}
+use mathlib.Core.Bool.{Bool, true, false, ◌&&◌, cond}
+use mathlib.Core.List.{List}
+use Prim.Native.Nat.{ℕ, ◌≤◌, ◌<◌}
 use native.Mathlib.Omega.{arith}
 use lib.Dec.{eqb, leb}
 use lib.ListN.{length, take}
 use lib.Seq.{sets}
-use borrow.Author.Tests.{lt-ltb, le-ltb, le-leb, lt-leb, leb-true, ltb-true, ltb-false, not-true, not-false, ne_eqb}
+use borrow.Author.Tests.{lt-ltb, le-ltb, le-leb, lt-leb, leb-true, ltb-true, ltb-false, ne_eqb}
 use Rattle.tokens.proofs.Tests.{both}
 use Rattle.tokens.specs.Scan.{Scan, tokens, wrong, scan}
 use Rattle.token_table.specs.declared.Filled.TheVariants.{Good, Wrong}
@@ -172,14 +172,14 @@ all-fits reals d s code code' a h (e, w) = (e, go (judge_in reals d s) refl)
 
 -- ---- the length
 module _ (s : List ℕ) where
-  pub sized : {b : Bool} → b ≡ (leb 1 (length s) && leb (length s) 1024) → not b ≡ false → Sized s
-  sized {b} e h =
-      let (some, short) = both (leb 1 (length s)) (leb (length s) 1024) (sym e ∙ not-false b h) in
+  pub sized : {b : Bool} → b ≡ (leb 1 (length s) && leb (length s) 1024) → b ≡ true → Sized s
+  sized e h =
+      let (some, short) = both (leb 1 (length s)) (leb (length s) 1024) (sym e ∙ h) in
       record { some = leb-true 1 (length s) some; short = leb-true (length s) 1024 short }
 
-  pub not-sized : {b : Bool} → b ≡ (leb 1 (length s) && leb (length s) 1024) → not b ≡ true → (reals : Bool) (d : ℕ) → judge_in reals d s ≡ refused 3 0
+  pub not-sized : {b : Bool} → b ≡ (leb 1 (length s) && leb (length s) 1024) → b ≡ false → (reals : Bool) (d : ℕ) → judge_in reals d s ≡ refused 3 0
   unfolding judge_in
-  not-sized {b} e h reals d = rw (sym e ∙ not-true b h) refl
+  not-sized e h reals d = rw (sym e ∙ h) refl
 
 -- ---- the buffer
 module _ (reals : Bool) (d : ℕ) (s code : List ℕ) where

@@ -21,11 +21,9 @@ use Rattle.totals.proofs.Laws.{total-laws}
 use Rattle.tokens.specs.declared.Token.TheVariants.{Number, Cell}
 use Rattle.tokens.specs.Scan.{Tok}
 use Rattle.tokens.proofs.Known.{Known}
-use Rattle.tokens.proofs.Known as Known
 use Rattle.code.specs.declared.Instr.{Instr}
 use Rattle.code.specs.declared.Instr.TheVariants.{Jump, JumpIf}
 use Rattle.code.specs.Encode.{Encodable, push-int, push-real, load, load-indexed, unary, binary, jump, jump-if, push-tick, since, total, matching}
-use Rattle.grammar.specs.Tree as Tree
 use Rattle.grammar.specs.Tree.{Tree, literal, cell, indexed, logic, choice, tick, tree_kind}
 use Rattle.grammar.specs.Symbols.{more, Callee, of_one, of_two, of_choice, of_since, Arguments, argument, call_tree}
 use Rattle.grammar.specs.Grammar.{Derives, number, name, index, parenthesis, call, Range, range, clocked, totalled, tested, prefixed, up, infixed}
@@ -154,7 +152,8 @@ fits d = elim d as (λ l w t d. AllKnown w → Fits t) (λ m w ts a. AllKnown w 
   | infixed n p {w} {t = t} {u = u} q (d → f) (d' → g) ↦ λ e. on-infix (infix-node n p t u) (f (each-front w _ e)) (g (each-rest (each_back w _ e)))
   | last q {w} (d → f) ↦ λ e k. f (each-front w _ e)
   | next q {w} {t = t} {ts = ts} (d → f) (a → g) ↦ λ e k. elim k as (λ j. Fits (argument j (more t ts))) [
-    zero ↦ f (each-front w _ e) | suc j ↦ g (each-rest (each_back w _ e)) j
+    | zero ↦ f (each-front w _ e)
+    | suc j ↦ g (each-rest (each_back w _ e)) j
   ]
 ]
 

@@ -85,7 +85,8 @@ judged : (p n : ℕ) {r : Scanned} → Room n r → Takes (lexeme p n r)
 judged p n (good {t = t} h) = token t p (p + n) (λ l. omega (arith, h (omega arith)))
 judged p n bad = wrong
 
-run : (test : ℕ → Bool) (f : List ℕ → Scanned) → ((n : ℕ) (cs : List ℕ) → length cs ≤ n → Room n (f cs)) → (cs : List ℕ) (p : ℕ) → Takes (run_lexeme test f cs p)
+run : (test : ℕ → Bool) (f : List ℕ → Scanned) → ((n : ℕ) (cs : List ℕ) → length cs ≤ n → Room n (f cs))
+    → (cs : List ℕ) (p : ℕ) → Takes (run_lexeme test f cs p)
 run test f room cs p =
     let n = run_len test cs in
     judged p n (room n (take n cs) (rw length-take (omega arith)))

@@ -1,4 +1,6 @@
 // The compiler: the judgement of a text, and the code of a formula, written into a lent buffer.
+#![tactic(auto)]
+
 ghost use Rattle.std.specs.Prelude.{◌≡◌, ◌&&◌, ◌*◌, ◌<◌, ◌≤◌, leb, length};
 ghost use Rattle.token_table.specs.private.Table.{TokenWords};
 ghost use Rattle.text.specs.Judge.{judge};

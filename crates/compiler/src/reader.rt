@@ -68,7 +68,7 @@ fn alone(table: &[u64], draft: &mut [u64], at: usize, pc: usize, g: u8) -> u64
 
 // expression: operand { infix expression of a tighter group }. Most right sides are a number or a cell alone: they need no further call. A slice that is
 // passed on as it came is copied in one load of what was stored in two halves, for which a processor waits; `&table[..]` is made of its halves.
-#[cycle(arguments_bracket_branches_call_enclosed_expression_operand_pair_primary)]
+#[cycle(reader)]
 fn expression(table: &[u64], draft: &mut [u64], at: usize, pc: usize, room: u8, level: u8) -> u64
     requires { Fits table.now at pc }
     ensures { ReaderAgrees (λ f ts. expression f room level ts) 3 table.now at pc draft.old draft.new (read_of result) }
@@ -104,7 +104,7 @@ fn expression(table: &[u64], draft: &mut [u64], at: usize, pc: usize, room: u8, 
 }
 
 // operand: { - | ~ | ! } primary. Most operands are numbers and cells: they need no further call.
-#[cycle(arguments_bracket_branches_call_enclosed_expression_operand_pair_primary)]
+#[cycle(reader)]
 fn operand(table: &[u64], draft: &mut [u64], at: usize, pc: usize, room: u8) -> u64
     requires { Fits table.now at pc }
     ensures { ReaderAgrees (λ f ts. operand f room ts) 2 table.now at pc draft.old draft.new (read_of result) }
@@ -122,7 +122,7 @@ fn operand(table: &[u64], draft: &mut [u64], at: usize, pc: usize, room: u8) -> 
 }
 
 // primary: number | cell | letter [ expression ] | name ( arguments ) | ( expression )
-#[cycle(arguments_bracket_branches_call_enclosed_expression_operand_pair_primary)]
+#[cycle(reader)]
 fn primary(table: &[u64], draft: &mut [u64], at: usize, pc: usize, room: u8) -> u64
     requires { Fits table.now at pc }
     ensures { ReaderAgrees (λ f ts. primary_of f room ts) 1 table.now at pc draft.old draft.new (read_of result) }
@@ -146,7 +146,7 @@ fn primary(table: &[u64], draft: &mut [u64], at: usize, pc: usize, room: u8) -> 
 }
 
 // enclosed: expression closer. An argument, or what a bracket encloses, with the symbol behind it.
-#[cycle(arguments_bracket_branches_call_enclosed_expression_operand_pair_primary)]
+#[cycle(reader)]
 fn enclosed(table: &[u64], draft: &mut [u64], at: usize, pc: usize, room: u8, closer: u8) -> u64
     requires { Fits table.now at pc }
     ensures { ReaderAgrees (λ f ts. then_symbol closer (expression f room loosest ts)) 3 table.now at pc draft.old
@@ -164,7 +164,7 @@ fn enclosed(table: &[u64], draft: &mut [u64], at: usize, pc: usize, room: u8, cl
 }
 
 // bracket: open expression close
-#[cycle(arguments_bracket_branches_call_enclosed_expression_operand_pair_primary)]
+#[cycle(reader)]
 fn bracket(
     table: &[u64],
     draft: &mut [u64],
@@ -188,7 +188,7 @@ fn bracket(
 }
 
 // call: ( arguments ), of the function whose word is w
-#[cycle(arguments_bracket_branches_call_enclosed_expression_operand_pair_primary)]
+#[cycle(reader)]
 fn call(table: &[u64], draft: &mut [u64], at: usize, pc: usize, room: u8, w: u64) -> u64
     requires { Fits table.now at pc }
     ensures { ReaderAgrees (λ n ts. call_of (function_at (word_operand w)) (word_place w) room n ts) 0 table.now at pc draft.old
@@ -204,7 +204,7 @@ fn call(table: &[u64], draft: &mut [u64], at: usize, pc: usize, room: u8, w: u64
 }
 
 // pair: expression , expression )
-#[cycle(arguments_bracket_branches_call_enclosed_expression_operand_pair_primary)]
+#[cycle(reader)]
 fn pair(table: &[u64], draft: &mut [u64], opener: usize, pc: usize, room: u8, w: u64) -> u64
     requires { Fits table.now opener pc × (opener < length table.now) × (function_form (word_operand w) ≡ 2) }
     ensures { Arguing w room table.now opener pc draft.old draft.new (read_of result) }
@@ -223,7 +223,7 @@ fn pair(table: &[u64], draft: &mut [u64], opener: usize, pc: usize, room: u8, w:
 }
 
 // arguments: [ expression { , expression } ] ) | range | expression , range, behind the parenthesis at `opener`, and what the function makes of them
-#[cycle(arguments_bracket_branches_call_enclosed_expression_operand_pair_primary)]
+#[cycle(reader)]
 fn arguments(table: &[u64], draft: &mut [u64], opener: usize, pc: usize, room: u8, w: u64) -> u64
     requires { Fits table.now opener pc × (opener < length table.now) }
     ensures { Arguing w room table.now opener pc draft.old draft.new (read_of result) }
@@ -266,7 +266,7 @@ fn arguments(table: &[u64], draft: &mut [u64], opener: usize, pc: usize, room: u
 }
 
 // The branches of IF behind its condition: only one of them runs.
-#[cycle(arguments_bracket_branches_call_enclosed_expression_operand_pair_primary)]
+#[cycle(reader)]
 fn branches(table: &[u64], draft: &mut [u64], condition: u64, room: u8) -> u64
     requires { Fits table.now (read_next condition) (read_end condition + 4) }
     ensures { Branches room table.now condition draft.old draft.new (read_of result) }

@@ -1,4 +1,6 @@
 // The grammar of formulas. Its code is the table of precedence groups and that of the functions; its definitions and theorems are in specs/ and proofs/.
+#![tactic(auto)]
+
 ghost use Rattle.std.specs.Prelude.{◌≡◌};
 ghost use Rattle.grammar.specs.Symbols.{group_number};
 
@@ -9,6 +11,7 @@ const GROUPS: [u8; 20] = [1, 2, 2, 2, 3, 3, 4, 4, 4, 5, 5, 5, 5, 6, 6, 7, 8, 9, 
 
 // 0 for a symbol that is no binary operator. Each arm reads the table at a literal, so that it is a constant: at a variable the whole
 // table would be copied at every use.
+#[tactic(auto, unfolding(crate::specs::Symbols::group_number))]
 pub fn group_of(symbol: u8) -> u8
     ensures { result ≡ group_number symbol }
 {

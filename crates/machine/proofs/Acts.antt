@@ -10,7 +10,6 @@ use borrow.Author.Tests.{le-ltb, ltb-true}
 use Rattle.values.specs.declared.Value.{Value}
 use Rattle.values.specs.declared.Fault.{Fault}
 use Rattle.values.specs.declared.Outcome.{Outcome}
-use Rattle.values.specs.declared.Outcome.TheVariants as Outcome
 use Rattle.operators.specs.Operators.{unary_rule, since_rule, binary_rule, truth_rule}
 use Rattle.memory.specs.Environment.{Environment, indexed_cell}
 use Rattle.totals.specs.Totals.{total_over, match_over}

@@ -12,9 +12,7 @@ use Rattle.values.specs.declared.Outcome.{Outcome}
 use Rattle.values.specs.declared.Outcome.TheVariants.{WrongKind}
 use Rattle.operators.specs.declared.UnaryOp.{UnaryOp}
 use Rattle.operators.specs.declared.tables.UnaryOf.{UnaryOf}
-use Rattle.operators.specs.declared.tables.UnaryOf.TheVariants as UnaryOf
 use Rattle.operators.specs.declared.tables.BinaryOf.{BinaryOf}
-use Rattle.operators.specs.declared.tables.BinaryOf.TheVariants as BinaryOf
 use Rattle.operators.specs.Tables.{unary_of}
 use Rattle.operators.specs.Operators.{unary_rule, since_rule, binary_rule, truth_rule}
 use Rattle.operators.specs.Reals.{real_value, real_unary}
@@ -25,7 +23,6 @@ use Rattle.memory.specs.declared.Bank.TheVariants.{R}
 use Rattle.memory.specs.declared.Layout.{Layout}
 use Rattle.memory.specs.Layout.{layout_of}
 use Rattle.memory.specs.declared.numbers.BankOf.{BankOf}
-use Rattle.memory.specs.declared.numbers.BankOf.TheVariants as BankOf
 use Rattle.memory.specs.Numbers.{bank_numbered}
 use Rattle.memory.specs.Cells.{real_bank}
 use Rattle.memory.specs.Environment.{Environment, indexed_cell}

@@ -1,14 +1,12 @@
 -- One turn of the loop on the array of values: where each kind of step leads.
 use mathlib.Core.Path.{◌≡◌, refl, sym, ap, ◌∙◌, subst}
-use mathlib.Core.Logic.{⊎_elim}
+use mathlib.Core.Logic.{◌⊎◌, ⊎_elim}
 use mathlib.Core.Bool.{Bool}
-use mathlib.Core.List.{List, [], ◌∷◌}
+use mathlib.Core.List.{List}
 use Prim.Native.Nat.{ℕ, suc, ◌+◌, ◌-◌, ◌≤◌, ◌<◌}
 use native.Mathlib.Nat.{add-zero}
 use native.Mathlib.Omega.{arith}
 use lib.Dec.{T}
-use types.Run.{OneOf}
-use denote.Enum.Declared.{tag_of}
 use lib.ListN.{length, get_or, set}
 use Rattle.values.specs.declared.Value.{Value}
 use Rattle.memory.specs.Environment.{Environment}
@@ -16,17 +14,14 @@ use Rattle.totals.specs.declared.Visited.{Visited}
 use Rattle.totals.specs.Numbers.{total_of, match_of}
 use Rattle.code.specs.Instructions.{decode_at, fetched, instruction_of, opcode_of, word_of}
 use Rattle.code.specs.declared.Class.{Class}
-use Rattle.code.specs.declared.Class.TheVariants as Class
 use Rattle.code.specs.private.Classes.{class_of, number_of, instr_in}
 use Rattle.code.proofs.Page.{number-class}
 use Rattle.code.proofs.Parts.{decode-fetched}
 use Rattle.machine.specs.declared.How.{How}
-use Rattle.machine.specs.declared.How.TheVariants as How
 use Rattle.machine.specs.declared.Step.{Step}
 use Rattle.machine.specs.Machine.{max_height, Next, max_cells}
 use Rattle.machine.specs.Profile.{act_in, cost_in}
 use Rattle.machine.specs.private.Steps.{outcome_step, step_in, total_visit, match_visit, on_last, failed_at}
-use Rattle.machine.specs.contracts.How.{the_type}
 use Rattle.machine.proofs.Held.{none, held, held-push}
 use Rattle.machine.proofs.Acts.{Leads, push, skip, stop, stick}
 use Rattle.machine.proofs.Barred.{begun_in, cost-in, begun-in-most, leads-in, regardless}
@@ -121,13 +116,6 @@ module _ (reals : Bool) (E : Environment) (code : List ℕ) (n p : ℕ) (s : Lis
   Onward How.Stop = failed_at How.Stop x.fault k' ≡ whole_run reals E code n
   Onward How.Stuck = failed_at How.Stuck x.fault k' ≡ whole_run reals E code n
 
-  -- a step that ends the run, by the places of Stop and Stuck in the enum
-  over : (w : How) → OneOf (2 ∷ 3 ∷ []) (tag_of the_type w) → Onward w → failed_at w x.fault k' ≡ whole_run reals E code n
-  over How.Push o q = absurd (⊎_elim (λ e. omega arith) (λ e. omega arith) o)
-  over How.Skip o q = absurd (⊎_elim (λ e. omega arith) (λ e. omega arith) o)
-  over How.Stop o q = q
-  over How.Stuck o q = q
-
 module _ {reals : Bool} {E : Environment} {code : List ℕ} {n p h : ℕ} {s : List Value} {k : ℕ} where
   leads-on : {y : Next} {x : Step} → p < n → Left reals E code n p (held h s) k → act_in reals E (decode_at code p) (held h s) ≡ y → Leads s h y x
       → Onward reals E code n p s (k + cost_in reals E (decode_at code p) (held h s)) x x.how
@@ -142,8 +130,9 @@ module _ {reals : Bool} {E : Environment} {code : List ℕ} {n p h : ℕ} {s : L
         subst (λ j. Onward reals E code n p s j x w) (sym t.counted)
         (subst (Onward reals E code n p s (k + cost_in reals E (decode_at code p) (held h s)) x) e (leads-on t.in_code t.rest refl t.made))
 
-    pub fails : OneOf (2 ∷ 3 ∷ []) (tag_of the_type x.how) → failed_at x.how x.fault k' ≡ whole_run reals E code n
-    fails o = over reals E code n p s k' x x.how o (onward refl)
+    -- a step that ends the run
+    pub fails : (x.how ≡ How.Stop) ⊎ (x.how ≡ How.Stuck) → failed_at x.how x.fault k' ≡ whole_run reals E code n
+    fails o = ⊎_elim (λ e. rw e (onward e)) (λ e. rw e (onward e)) o
 
     -- one for the instruction, and no more than 256 for its cells
     pub few : k' ≤ k + (1 + max_cells)

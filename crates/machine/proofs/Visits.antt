@@ -10,15 +10,12 @@ use Rattle.values.specs.declared.Value.{Value}
 use Rattle.operators.specs.Reals.{real_value}
 use Rattle.memory.specs.declared.Bank.{Bank}
 use Rattle.memory.specs.declared.numbers.BankOf.{BankOf}
-use Rattle.memory.specs.declared.numbers.BankOf.TheVariants as BankOf
 use Rattle.memory.specs.Numbers.{bank_numbered}
 use Rattle.memory.specs.Cells.{real_bank}
 use Rattle.memory.specs.Environment.{Environment}
 use Rattle.totals.specs.declared.Visited.{Visited}
 use Rattle.totals.specs.declared.tables.TotalOf.{TotalOf}
-use Rattle.totals.specs.declared.tables.TotalOf.TheVariants as TotalOf
 use Rattle.totals.specs.declared.tables.MatchOf.{MatchOf}
-use Rattle.totals.specs.declared.tables.MatchOf.TheVariants as MatchOf
 use Rattle.totals.specs.declared.TotalOp.{TotalOp}
 use Rattle.totals.specs.declared.MatchOp.{MatchOp}
 use Rattle.totals.specs.Totals.{total_over, match_over, real_total, good_range}

@@ -1,5 +1,7 @@
 // The machine: instructions run on values held, a memory that they only read, and the tick.
 // An instruction is performed from the number of its eight bytes, without being made an `Instr` first: enums pass through memory.
+#![tactic(auto)]
+
 ghost use Rattle.std.specs.Prelude.{◌≡◌, ◌+◌, ◌*◌, ◌-◌, ◌≤◌, ◌<◌, Bool};
 ghost use Rattle.memory.specs.Environment.{memory_of};
 ghost use Rattle.code.specs.declared.Instr.TheVariants.{JumpIf};

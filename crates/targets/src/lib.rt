@@ -1,4 +1,6 @@
 // The target of a formula (paper 02, request 1): a cell, or a bank and the index between its brackets, which is a formula of its own.
+#![tactic(auto)]
+
 ghost use Rattle.std.specs.Prelude.{◌≡◌, ◌≤◌, length};
 ghost use Rattle.memory.specs.Names.{letter_bank};
 ghost use Rattle.text.specs.Targets.{stored_bank, indexed_target, target_of};

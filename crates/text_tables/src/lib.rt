@@ -1,4 +1,6 @@
 // A table of texts, a line each, and its rows by number (specs/Tables.antt).
+#![tactic(auto)]
+
 ghost use Rattle.std.specs.Prelude.{◌≡◌, suc, ◌+◌, ◌≤◌, length, drop};
 ghost use Rattle.std.proofs.lemmas.List.Edits.{sets};
 ghost use Rattle.lines.specs.private.Steps.{Puts};

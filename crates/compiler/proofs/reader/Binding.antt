@@ -1,6 +1,6 @@
 -- Results that stand for the parser's, put together as the parser puts its own together.
-use mathlib.Core.Path.{◌≡◌, refl, sym, ap, subst, ◌∙◌}
-use mathlib.Core.Bool.{Bool, true, false, not}
+use mathlib.Core.Path.{◌≡◌, refl, sym, subst, ◌∙◌}
+use mathlib.Core.Bool.{Bool, true, false}
 use mathlib.Core.List.{List, [], ◌∷◌}
 use Prim.Native.Nat.{ℕ, zero, suc, ◌+◌, ◌-◌, ◌≤◌}
 use native.Mathlib.Omega.{arith}
@@ -26,16 +26,12 @@ stopped (Done j e k w) h = let z : ◌≡◌ {A = ℕ} 0 1 = cc in absurd (omega
 stopped (Bad i) h = at-bad
 stopped (Deep i) h = at-deep
 
--- ---- a test that the code asks the other way round
-twice : (b : Bool) → b ≡ not (not b)
-twice true = refl
-twice false = refl
+-- ---- a test of what a call answered
+pub unmet : {r b : Bool} → r ≡ b → r ≡ false → b ≡ false
+unmet e h = sym e ∙ h
 
-pub unmet : {r b : Bool} → r ≡ b → not r ≡ true → b ≡ false
-unmet {r} e h = sym e ∙ twice r ∙ ap not h
-
-pub met : {r b : Bool} → r ≡ b → not r ≡ false → b ≡ true
-met {r} e h = sym e ∙ twice r ∙ ap not h
+pub met : {r b : Bool} → r ≡ b → r ≡ true → b ≡ true
+met e h = sym e ∙ h
 
 -- ---- how far reading got
 pub span-earlier : {s : List ℕ} {a b pc : ℕ} {r : Read} → a ≤ b → Span s b pc r → Span s a pc r
@@ -68,7 +64,8 @@ pub expect-other : {X : Type 0} (n : ℕ) (ts : List Tok) (c : List Tok → Resu
 expect-other n [] c e = refl
 expect-other n (x ∷ xs) c e = rw (expect, e) refl
 
-pub and-then : {X : Type 0} (n : ℕ) (q : Result Tree) (c : Tree → List Tok → Result X) → and_then (then_symbol n q) c ≡ and_then q (λ t r. expect n r (λ z. c t z))
+pub and-then : {X : Type 0} (n : ℕ) (q : Result Tree) (c : Tree → List Tok → Result X)
+    → and_then (then_symbol n q) c ≡ and_then q (λ t r. expect n r (λ z. c t z))
 and-then n (ok t []) c = refl
 and-then n (ok t (x ∷ xs)) c = go (is_symbol n x.token)
   where

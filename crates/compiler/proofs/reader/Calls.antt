@@ -234,7 +234,8 @@ abbrev pub Clock : List ℕ → ℕ → ℕ → List ℕ → List ℕ → Read �
 Clock s at pc o o' r = ReaderAgrees (λ n ts. expect close_paren ts (λ q. ok tick q)) 4 s at pc o o' r
 
 module _ {s : List ℕ} {at pc : ℕ} {o : List ℕ} (t : TokenWords s) where
-  pub clock-done : {o' : List ℕ} → is_mark close_paren (word_at s at) ≡ true → o' ≡ put_instr o pc Tick → Clock s at pc o o' (Done (at + 1) (pc + 1) K.Int clear)
+  pub clock-done : {o' : List ℕ} → is_mark close_paren (word_at s at) ≡ true → o' ≡ put_instr o pc Tick
+      → Clock s at pc o o' (Done (at + 1) (pc + 1) K.Int clear)
   clock-done m q =
       let h = there close_paren s at t m in
       record {

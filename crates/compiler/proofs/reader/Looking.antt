@@ -27,7 +27,6 @@ use Rattle.tokens.specs.Scan.{Tok}
 use Rattle.tokens.specs.Words.{function_at}
 use Rattle.token_table.specs.private.Table.{pack_token, function_number, word_class, word_operand, word_number, word_place, entry_of, word_at, tokens_from}
 use Rattle.token_table.specs.private.Table.{Sound, TokenWord, blank, token, TokenWords}
-use Rattle.token_table.specs.private.Table as Sound
 use Rattle.token_table.proofs.Laws.{tok, token_class, token_operand, token_number, class-packed, operand-packed, number-packed, place-packed, unpacked}
 use Rattle.token_table.proofs.Laws.{blank-end, from_is, from_end}
 use Rattle.grammar.specs.Tree.{Tree, literal, cell, clear, tree_kind, diagnostic_of}

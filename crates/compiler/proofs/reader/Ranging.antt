@@ -1,7 +1,7 @@
 -- A law for each way through the functions of the module `ranges`.
 use mathlib.Core.Path.{◌≡◌, refl, sym, ap, subst, ◌∙◌}
 use mathlib.Core.Bool.{true, false}
-use mathlib.Core.List.{List, [], ◌∷◌}
+use mathlib.Core.List.{List, ◌∷◌}
 use Prim.Native.Nat.{ℕ, suc, ◌+◌, ◌≤◌, ◌<◌}
 use native.Mathlib.Omega.{arith}
 use lib.IntN.{ℤ}
@@ -15,17 +15,16 @@ use Rattle.tokens.specs.declared.Token.TheVariants.{Number, Cell}
 use Rattle.tokens.specs.Scan.{Tok}
 use Rattle.token_table.specs.private.Table.{Is, word_class, word_operand, word_number, word_place, token_of, entry_of, word_at, tokens_from, Sound, TokenWord}
 use Rattle.token_table.specs.private.Table.{blank, token, TokenWords}
-use Rattle.token_table.specs.private.Table as Sound
 use Rattle.token_table.proofs.Laws.{tok, token_class, token_operand, token_number, class-packed, operand-packed, number-packed, from_is}
-use Rattle.grammar.specs.Tree.{Tree, total, matching, Diagnostic, earlier}
+use Rattle.grammar.specs.Tree.{Tree, total, matching, earlier}
 use Rattle.grammar.specs.Symbols.{close_paren, comma}
 use Rattle.grammar.specs.Parse.{Result, ok, bad, expect, expect_cell, expect_count, expect_range}
 use Rattle.code.specs.declared.Instr.TheVariants.{Total, Match}
-use Rattle.draft.specs.private.Results.{Read, Done, Bad, read_next, read_end, read_kind, read_wrong}
-use Rattle.draft.specs.private.Words.{bank_at, is_mark}
+use Rattle.draft.specs.private.Results.{Read, Done, Bad, read_next, read_end, read_wrong}
+use Rattle.draft.specs.private.Words.{is_mark}
 use Rattle.draft.specs.private.Draft.{put_instr}
 use Rattle.draft.specs.private.Ranges.{function_total, function_match, cell_bank, count_of, CellWord, range_span, range_wrong}
-use Rattle.compiler.specs.private.Reading.{DraftHolds, SameResult, same_done, same_bad, Span, span_done, span_bad, ReaderAgrees, RangeFrom}
+use Rattle.compiler.specs.private.Reading.{same_done, same_bad, span_done, span_bad, ReaderAgrees, RangeFrom}
 use Rattle.compiler.specs.private.Reading.{whole, broken, Matching}
 use Rattle.compiler.proofs.reader.Looking.{bank-back, Splits, head_is, Look, nothing, stands, look, mark, There, there}
 use Rattle.compiler.proofs.reader.Binding.{expect-past, expect-other}

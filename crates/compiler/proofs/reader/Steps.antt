@@ -130,7 +130,8 @@ abbrev pub Index : ℕ → List ℕ → ℕ → ℕ → List ℕ → List ℕ �
 Index d s at pc o o' r = ReaderAgrees (λ f ts. enter d open_index ts (λ e q. bracket f e close_index q)) 0 s at pc o o' r
 
 letter-step : (d : ℕ) {s : List ℕ} {at p : ℕ} {b : Bank} → Splits s at (tok (Letter b) p) → (f : ℕ)
-    → primary_of (suc f) d (tokens_from s at) ≡ and_then (enter d open_index (tokens_from s (at + 1)) (λ e q. bracket f e close_index q)) (λ t q. ok (indexed b t) q)
+    → primary_of (suc f) d (tokens_from s at)
+    ≡ and_then (enter d open_index (tokens_from s (at + 1)) (λ e q. bracket f e close_index q)) (λ t q. ok (indexed b t) q)
 unfolding primary
 letter-step d {s} {at} {b = b} h f = rw h.split (sym (enter-then d open_index (tokens_from s (at + 1)) (λ e q. bracket f e close_index q)
     (λ t q. ok (indexed b t) q)))

@@ -1,0 +1,10 @@
+-- `compiler::judge_short` meets its contract: the table has a word for each byte and one more.
+use native.Mathlib.Omega.{arith}
+use Rattle.token_table.proofs.Laws.{no-tokens}
+use Rattle.compiler.proofs.judge_short.Goals as goal
+
+pub read-requires : goal.read-requires
+read-requires c = record { sized = (c.requires.0, omega (arith, c.requires.1), omega arith); token_words = no-tokens 64 }
+
+pub returns : goal.returns
+returns c = c.read.ensures.answer
