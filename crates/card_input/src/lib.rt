@@ -1,7 +1,10 @@
 // The input of a program that takes a file of cards: a buffer for it, and what is said where it could not be read whole.
+#![tactic(auto)]
+
 ghost use Rattle.std.specs.Prelude.{length, ◌≡◌};
 
-use libc::STDIN_FILENO;
+use std::io;
+use std::io::Read;
 
 // More than the longest good file, 133,239 bytes, so that the refusal of a longer one can be told too.
 const MOST_BYTES: usize = 262144;
@@ -22,40 +25,40 @@ pub enum Stop {
 }
 
 // What ended the bytes that `read_full` put into such a buffer, which stops alike at all three: one more read of one byte tells them apart.
-pub fn stopped_at(fd: i32, size: usize) -> Stop {
+pub fn stopped_at<R: Read>(input: &mut R, size: usize) -> Stop {
     let mut one = [0u8; 1];
-    let more = libc::read(fd, &mut one);
+    let Ok(more) = input.read(&mut one) else {
+        return Stop::Failed;
+    };
     if more == 0 {
         return Stop::End;
     }
-    if 0 < more && size == MOST_BYTES {
+    if size == MOST_BYTES {
         return Stop::Limit;
     }
     Stop::Failed
 }
 
-pub fn tell_limit(out: i32) {
-    io::write_all(out, b"limit=262144\n");
+pub fn tell_limit(out: &impl Print) -> io::Result<()> {
+    out.write_all(b"limit=262144\n")
 }
 
 // How many bytes were read before a read failed.
-pub fn tell_unread(out: i32, size: u64) {
-    io::write_all(out, b"unread=");
-    io::print_decimal(out, size);
-    io::write_all(out, b"\n");
+pub fn tell_unread(out: &impl Print, size: u64) -> io::Result<()> {
+    println!(out; "unread={size}")
 }
 
-// Whether standard input ends behind the bytes that were read of it; if not, the one line that says why is written.
-pub fn all_read(size: usize, out: i32) -> bool {
-    match stopped_at(STDIN_FILENO, size) {
-        Stop::End => true,
+// Whether the input ends behind the bytes that were read of it; if not, the one line that says why is written.
+pub fn all_read<R: Read>(input: &mut R, size: usize, out: &impl Print) -> io::Result<bool> {
+    match stopped_at(input, size) {
+        Stop::End => Ok(true),
         Stop::Limit => {
-            tell_limit(out);
-            false
+            tell_limit(out)?;
+            Ok(false)
         }
         Stop::Failed => {
-            tell_unread(out, size as u64);
-            false
+            tell_unread(out, size as u64)?;
+            Ok(false)
         }
     }
 }

@@ -1,10 +1,12 @@
 // For the programs of cases: what a line of their input says, and a line of text in an array with the texts of results. Each function of the latter puts its
 // text at a place and answers the place after it. A text that has no room is not put: a line without it differs from the expected one.
+#![tactic(auto)]
+
 ghost use Rattle.std.specs.Prelude.{◌≤◌, ◌<◌, length};
 
-use libc::STDOUT_FILENO;
 use lines::printing;
 use memory::Bank;
+use std::io;
 use values::{Fault, Outcome, Value};
 
 // The byte b from a place on, or the end.
@@ -134,12 +136,13 @@ pub fn put_outcome(line: &mut [u8; 512], at: usize, o: Outcome) -> usize {
 }
 
 // Ends the line at a place, and writes it.
-pub fn write(line: &mut [u8; 512], at: usize) {
+pub fn write(rt: &impl Print, line: &mut [u8; 512], at: usize) -> io::Result<()> {
     let end = put(line, at, b'\n');
     let text: &[u8] = line;
     if end <= text.len() {
-        io::write_all(STDOUT_FILENO, &text[..end]);
+        rt.write_all(&text[..end])?;
     }
+    Ok(())
 }
 
 // The single of a pattern that is no NaN's. The table has no other.

@@ -1,8 +1,10 @@
 // Which cells a formula reads: key=value lines on standard input to its end, as for the program `formula`; on standard output a line a cell.
-use libc::{STDIN_FILENO, STDOUT_FILENO};
+#![tactic(auto)]
 
-fn main() {
+use std::io;
+
+fn main(rt: HostRuntime) -> io::Result<()> {
     let mut out = read_reply::blank_reply();
-    let n = read_reply::respond::respond_from(STDIN_FILENO, &mut out);
-    io::write_all(STDOUT_FILENO, &out[..n]);
+    let n = read_reply::respond::respond_from(&mut rt.stdin(), &mut out);
+    rt.write_all(&out[..n])
 }

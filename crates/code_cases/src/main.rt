@@ -1,8 +1,10 @@
 // Checks and runs code. A line of the standard input has a name, how many instructions are meant, and the code's bytes in hexadecimal; printed are the
 // name, what the check says (i, r or 15), how a run ends and the instructions begun. tests/host/expected/codes.rs has what is expected.
-use libc::STDIN_FILENO;
+#![tactic(auto)]
+
 use machine::{Ended, Ran};
 use memory::IMAGE_SIZE;
+use std::io;
 use values::Kind;
 use verifier::Verdict;
 
@@ -86,7 +88,7 @@ fn put_end(line: &mut [u8; 512], at: usize, end: Ended) -> usize {
     }
 }
 
-fn tell(name: &[u8], v: Verdict, ran: Ran) {
+fn tell(rt: &impl Print, name: &[u8], v: Verdict, ran: Ran) -> io::Result<()> {
     let mut line = [0u8; 512];
     let named = case_lines::put_all(&mut line, 0, name);
     let checked = put_verdict(&mut line, named, v);
@@ -94,57 +96,72 @@ fn tell(name: &[u8], v: Verdict, ran: Ran) {
     let ended = put_end(&mut line, checked, end);
     let spaced = case_lines::put(&mut line, ended, b' ');
     let counted = case_lines::put_decimal(&mut line, spaced, ran.count as u64);
-    case_lines::write(&mut line, counted);
+    case_lines::write(rt, &mut line, counted)
 }
 
 // Of more instructions than the machine takes.
-fn tell_verdict(name: &[u8], v: Verdict) {
+fn tell_verdict(rt: &impl Print, name: &[u8], v: Verdict) -> io::Result<()> {
     let mut line = [0u8; 512];
     let named = case_lines::put_all(&mut line, 0, name);
     let checked = put_verdict(&mut line, named, v);
     let ended = case_lines::put(&mut line, checked, b'-');
-    case_lines::write(&mut line, ended);
+    case_lines::write(rt, &mut line, ended)
 }
 
-fn try_out(name: &[u8], code: &[u8], n: usize, memory: &[u8; IMAGE_SIZE]) {
+fn try_out(
+    rt: &impl Print,
+    name: &[u8],
+    code: &[u8],
+    n: usize,
+    memory: &[u8; IMAGE_SIZE],
+) -> io::Result<()> {
     let verdict = verifier::check(code, n);
     if n <= 2048 {
-        tell(name, verdict, machine::run(code, n, memory, TICK));
+        tell(rt, name, verdict, machine::run(code, n, memory, TICK))?;
     } else {
-        tell_verdict(name, verdict);
+        tell_verdict(rt, name, verdict)?;
     }
+    Ok(())
 }
 
-fn try_first(name: &[u8], code: &[u8; 16448], size: usize, n: usize) {
+fn try_first(
+    rt: &impl Print,
+    name: &[u8],
+    code: &[u8; 16448],
+    size: usize,
+    n: usize,
+) -> io::Result<()> {
     let mut memory = [0u8; IMAGE_SIZE];
     image(&mut memory);
     let whole: &[u8] = code;
     if size <= whole.len() {
-        try_out(name, &whole[..size], n, &memory);
+        try_out(rt, name, &whole[..size], n, &memory)?;
     }
+    Ok(())
 }
 
-fn one_case(line: &[u8]) {
+fn one_case(rt: &impl Print, line: &[u8]) -> io::Result<()> {
     let first = case_lines::find(line, 0, b' ');
     let start = case_lines::behind(line, first);
     let second = case_lines::find(line, start, b' ');
     let n = number(&line[start..second]);
     let mut code = [0u8; 16448];
     let size = case_lines::bytes_of(&line[case_lines::behind(line, second)..], &mut code);
-    try_first(&line[..first], &code, size, n);
+    try_first(rt, &line[..first], &code, size, n)
 }
 
-fn every_line(input: &[u8]) {
+fn every_line(rt: &impl Print, input: &[u8]) -> io::Result<()> {
     let mut at: usize = 0;
     while at < input.len() {
         let end = case_lines::find(input, at, b'\n');
-        one_case(&input[at..end]);
+        one_case(rt, &input[at..end])?;
         at = end + 1;
     }
+    Ok(())
 }
 
-fn main() {
+fn main(rt: HostRuntime) -> io::Result<()> {
     let mut input = [0u8; 131072];
-    let n = io::read_full(STDIN_FILENO, &mut input);
-    every_line(&input[..n]);
+    let n = inputs::read_full(&mut rt.stdin(), &mut input);
+    every_line(&rt, &input[..n])
 }

@@ -1,20 +1,20 @@
 // A formula as it is saved: key=value lines on standard input to its end, as for the program `formula`; on standard output its answer and place, and on 0
 // its text.
-use libc::{STDIN_FILENO, STDOUT_FILENO};
+#![tactic(auto)]
+
 use program::stream;
 use program::stream::Receipt;
+use std::io;
 
-fn main() {
+fn main(rt: HostRuntime) -> io::Result<()> {
     let mut memory = program::blank_image();
     let mut target = program::blank_text();
     let mut text = program::blank_text();
-    match stream::receive_case(STDIN_FILENO, &mut memory, &mut target, &mut text) {
+    match stream::receive_case(&mut rt.stdin(), &mut memory, &mut target, &mut text) {
         Receipt::All(n) => {
             let b = n.text;
-            format_reply::tell(&text[..b]);
+            format_reply::tell(&rt, &text[..b])
         }
-        Receipt::Unread => {
-            io::write_all(STDOUT_FILENO, b"error=read\n");
-        }
+        Receipt::Unread => rt.write_all(b"error=read\n"),
     }
 }

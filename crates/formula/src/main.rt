@@ -1,8 +1,10 @@
 // The program of paper 01: key=value lines on standard input to its end, the reply on standard output.
-use libc::{STDIN_FILENO, STDOUT_FILENO};
+#![tactic(auto)]
 
-fn main() {
+use std::io;
+
+fn main(rt: HostRuntime) -> io::Result<()> {
     let mut reply = [0u8; 64];
-    let n = program::respond_from(STDIN_FILENO, &mut reply);
-    io::write_all(STDOUT_FILENO, &reply[..n]);
+    let n = program::respond_from(&mut rt.stdin(), &mut reply);
+    rt.write_all(&reply[..n])
 }

@@ -2,8 +2,10 @@
 // of sentinels; printed are its own answer, the forty, and a sum of the bytes of the memory and of each buffer. Then the first list is run
 // with so many words of its table, some tables have places beyond the texts, and some buffers other sizes.
 // tests/host/expected/lists.rs has what is expected.
-use libc::STDIN_FILENO;
+#![tactic(auto)]
+
 use run_list::Answers;
+use std::io;
 
 const END: u8 = b';';
 
@@ -47,7 +49,14 @@ fn put_answers(line: &mut [u8; 512], at: usize, answers: &[u32; 40]) -> usize {
     end
 }
 
-fn run_on(words: &[u32], texts: &[u8], memory: &mut [u8], code: &mut [u8], index_code: &mut [u8]) {
+fn run_on(
+    rt: &impl Print,
+    words: &[u32],
+    texts: &[u8],
+    memory: &mut [u8],
+    code: &mut [u8],
+    index_code: &mut [u8],
+) -> io::Result<()> {
     let result: Answers = run_list::run_list(words, texts, memory, code, index_code, TICK);
     let answers = result.answers;
     let mut line = [0u8; 512];
@@ -56,97 +65,121 @@ fn run_on(words: &[u32], texts: &[u8], memory: &mut [u8], code: &mut [u8], index
     let a = case_lines::put_number(&mut line, told, case_lines::sum_of(memory));
     let b = case_lines::put_number(&mut line, a, case_lines::sum_of(code));
     let end = case_lines::put_number(&mut line, b, case_lines::sum_of(index_code));
-    case_lines::write(&mut line, end);
+    case_lines::write(rt, &mut line, end)
 }
 
-fn run_words(words: &[u32], texts: &[u8]) {
+fn run_words(rt: &impl Print, words: &[u32], texts: &[u8]) -> io::Result<()> {
     let mut memory = [0u8; memory::IMAGE_SIZE];
     let mut code = [SENTINEL; CODE_BYTES];
     let mut index_code = [SENTINEL; CODE_BYTES];
-    run_on(words, texts, &mut memory, &mut code, &mut index_code);
+    run_on(rt, words, texts, &mut memory, &mut code, &mut index_code)
 }
 
 // At most so many words of a table.
-fn run_part(words: &[u32; 168], n: usize, most: usize, line: &[u8]) {
+fn run_part(
+    rt: &impl Print,
+    words: &[u32; 168],
+    n: usize,
+    most: usize,
+    line: &[u8],
+) -> io::Result<()> {
     let given: &[u32] = words;
     if n <= given.len() {
         if most < n {
-            run_words(&given[0..most], line);
+            run_words(rt, &given[0..most], line)?;
         } else {
-            run_words(&given[0..n], line);
+            run_words(rt, &given[0..n], line)?;
         }
     }
+    Ok(())
 }
 
-fn run_line(line: &[u8], most: usize) {
+fn run_line(rt: &impl Print, line: &[u8], most: usize) -> io::Result<()> {
     let mut words = [0u32; 168];
     let n = table_of(line, &mut words);
-    run_part(&words, n, most, line);
+    run_part(rt, &words, n, most, line)
 }
 
-fn every_line(input: &[u8]) {
+fn every_line(rt: &impl Print, input: &[u8]) -> io::Result<()> {
     let mut at: usize = 0;
     while at < input.len() {
         let end = case_lines::find(input, at, b'\n');
-        run_line(&input[at..end], 168);
+        run_line(rt, &input[at..end], 168)?;
         at = end + 1;
     }
+    Ok(())
 }
 
 // As many formulas as there may be, with words behind them, and one more.
-fn first_line(input: &[u8]) {
+fn first_line(rt: &impl Print, input: &[u8]) -> io::Result<()> {
     let end = case_lines::find(input, 0, b'\n');
-    run_line(&input[0..end], 159);
-    run_line(&input[0..end], 160);
-    run_line(&input[0..end], 161);
-    run_line(&input[0..end], 163);
-    run_line(&input[0..end], 164);
-    run_line(&input[0..end], 165);
+    run_line(rt, &input[0..end], 159)?;
+    run_line(rt, &input[0..end], 160)?;
+    run_line(rt, &input[0..end], 161)?;
+    run_line(rt, &input[0..end], 163)?;
+    run_line(rt, &input[0..end], 164)?;
+    run_line(rt, &input[0..end], 165)
 }
 
 const TEXTS: [u8; 12] = *b"D0V0 + 1D[7]";
 
-fn tables() {
-    run_words(&[0, 2, 2, 6], &TEXTS);
-    run_words(&[8, 4, 2, 2], &TEXTS);
-    run_words(&[8, 4294967295, 2, 6], &TEXTS);
-    run_words(&[0, 2, 11, 4294967295], &TEXTS);
-    run_words(&[0, 2, 12, 1], &TEXTS);
-    run_words(&[12, 1, 2, 6], &TEXTS);
-    run_words(&[4294967295, 4294967295, 4294967295, 4294967295], &TEXTS);
-    run_words(&[0, 2, 4294967295, 1, 0, 2, 2, 6], &TEXTS);
-    run_words(&[0, 2, 2, 6, 0, 2, 2], &TEXTS);
-    run_words(&[0, 2, 2], &TEXTS);
-    run_words(&[0, 2, 2, 6, 8, 4, 2, 2], &TEXTS);
+fn tables(rt: &impl Print) -> io::Result<()> {
+    run_words(rt, &[0, 2, 2, 6], &TEXTS)?;
+    run_words(rt, &[8, 4, 2, 2], &TEXTS)?;
+    run_words(rt, &[8, 4294967295, 2, 6], &TEXTS)?;
+    run_words(rt, &[0, 2, 11, 4294967295], &TEXTS)?;
+    run_words(rt, &[0, 2, 12, 1], &TEXTS)?;
+    run_words(rt, &[12, 1, 2, 6], &TEXTS)?;
+    run_words(
+        rt,
+        &[4294967295, 4294967295, 4294967295, 4294967295],
+        &TEXTS,
+    )?;
+    run_words(rt, &[0, 2, 4294967295, 1, 0, 2, 2, 6], &TEXTS)?;
+    run_words(rt, &[0, 2, 2, 6, 0, 2, 2], &TEXTS)?;
+    run_words(rt, &[0, 2, 2], &TEXTS)?;
+    run_words(rt, &[0, 2, 2, 6, 8, 4, 2, 2], &TEXTS)
 }
 
-fn on_other_sizes(memory: &mut [u8], code: &mut [u8], index_code: &mut [u8]) {
-    run_on(&[0, 2, 2, 6, 8, 4, 2, 2], &TEXTS, memory, code, index_code);
+fn on_other_sizes(
+    rt: &impl Print,
+    memory: &mut [u8],
+    code: &mut [u8],
+    index_code: &mut [u8],
+) -> io::Result<()> {
+    run_on(
+        rt,
+        &[0, 2, 2, 6, 8, 4, 2, 2],
+        &TEXTS,
+        memory,
+        code,
+        index_code,
+    )
 }
 
-fn memories() {
+fn memories(rt: &impl Print) -> io::Result<()> {
     let mut code = [SENTINEL; CODE_BYTES];
     let mut index_code = [SENTINEL; CODE_BYTES];
     let mut short = [0u8; memory::IMAGE_SIZE - 1];
     let mut long = [0u8; memory::IMAGE_SIZE + 1];
-    on_other_sizes(&mut short, &mut code, &mut index_code);
-    on_other_sizes(&mut long, &mut code, &mut index_code);
+    on_other_sizes(rt, &mut short, &mut code, &mut index_code)?;
+    on_other_sizes(rt, &mut long, &mut code, &mut index_code)
 }
 
-fn buffers() {
+fn buffers(rt: &impl Print) -> io::Result<()> {
     let mut memory = [0u8; memory::IMAGE_SIZE];
     let mut short = [SENTINEL; CODE_BYTES - 1];
     let mut code = [SENTINEL; CODE_BYTES];
-    on_other_sizes(&mut memory, &mut short, &mut code);
-    on_other_sizes(&mut memory, &mut code, &mut short);
+    on_other_sizes(rt, &mut memory, &mut short, &mut code)?;
+    on_other_sizes(rt, &mut memory, &mut code, &mut short)
 }
 
-fn main() {
+fn main(rt: HostRuntime) -> io::Result<()> {
     let mut input = [0u8; 8192];
-    let n = io::read_full(STDIN_FILENO, &mut input);
-    every_line(&input[..n]);
-    first_line(&input[..n]);
-    tables();
-    memories();
-    buffers();
+    let n = inputs::read_full(&mut rt.stdin(), &mut input);
+    every_line(&rt, &input[..n])?;
+    first_line(&rt, &input[..n])?;
+    tables(&rt)?;
+    memories(&rt)?;
+    buffers(&rt)
 }

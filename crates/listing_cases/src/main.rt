@@ -1,8 +1,10 @@
 // Listings of code. A line of the standard input has a target, `|` and an expression; printed are the lines of the program `listing`, and an empty one.
 // tests/host/expected/listings.rs has what is expected.
+#![tactic(auto)]
+
 ghost use Rattle.std.specs.Prelude.{◌≤◌, length};
 
-use libc::{STDIN_FILENO, STDOUT_FILENO};
+use std::io;
 
 // The byte 10 that ends the line in which a place lies, or the input's end.
 fn line_end(input: &[u8], at: usize) -> usize
@@ -12,32 +14,34 @@ fn line_end(input: &[u8], at: usize) -> usize
     at + lines::until(&input[at..], b'\n')
 }
 
-fn tell(target: &[u8], text: &[u8]) {
+fn tell(rt: &impl Print, target: &[u8], text: &[u8]) -> io::Result<()> {
     let mut out = listing_reply::blank_reply();
     let n = listing_reply::reply(target, text, &mut out);
-    io::write_all(STDOUT_FILENO, &out[..n]);
-    io::write_all(STDOUT_FILENO, b"\n");
+    rt.write_all(&out[..n])?;
+    rt.write_all(b"\n")
 }
 
-fn one_case(line: &[u8]) {
+fn one_case(rt: &impl Print, line: &[u8]) -> io::Result<()> {
     let bar = lines::until(line, b'|');
     if bar < line.len() {
         let from = bar + 1;
-        tell(&line[..bar], &line[from..]);
+        tell(rt, &line[..bar], &line[from..])?;
     }
+    Ok(())
 }
 
-fn every_line(input: &[u8]) {
+fn every_line(rt: &impl Print, input: &[u8]) -> io::Result<()> {
     let mut at: usize = 0;
     while at < input.len() {
         let end = line_end(input, at);
-        one_case(&input[at..end]);
+        one_case(rt, &input[at..end])?;
         at = end + 1;
     }
+    Ok(())
 }
 
-fn main() {
-    let mut input = io::large_buffer();
-    let n = io::read_full(STDIN_FILENO, &mut input);
-    every_line(&input[..n]);
+fn main(rt: HostRuntime) -> io::Result<()> {
+    let mut input = [0u8; 65536];
+    let n = inputs::read_full(&mut rt.stdin(), &mut input);
+    every_line(&rt, &input[..n])
 }

@@ -1,4 +1,6 @@
 // What the program `listing` prints (specs/Reply.antt): the code of a formula and of its target's index, or a refusal.
+#![tactic(auto)]
+
 ghost use Rattle.std.specs.Prelude.{◌≡◌, ◌+◌, ◌≤◌, length};
 ghost use Rattle.lines.specs.private.Steps.{Puts};
 ghost use Rattle.compiler.specs.Compile.{compiling};

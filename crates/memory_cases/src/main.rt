@@ -1,9 +1,12 @@
 // The memory on edge images, to compare with a second implementation: tests/host/expected/memory.rs. For each image a line for each bank with what its
 // first, second and last element and the one past it read, and a line of indexed reads; then each value stored into each bank, with the answer and every
 // byte that changed; then each bit turned over among zeros and among ones; then texts as targets.
+#![tactic(auto)]
+
 use memory::names::Named;
 use memory::store::Stored;
 use memory::{Bank, IMAGE_SIZE};
+use std::io;
 use values::{Outcome, Value};
 
 const BANKS: [Bank; 6] = [Bank::X, Bank::C, Bank::V, Bank::N, Bank::D, Bank::R];
@@ -77,7 +80,7 @@ fn last(k: usize) -> u32 {
     if k < 6 { LAST[k] } else { 0 }
 }
 
-fn reads(image: &[u8; IMAGE_SIZE], number: usize, k: usize) {
+fn reads(rt: &impl Print, image: &[u8; IMAGE_SIZE], number: usize, k: usize) -> io::Result<()> {
     let mut line = [0u8; 512];
     let bank = bank_of(k);
     let e = last(k);
@@ -89,10 +92,10 @@ fn reads(image: &[u8; IMAGE_SIZE], number: usize, k: usize) {
         end = case_lines::put_outcome(&mut line, end, memory::cells::read(image, bank, e));
         end = case_lines::put_outcome(&mut line, end, memory::cells::read(image, bank, e + 1));
     }
-    case_lines::write(&mut line, end);
+    case_lines::write(rt, &mut line, end)
 }
 
-fn indexed(image: &[u8; IMAGE_SIZE], k: usize) {
+fn indexed(rt: &impl Print, image: &[u8; IMAGE_SIZE], k: usize) -> io::Result<()> {
     let mut line = [0u8; 512];
     let mut end = case_lines::put(&mut line, 0, letter(k));
     end = case_lines::put_all(&mut line, end, b"[]");
@@ -105,7 +108,7 @@ fn indexed(image: &[u8; IMAGE_SIZE], k: usize) {
         );
         i += 1;
     }
-    case_lines::write(&mut line, end);
+    case_lines::write(rt, &mut line, end)
 }
 
 fn wide(b: u8) -> u64 {
@@ -133,7 +136,7 @@ fn stored(image: &mut [u8; IMAGE_SIZE], k: usize, element: u32, v: Value) -> Sto
     memory::store::store(image, bank_of(k), element, v)
 }
 
-fn stores(number: usize, k: usize, i: usize) {
+fn stores(rt: &impl Print, number: usize, k: usize, i: usize) -> io::Result<()> {
     let mut image = [0u8; IMAGE_SIZE];
     fill(&mut image, number);
     let mut line = [0u8; 512];
@@ -151,10 +154,10 @@ fn stores(number: usize, k: usize, i: usize) {
         }
     }
     end = changes(&image, number, &mut line, end);
-    case_lines::write(&mut line, end);
+    case_lines::write(rt, &mut line, end)
 }
 
-fn target(text: &[u8]) {
+fn target(rt: &impl Print, text: &[u8]) -> io::Result<()> {
     let mut line = [0u8; 512];
     let mut end = case_lines::put_all(&mut line, 0, text);
     end = case_lines::put(&mut line, end, b'|');
@@ -169,26 +172,28 @@ fn target(text: &[u8]) {
             end = case_lines::put(&mut line, end, b'2');
         }
     }
-    case_lines::write(&mut line, end);
+    case_lines::write(rt, &mut line, end)
 }
 
-fn image_lines(number: usize) {
+fn image_lines(rt: &impl Print, number: usize) -> io::Result<()> {
     let mut image = [0u8; IMAGE_SIZE];
     fill(&mut image, number);
     let mut k: usize = 0;
     while k < 6 {
-        reads(&image, number, k);
-        indexed(&image, k);
+        reads(rt, &image, number, k)?;
+        indexed(rt, &image, k)?;
         k += 1;
     }
+    Ok(())
 }
 
-fn store_lines(number: usize, k: usize) {
+fn store_lines(rt: &impl Print, number: usize, k: usize) -> io::Result<()> {
     let mut i: usize = 0;
     while i < OPERANDS {
-        stores(number, k, i);
+        stores(rt, number, k, i)?;
         i += 1;
     }
+    Ok(())
 }
 
 fn read(image: &[u8; IMAGE_SIZE], k: usize, element: u32) -> Outcome {
@@ -196,7 +201,7 @@ fn read(image: &[u8; IMAGE_SIZE], k: usize, element: u32) -> Outcome {
 }
 
 // A bit turned on among zeros, or off among ones: what it then reads, and every byte that changed.
-fn bit_line(number: usize, k: usize, element: u32) {
+fn bit_line(rt: &impl Print, number: usize, k: usize, element: u32) -> io::Result<()> {
     let mut image = [0u8; IMAGE_SIZE];
     fill(&mut image, number);
     let mut line = [0u8; 512];
@@ -211,48 +216,49 @@ fn bit_line(number: usize, k: usize, element: u32) {
     }
     end = case_lines::put_outcome(&mut line, end, read(&image, k, element));
     end = changes(&image, number, &mut line, end);
-    case_lines::write(&mut line, end);
+    case_lines::write(rt, &mut line, end)
 }
 
-fn bit_lines(number: usize, k: usize) {
+fn bit_lines(rt: &impl Print, number: usize, k: usize) -> io::Result<()> {
     let mut element: u32 = 0;
     while element < 64 {
-        bit_line(number, k, element);
+        bit_line(rt, number, k, element)?;
         element += 1;
     }
+    Ok(())
 }
 
-fn main() {
-    image_lines(0);
-    image_lines(1);
-    image_lines(2);
-    image_lines(3);
-    store_lines(0, 0);
-    store_lines(1, 1);
-    store_lines(0, 2);
-    store_lines(1, 3);
-    store_lines(2, 4);
-    store_lines(3, 5);
-    bit_lines(0, 0);
-    bit_lines(1, 0);
-    bit_lines(0, 1);
-    bit_lines(1, 1);
-    target(b"C0");
-    target(b"C63");
-    target(b"C64");
-    target(b"V255");
-    target(b"N0");
-    target(b"D42");
-    target(b"R255");
-    target(b"R256");
-    target(b"X0");
-    target(b"D01");
-    target(b"D00");
-    target(b"D");
-    target(b"d1");
-    target(b" D1");
-    target(b"D1 ");
-    target(b"D+1");
-    target(b"D1000000000000000000000");
-    target(b"");
+fn main(rt: HostRuntime) -> io::Result<()> {
+    image_lines(&rt, 0)?;
+    image_lines(&rt, 1)?;
+    image_lines(&rt, 2)?;
+    image_lines(&rt, 3)?;
+    store_lines(&rt, 0, 0)?;
+    store_lines(&rt, 1, 1)?;
+    store_lines(&rt, 0, 2)?;
+    store_lines(&rt, 1, 3)?;
+    store_lines(&rt, 2, 4)?;
+    store_lines(&rt, 3, 5)?;
+    bit_lines(&rt, 0, 0)?;
+    bit_lines(&rt, 1, 0)?;
+    bit_lines(&rt, 0, 1)?;
+    bit_lines(&rt, 1, 1)?;
+    target(&rt, b"C0")?;
+    target(&rt, b"C63")?;
+    target(&rt, b"C64")?;
+    target(&rt, b"V255")?;
+    target(&rt, b"N0")?;
+    target(&rt, b"D42")?;
+    target(&rt, b"R255")?;
+    target(&rt, b"R256")?;
+    target(&rt, b"X0")?;
+    target(&rt, b"D01")?;
+    target(&rt, b"D00")?;
+    target(&rt, b"D")?;
+    target(&rt, b"d1")?;
+    target(&rt, b" D1")?;
+    target(&rt, b"D1 ")?;
+    target(&rt, b"D+1")?;
+    target(&rt, b"D1000000000000000000000")?;
+    target(&rt, b"")
 }

@@ -1,4 +1,6 @@
 // The key=value program of paper 01 ("Sheet of sums") as a function: the lines of a case in, the reply out.
+#![tactic(auto)]
+
 ghost use Rattle.std.specs.Prelude.{◌≡◌, ◌≤◌, length};
 ghost use Rattle.memory.specs.Layout.{image_size};
 ghost use Rattle.program.specs.Cases.{zeros};
@@ -7,6 +9,7 @@ ghost use Rattle.program.specs.Stream.{kept_bytes};
 
 use crate::stream::{KEPT_BYTES, Receipt};
 use memory::IMAGE_SIZE;
+use std::io::Read;
 
 pub mod case;
 pub mod reply;
@@ -42,14 +45,14 @@ pub fn respond(input: &[u8], output: &mut [u8]) -> usize
 }
 
 // The same of an input that is read to its end. If a read fails there is no answer, and the one line `error=read` says so.
-pub fn respond_from(fd: i32, output: &mut [u8]) -> usize
+pub fn respond_from<R: Read>(input: &mut R, output: &mut [u8]) -> usize
     ensures outputs { Outputs output.old result output.new }
     ensures has_prefix { HasPrefix result output.new }
 {
     let mut memory = blank_image();
     let mut target = blank_text();
     let mut text = blank_text();
-    match stream::receive_case(fd, &mut memory, &mut target, &mut text) {
+    match stream::receive_case(input, &mut memory, &mut target, &mut text) {
         Receipt::All(n) => {
             let a = n.target;
             let b = n.text;

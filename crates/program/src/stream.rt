@@ -6,6 +6,7 @@ ghost use Rattle.program.specs.Stream.{LengthsInside, BlankBuffers, StreamBuffer
 
 use crate::case;
 use crate::case::Lengths;
+use std::io::Read;
 
 // How much of a line is kept.
 pub const KEPT_BYTES: usize = 1032;
@@ -111,7 +112,12 @@ pub fn take_case(input: &[u8], memory: &mut [u8], target: &mut [u8], text: &mut 
 
 // The case of an input that is read piece by piece to its end. A proved loop has to end, and nothing says that an input does: the turns are counted down, from
 // a number that no input uses up.
-pub fn receive_case(fd: i32, memory: &mut [u8], target: &mut [u8], text: &mut [u8]) -> Receipt
+pub fn receive_case<R: Read>(
+    input: &mut R,
+    memory: &mut [u8],
+    target: &mut [u8],
+    text: &mut [u8],
+) -> Receipt
     requires { BlankBuffers memory.old target.old text.old }
     ensures { Receives memory.new target.new text.new result }
 {
@@ -121,17 +127,15 @@ pub fn receive_case(fd: i32, memory: &mut [u8], target: &mut [u8], text: &mut [u
         text: 0,
         line: 0,
     };
-    let mut piece = io::large_buffer();
+    let mut piece = [0u8; 65536];
     let mut turns = u64::MAX;
     while 0 < turns {
-        let got = libc::read(fd, &mut piece);
-        if got < 0 {
+        let Ok(k) = input.read(&mut piece) else {
             return Receipt::Unread;
-        }
-        if got == 0 {
+        };
+        if k == 0 {
             return Receipt::All(end_line(memory, target, text, &line, n));
         }
-        let k = io::count(got, &piece);
         n = feed(&piece[..k], memory, target, text, &mut line, n);
         turns -= 1;
     }

@@ -1,4 +1,6 @@
 // What the program `cells` prints (specs/Listing.antt): the cells that a formula and its target's index read, or a refusal.
+#![tactic(auto)]
+
 ghost use Rattle.std.specs.Prelude.{◌≡◌, ◌+◌, ◌*◌, ◌≤◌, ◌<◌, length};
 ghost use Rattle.lines.specs.private.Steps.{Puts};
 ghost use Rattle.compiler.specs.Compile.{compiling};

@@ -1,9 +1,11 @@
 // Files of cards and logs in turn, each of which ends at a byte 30: each log is replayed with the file before it, on a memory of ones, in calls of
 // so many bytes until it is done; printed are what each call writes, and its words. tests/host/expected/replay.rs has what is expected.
+#![tactic(auto)]
+
 ghost use Rattle.std.specs.Prelude.{◌≡◌, ◌≤◌, length};
 
-use libc::{STDIN_FILENO, STDOUT_FILENO};
 use log_replay::ReplayWords;
+use std::io;
 
 const END: u8 = 30;
 
@@ -30,21 +32,22 @@ fn put_number(line: &mut [u8; 512], at: usize, n: u64) -> usize {
     case_lines::put_decimal(line, end, n)
 }
 
-fn tell(w: ReplayWords) {
+fn tell(rt: &impl Print, w: ReplayWords) -> io::Result<()> {
     let mut line = [0u8; 512];
     let mut end = case_lines::put_all(&mut line, 0, b"call");
     end = put_number(&mut line, end, w.at);
     end = put_number(&mut line, end, w.tick);
     end = put_number(&mut line, end, w.done);
     end = put_number(&mut line, end, w.written as u64);
-    case_lines::write(&mut line, end);
+    case_lines::write(rt, &mut line, end)
 }
 
 // So many bytes of a buffer.
-fn show(buffer: &[u8], n: usize) {
+fn show(rt: &impl Print, buffer: &[u8], n: usize) -> io::Result<()> {
     if n <= buffer.len() {
-        io::write_all(STDOUT_FILENO, &buffer[..n]);
+        rt.write_all(&buffer[..n])?;
     }
+    Ok(())
 }
 
 fn call_into(
@@ -62,31 +65,40 @@ fn call_into(
 
 // One call, unless the replay is done.
 fn one_call(
+    rt: &impl Print,
     cards: &[u8],
     log: &[u8],
     memory: &mut [u8],
     room: usize,
     words: ReplayWords,
-) -> ReplayWords
+) -> io::Result<ReplayWords>
     requires { room ≤ 4096 }
 {
     if words.done != 0 {
-        return words;
+        return Ok(words);
     }
     let mut out = dots();
     let w = call_into(cards, log, memory, &mut out, room, words);
-    show(&out, w.written);
-    tell(w);
-    w
+    show(rt, &out, w.written)?;
+    tell(rt, w)?;
+    Ok(w)
 }
 
-fn calls(cards: &[u8], log: &[u8], memory: &mut [u8], room: usize, first: ReplayWords)
+fn calls(
+    rt: &impl Print,
+    cards: &[u8],
+    log: &[u8],
+    memory: &mut [u8],
+    room: usize,
+    first: ReplayWords,
+) -> io::Result<()>
     requires { room ≤ 4096 }
 {
     let mut words = first;
     for i in 0usize..CALLS {
-        words = one_call(cards, log, memory, room, words);
+        words = one_call(rt, cards, log, memory, room, words)?;
     }
+    Ok(())
 }
 
 fn no_words() -> ReplayWords {
@@ -98,15 +110,15 @@ fn no_words() -> ReplayWords {
     }
 }
 
-fn in_calls(cards: &[u8], log: &[u8], room: usize)
+fn in_calls(rt: &impl Print, cards: &[u8], log: &[u8], room: usize) -> io::Result<()>
     requires { room ≤ 4096 }
 {
     let mut memory = [255u8; memory::IMAGE_SIZE];
-    calls(cards, log, &mut memory, room, no_words());
+    calls(rt, cards, log, &mut memory, room, no_words())
 }
 
 // A memory a byte short, too few bytes lent, a replay that is done, and one that begins beyond the log with a tick of more than 32 bits.
-fn ends(cards: &[u8], log: &[u8]) {
+fn ends(rt: &impl Print, cards: &[u8], log: &[u8]) -> io::Result<()> {
     let mut short = [255u8; memory::IMAGE_SIZE - 1];
     let mut memory = [255u8; memory::IMAGE_SIZE];
     let far = ReplayWords {
@@ -122,20 +134,20 @@ fn ends(cards: &[u8], log: &[u8]) {
         written: 7,
     };
     let mut out = dots();
-    tell(call_into(cards, log, &mut short, &mut out, 64, far));
-    show(&out, 66);
-    tell(call_into(cards, log, &mut memory, &mut out, 63, far));
-    show(&out, 66);
-    tell(call_into(cards, log, &mut memory, &mut out, 64, done));
-    tell(call_into(cards, log, &mut memory, &mut out, 64, far));
-    show(&out, 66);
+    tell(rt, call_into(cards, log, &mut short, &mut out, 64, far))?;
+    show(rt, &out, 66)?;
+    tell(rt, call_into(cards, log, &mut memory, &mut out, 63, far))?;
+    show(rt, &out, 66)?;
+    tell(rt, call_into(cards, log, &mut memory, &mut out, 64, done))?;
+    tell(rt, call_into(cards, log, &mut memory, &mut out, 64, far))?;
+    show(rt, &out, 66)
 }
 
-fn one_night(cards: &[u8], log: &[u8]) {
-    in_calls(cards, log, 4096);
-    in_calls(cards, log, 64);
-    in_calls(cards, log, 65);
-    ends(cards, log);
+fn one_night(rt: &impl Print, cards: &[u8], log: &[u8]) -> io::Result<()> {
+    in_calls(rt, cards, log, 4096)?;
+    in_calls(rt, cards, log, 64)?;
+    in_calls(rt, cards, log, 65)?;
+    ends(rt, cards, log)
 }
 
 // The byte behind an end, unless the input ends there.
@@ -146,19 +158,20 @@ fn behind(input: &[u8], end: usize) -> usize
     if end < input.len() { end + 1 } else { end }
 }
 
-fn every_night(input: &[u8]) {
+fn every_night(rt: &impl Print, input: &[u8]) -> io::Result<()> {
     let mut at: usize = 0;
     while at < input.len() {
         let middle = part_end(input, at);
         let from = behind(input, middle);
         let end = part_end(input, from);
-        one_night(&input[at..middle], &input[from..end]);
+        one_night(rt, &input[at..middle], &input[from..end])?;
         at = end + 1;
     }
+    Ok(())
 }
 
-fn main() {
+fn main(rt: HostRuntime) -> io::Result<()> {
     let mut input = [0u8; 32768];
-    let n = io::read_full(STDIN_FILENO, &mut input);
-    every_night(&input[..n]);
+    let n = inputs::read_full(&mut rt.stdin(), &mut input);
+    every_night(&rt, &input[..n])
 }

@@ -1,7 +1,9 @@
 // A spoiled file of cards on standard input; on standard output the cards that are kept, on standard error the names of the parts that are left out.
+#![tactic(auto)]
+
 ghost use Rattle.std.specs.Prelude.{length, ◌≡◌};
 
-use libc::{STDERR_FILENO, STDIN_FILENO, STDOUT_FILENO};
+use std::io;
 
 // Six bytes a byte of the file, and 64.
 const MOST_NAMED: usize = 1572928;
@@ -13,21 +15,24 @@ fn named_buffer() -> [u8; MOST_NAMED]
     [0; MOST_NAMED]
 }
 
-fn print_outputs(file: &[u8]) {
+fn print_outputs(out: &impl Print, err: &impl Print, file: &[u8]) -> io::Result<()> {
     let mut kept = card_input::file_buffer();
     let mut named = named_buffer();
     let s = card_salvage::salvage(file, &mut kept, &mut named);
-    let written = io::write_all(STDOUT_FILENO, &kept[..s.kept]);
-    io::write_all(STDERR_FILENO, &named[..s.named]);
+    let written = out.write_all(&kept[..s.kept]).is_ok();
+    err.write_all(&named[..s.named])?;
     if !written {
-        io::write_all(STDERR_FILENO, b"unwritten=1\n");
+        err.write_all(b"unwritten=1\n")?;
     }
+    Ok(())
 }
 
-fn main() {
-    let mut input = card_input::file_buffer();
-    let n = io::read_full(STDIN_FILENO, &mut input);
-    if card_input::all_read(n, STDERR_FILENO) {
-        print_outputs(&input[..n]);
+fn main(rt: HostRuntime) -> io::Result<()> {
+    let mut input = rt.stdin();
+    let mut file = card_input::file_buffer();
+    let n = inputs::read_full(&mut input, &mut file);
+    if card_input::all_read(&mut input, n, &rt.stderr())? {
+        print_outputs(&rt, &rt.stderr(), &file[..n])?;
     }
+    Ok(())
 }

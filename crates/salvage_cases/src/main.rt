@@ -1,9 +1,11 @@
 // Spoiled files of cards, each of which ends at a byte 30: both outputs of each; then the same into buffers of the right size, and with each
 // a byte short. tests/host/expected/salvage.rs has what is expected.
+#![tactic(auto)]
+
 ghost use Rattle.std.specs.Prelude.{◌≡◌, ◌≤◌, length};
 
 use card_salvage::Salvaged;
-use libc::{STDIN_FILENO, STDOUT_FILENO};
+use std::io;
 
 const END: u8 = 30;
 
@@ -28,21 +30,22 @@ fn put_number(line: &mut [u8; 512], at: usize, n: u64) -> usize {
     case_lines::put_decimal(line, end, n)
 }
 
-fn tell(s: Salvaged) {
+fn tell(rt: &impl Print, s: Salvaged) -> io::Result<()> {
     let mut line = [0u8; 512];
     let mut end = case_lines::put_all(&mut line, 0, b"salvage");
     end = put_number(&mut line, end, s.answer as u64);
     end = put_number(&mut line, end, s.kept as u64);
     end = put_number(&mut line, end, s.named as u64);
-    case_lines::write(&mut line, end);
+    case_lines::write(rt, &mut line, end)
 }
 
 // So many bytes of a buffer, and a line end.
-fn show(buffer: &[u8], n: usize) {
+fn show(rt: &impl Print, buffer: &[u8], n: usize) -> io::Result<()> {
     if n <= buffer.len() {
-        io::write_all(STDOUT_FILENO, &buffer[..n]);
-        io::write_all(STDOUT_FILENO, b"\n");
+        rt.write_all(&buffer[..n])?;
+        rt.write_all(b"\n")?;
     }
+    Ok(())
 }
 
 fn salvage_into(
@@ -59,52 +62,54 @@ fn salvage_into(
 }
 
 // Salvages into the beginnings of two buffers of dots, and shows the first bytes of both.
-fn sized(file: &[u8], room: usize, other: usize)
+fn sized(rt: &impl Print, file: &[u8], room: usize, other: usize) -> io::Result<()>
     requires room_bound { room ≤ 2048 }
     requires other_bound { other ≤ 2048 }
 {
     let mut kept = dots();
     let mut named = dots();
-    tell(salvage_into(file, &mut kept, &mut named, room, other));
-    show(&kept, 8);
-    show(&named, 8);
+    tell(rt, salvage_into(file, &mut kept, &mut named, room, other))?;
+    show(rt, &kept, 8)?;
+    show(rt, &named, 8)
 }
 
-fn tight(file: &[u8], room: usize, other: usize) {
+fn tight(rt: &impl Print, file: &[u8], room: usize, other: usize) -> io::Result<()> {
     if room <= ROOM {
         if other <= ROOM {
-            sized(file, room, other);
+            sized(rt, file, room, other)?;
             if 0 < room {
-                sized(file, room - 1, other);
+                sized(rt, file, room - 1, other)?;
             }
             if 0 < other {
-                sized(file, room, other - 1);
+                sized(rt, file, room, other - 1)?;
             }
         }
     }
+    Ok(())
 }
 
-fn one_file(file: &[u8]) {
+fn one_file(rt: &impl Print, file: &[u8]) -> io::Result<()> {
     let mut kept = dots();
     let mut named = dots();
     let s = card_salvage::salvage(file, &mut kept, &mut named);
-    tell(s);
-    show(&kept, s.kept);
-    show(&named, s.named);
-    tight(file, s.kept, s.named);
+    tell(rt, s)?;
+    show(rt, &kept, s.kept)?;
+    show(rt, &named, s.named)?;
+    tight(rt, file, s.kept, s.named)
 }
 
-fn every_file(input: &[u8]) {
+fn every_file(rt: &impl Print, input: &[u8]) -> io::Result<()> {
     let mut at: usize = 0;
     while at < input.len() {
         let end = file_end(input, at);
-        one_file(&input[at..end]);
+        one_file(rt, &input[at..end])?;
         at = end + 1;
     }
+    Ok(())
 }
 
-fn main() {
+fn main(rt: HostRuntime) -> io::Result<()> {
     let mut input = [0u8; 32768];
-    let n = io::read_full(STDIN_FILENO, &mut input);
-    every_file(&input[..n]);
+    let n = inputs::read_full(&mut rt.stdin(), &mut input);
+    every_file(&rt, &input[..n])
 }

@@ -2,7 +2,10 @@
 // A line has a name and the results for every operand of the table; for two operands the left one stands after the name.
 // A result is i and a signed decimal, r and a pattern, ! and a fault's number, or ? for an operand of the wrong kind.
 // The last lines have whole powers, and the most multiplications that one of them takes.
+#![tactic(auto)]
+
 use operators::{Position, UnaryOp, tables};
+use std::io;
 use tokens::symbols;
 use values::{Fault, Kind, Outcome, Value};
 
@@ -122,105 +125,106 @@ fn apply(f: Function, v: Value) -> Outcome {
 }
 
 // Ends a line with the results for every operand, and writes it.
-fn results(line: &mut [u8; 512], at: usize, f: Function) {
+fn results(rt: &impl Print, line: &mut [u8; 512], at: usize, f: Function) -> io::Result<()> {
     let mut end = at;
     for n in 0usize..37 {
         end = case_lines::put_outcome(line, end, apply(f, operand(n)));
     }
-    case_lines::write(line, end);
+    case_lines::write(rt, line, end)
 }
 
-fn one(name: &[u8], f: Function) {
+fn one(rt: &impl Print, name: &[u8], f: Function) -> io::Result<()> {
     let mut line = [0u8; 512];
     let end = case_lines::put_all(&mut line, 0, name);
-    results(&mut line, end, f);
+    results(rt, &mut line, end, f)
 }
 
-fn left(name: &[u8], op: u8, a: Value) {
+fn left(rt: &impl Print, name: &[u8], op: u8, a: Value) -> io::Result<()> {
     let mut line = [0u8; 512];
     let mut end = case_lines::put_all(&mut line, 0, name);
     end = case_lines::put_outcome(&mut line, end, Outcome::Done(a));
     end = case_lines::put(&mut line, end, b':');
-    results(&mut line, end, Function::Binary(op, a));
+    results(rt, &mut line, end, Function::Binary(op, a))
 }
 
 // A line for each left operand.
-fn two(name: &[u8], op: u8) {
+fn two(rt: &impl Print, name: &[u8], op: u8) -> io::Result<()> {
     for n in 0usize..37 {
-        left(name, op, operand(n));
+        left(rt, name, op, operand(n))?;
     }
+    Ok(())
 }
 
 // The numbers of the faults. No operator gives the last, which is a bank's.
-fn faults() {
+fn faults(rt: &impl Print) -> io::Result<()> {
     let mut line = [0u8; 512];
     let mut end = case_lines::put_all(&mut line, 0, b"faults");
     end = case_lines::put_outcome(&mut line, end, Outcome::Stopped(Fault::DividedByZero));
     end = case_lines::put_outcome(&mut line, end, Outcome::Stopped(Fault::Overflow));
     end = case_lines::put_outcome(&mut line, end, Outcome::Stopped(Fault::OutOfRange));
     end = case_lines::put_outcome(&mut line, end, Outcome::Stopped(Fault::IndexError));
-    case_lines::write(&mut line, end);
+    case_lines::write(rt, &mut line, end)
 }
 
 // The first of these lines has the operands themselves.
-fn ones() {
-    one(b"branch of int", Function::Branch(Kind::Int));
-    one(b"branch of real", Function::Branch(Kind::Real));
-    one(b"truth", Function::Truth);
-    one(b"index of 64", Function::Index(64));
-    one(b"index of 256", Function::Index(256));
-    one(b"-", Function::Unary(UnaryOp::Neg));
-    one(b"~", Function::Unary(UnaryOp::Complement));
-    one(b"!", Function::Unary(UnaryOp::Not));
-    one(b"ABS", Function::Unary(UnaryOp::Abs));
-    one(b"TOREAL", Function::Unary(UnaryOp::ToReal));
-    one(b"TRUNC", Function::Unary(UnaryOp::Trunc));
-    one(b"ROUND", Function::Unary(UnaryOp::Round));
-    one(b"FRAC", Function::Unary(UnaryOp::Frac));
+fn ones(rt: &impl Print) -> io::Result<()> {
+    one(rt, b"branch of int", Function::Branch(Kind::Int))?;
+    one(rt, b"branch of real", Function::Branch(Kind::Real))?;
+    one(rt, b"truth", Function::Truth)?;
+    one(rt, b"index of 64", Function::Index(64))?;
+    one(rt, b"index of 256", Function::Index(256))?;
+    one(rt, b"-", Function::Unary(UnaryOp::Neg))?;
+    one(rt, b"~", Function::Unary(UnaryOp::Complement))?;
+    one(rt, b"!", Function::Unary(UnaryOp::Not))?;
+    one(rt, b"ABS", Function::Unary(UnaryOp::Abs))?;
+    one(rt, b"TOREAL", Function::Unary(UnaryOp::ToReal))?;
+    one(rt, b"TRUNC", Function::Unary(UnaryOp::Trunc))?;
+    one(rt, b"ROUND", Function::Unary(UnaryOp::Round))?;
+    one(rt, b"FRAC", Function::Unary(UnaryOp::Frac))
 }
 
-fn since_at(tick: u32) {
+fn since_at(rt: &impl Print, tick: u32) -> io::Result<()> {
     let mut line = [0u8; 512];
     let mut end = case_lines::put_all(&mut line, 0, b"SINCE at ");
     end = case_lines::put_hex(&mut line, end, tick);
     end = case_lines::put(&mut line, end, b':');
-    results(&mut line, end, Function::Since(tick));
+    results(rt, &mut line, end, Function::Since(tick))
 }
 
 // At ticks around the turns of the counter and of its sign.
-fn sinces() {
-    since_at(0);
-    since_at(1);
-    since_at(0x7fff_ffff);
-    since_at(0x8000_0000);
-    since_at(0xffff_ffff);
+fn sinces(rt: &impl Print) -> io::Result<()> {
+    since_at(rt, 0)?;
+    since_at(rt, 1)?;
+    since_at(rt, 0x7fff_ffff)?;
+    since_at(rt, 0x8000_0000)?;
+    since_at(rt, 0xffff_ffff)
 }
 
-fn twos() {
-    two(b"+", symbols::PLUS);
-    two(b"-", symbols::MINUS);
-    two(b"*", symbols::TIMES);
-    two(b"/", symbols::DIVIDE);
-    two(b"%", symbols::REMAINDER);
-    two(b"**", symbols::POWER);
-    two(b"<<", symbols::SHIFT_LEFT);
-    two(b">>", symbols::SHIFT_RIGHT);
-    two(b">>>", symbols::SHIFT_RIGHT_ZEROS);
-    two(b"<", symbols::LESS);
-    two(b">", symbols::GREATER);
-    two(b"<=", symbols::LESS_OR_EQUAL);
-    two(b">=", symbols::GREATER_OR_EQUAL);
-    two(b"==", symbols::EQUAL);
-    two(b"!=", symbols::NOT_EQUAL);
-    two(b"&", symbols::BIT_AND);
-    two(b"|", symbols::BIT_OR);
-    two(b"^", symbols::BIT_XOR);
-    two(b"MAX", tables::MAX);
-    two(b"MIN", tables::MIN);
+fn twos(rt: &impl Print) -> io::Result<()> {
+    two(rt, b"+", symbols::PLUS)?;
+    two(rt, b"-", symbols::MINUS)?;
+    two(rt, b"*", symbols::TIMES)?;
+    two(rt, b"/", symbols::DIVIDE)?;
+    two(rt, b"%", symbols::REMAINDER)?;
+    two(rt, b"**", symbols::POWER)?;
+    two(rt, b"<<", symbols::SHIFT_LEFT)?;
+    two(rt, b">>", symbols::SHIFT_RIGHT)?;
+    two(rt, b">>>", symbols::SHIFT_RIGHT_ZEROS)?;
+    two(rt, b"<", symbols::LESS)?;
+    two(rt, b">", symbols::GREATER)?;
+    two(rt, b"<=", symbols::LESS_OR_EQUAL)?;
+    two(rt, b">=", symbols::GREATER_OR_EQUAL)?;
+    two(rt, b"==", symbols::EQUAL)?;
+    two(rt, b"!=", symbols::NOT_EQUAL)?;
+    two(rt, b"&", symbols::BIT_AND)?;
+    two(rt, b"|", symbols::BIT_OR)?;
+    two(rt, b"^", symbols::BIT_XOR)?;
+    two(rt, b"MAX", tables::MAX)?;
+    two(rt, b"MIN", tables::MIN)
 }
 
 // Writes a line of the powers of one base, and gives the most multiplications that one of them takes.
-fn powers_of(a: i32) -> u32 {
+fn powers_of(rt: &impl Print, a: i32) -> io::Result<u32> {
     let mut line = [0u8; 512];
     let mut end = case_lines::put_all(&mut line, 0, b"powers of");
     end = case_lines::put_outcome(&mut line, end, Outcome::Done(Value::Int(a)));
@@ -234,32 +238,32 @@ fn powers_of(a: i32) -> u32 {
             most = power.count;
         }
     }
-    case_lines::write(&mut line, end);
-    most
+    case_lines::write(rt, &mut line, end)?;
+    Ok(most)
 }
 
-fn most_multiplications(most: u32) {
+fn most_multiplications(rt: &impl Print, most: u32) -> io::Result<()> {
     let mut line = [0u8; 512];
     let mut end = case_lines::put_all(&mut line, 0, b"most multiplications ");
     end = case_lines::put_decimal(&mut line, end, most as u64);
-    case_lines::write(&mut line, end);
+    case_lines::write(rt, &mut line, end)
 }
 
-fn powers() {
+fn powers(rt: &impl Print) -> io::Result<()> {
     let mut most = 0;
     for n in 0usize..13 {
-        let count = powers_of(BASES[n]);
+        let count = powers_of(rt, BASES[n])?;
         if most < count {
             most = count;
         }
     }
-    most_multiplications(most);
+    most_multiplications(rt, most)
 }
 
-fn main() {
-    faults();
-    ones();
-    sinces();
-    twos();
-    powers();
+fn main(rt: HostRuntime) -> io::Result<()> {
+    faults(&rt)?;
+    ones(&rt)?;
+    sinces(&rt)?;
+    twos(&rt)?;
+    powers(&rt)
 }

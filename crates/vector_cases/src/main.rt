@@ -1,7 +1,9 @@
 // Stored cases of the program: an empty line ends each case, and follows each reply.
+#![tactic(auto)]
+
 ghost use Rattle.std.specs.Prelude.{◌≤◌, length};
 
-use libc::{STDIN_FILENO, STDOUT_FILENO};
+use std::io;
 
 fn buffer() -> [u8; 131072] {
     [0; 131072]
@@ -25,24 +27,25 @@ fn case_end(input: &[u8], at: usize) -> usize
     end
 }
 
-fn answer(case: &[u8]) {
+fn answer(rt: &impl Print, case: &[u8]) -> io::Result<()> {
     let mut reply = [0u8; 64];
     let n = program::respond(case, &mut reply);
-    io::write_all(STDOUT_FILENO, &reply[..n]);
-    io::write_all(STDOUT_FILENO, b"\n");
+    rt.write_all(&reply[..n])?;
+    rt.write_all(b"\n")
 }
 
-fn every_case(input: &[u8]) {
+fn every_case(rt: &impl Print, input: &[u8]) -> io::Result<()> {
     let mut at: usize = 0;
     while at < input.len() {
         let end = case_end(input, at);
-        answer(&input[at..end]);
+        answer(rt, &input[at..end])?;
         at = end + 1;
     }
+    Ok(())
 }
 
-fn main() {
+fn main(rt: HostRuntime) -> io::Result<()> {
     let mut input = buffer();
-    let n = io::read_full(STDIN_FILENO, &mut input);
-    every_case(&input[..n]);
+    let n = inputs::read_full(&mut rt.stdin(), &mut input);
+    every_case(&rt, &input[..n])
 }
