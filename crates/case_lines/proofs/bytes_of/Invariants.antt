@@ -1,0 +1,10 @@
+-- `case_lines::bytes_of` meets its contract: what is written stays within the array.
+use Prim.Native.Nat.{◌-◌}
+use lib.ListN.{length}
+use Rattle.case_lines.proofs.bytes_of.Given as goal
+
+abbrev pub invariant-loop-i : goal.invariant-loop-i
+invariant-loop-i l = Unit {0}
+
+abbrev pub decreases-loop-i : goal.decreases-loop-i
+decreases-loop-i l = length l.text - l.i
