@@ -2,7 +2,7 @@
 use mathlib.Core.Path.{◌≡◌, refl, sym, ap, ◌∙◌}
 use mathlib.Core.Bool.{Bool, true, false, not, cond}
 use mathlib.Core.List.{List, [], ◌∷◌, ◌++◌}
-use Prim.Native.Nat.{ℕ, ◌+◌, ◌^◌, ◌<◌}
+use Prim.Native.Nat.{ℕ, ◌^◌, ◌<◌}
 use native.Mathlib.Omega.{arith}
 use lib.Dec.{T, eqb, ltb}
 use lib.ListN.{get_or}
@@ -20,7 +20,6 @@ use Rattle.words.specs.Ascii.{ascii}
 use Rattle.memory.specs.declared.Bank.{Bank}
 use Rattle.memory.specs.declared.Bank.TheVariants.{X, C, «V», N, D, R}
 use Rattle.memory.specs.declared.numbers.BankOf.{BankOf}
-use Rattle.memory.specs.declared.numbers.BankOf.TheVariants as BankOf
 use Rattle.memory.specs.Layout.{layout_of}
 use Rattle.memory.specs.Numbers.{bank_numbered, bank_number}
 use Rattle.totals.specs.declared.TotalOp.TheVariants as TotalOp
@@ -32,7 +31,6 @@ use Rattle.totals.specs.Numbers.{total_ops, match_ops, total_of, match_of}
 use Rattle.code.specs.declared.Instr.{Instr}
 use Rattle.code.specs.declared.Instr.TheVariants.{Load, LoadIndexed, Unary, Binary, Tick, Since, Total, Match, Unknown}
 use Rattle.code.specs.declared.Class.{Class}
-use Rattle.code.specs.declared.Class.TheVariants as Class
 use Rattle.code.specs.Instructions.{finite_only, push_real, load_element, load_indexed, range_bank, range_first, range_count, over_range, opcode_of, word_of}
 use Rattle.code.specs.Instructions.{instruction_of}
 use Rattle.code.specs.private.Classes.{class_of, of_bank, of_unary, of_binary, of_total, of_match, number_of, instr_in}
@@ -67,7 +65,8 @@ module _ (p : ℕ) where
   unfolding is_nan
   single-text v h = by (of_bits binary32 v) (to_bits-of_bits binary32 v h)
     where
-      by : (x : Float) → (T (not (is_nan x)) → to_bits binary32 x ≡ v) → Known (finite_only x) → ascii "PUSH_REAL " ++ cell_text R v ≡ instr_text p (finite_only x)
+      by : (x : Float) → (T (not (is_nan x)) → to_bits binary32 x ≡ v) → Known (finite_only x)
+          → ascii "PUSH_REAL " ++ cell_text R v ≡ instr_text p (finite_only x)
       by nan b k = absurd (k refl)
       by (inf s) b k = absurd (k refl)
       by (fin s m e) b k = ap (λ (n : ℕ). ascii "PUSH_REAL " ++ cell_text R n) (sym (b tt))
@@ -93,7 +92,8 @@ module _ (p : ℕ) where
     where
       by : (t : Bool) → ltb k 20 ≡ t → Known (of_binary (cond t (BinaryOf.Is (get_or binary_ops k (Arith Add))) BinaryOf.Nothing) v)
           → row_at k binary_names ≡ instr_text p (of_binary (cond t (BinaryOf.Is (get_or binary_ops k (Arith Add))) BinaryOf.Nothing) v)
-      by true e h = when (eqb v 0) (Binary (get_or binary_ops k (Arith Add))) (ap (λ (n : ℕ). row_at n binary_names) (sym (binary-forth k (ltb-true k 20 e)))) h
+      by true e h =
+          when (eqb v 0) (Binary (get_or binary_ops k (Arith Add))) (ap (λ (n : ℕ). row_at n binary_names) (sym (binary-forth k (ltb-true k 20 e)))) h
       by false e h = absurd (h refl)
 
   -- over a range: the name, then the range

@@ -1,4 +1,6 @@
 // The listing of code (specs/Listing.antt): a line an instruction. What is listed has been checked, so every instruction is known.
+#![tactic(auto)]
+
 ghost use Rattle.std.specs.Prelude.{◌≡◌, ◌++◌, suc, ◌+◌, ◌*◌, ◌≤◌, ◌<◌, length};
 ghost use Rattle.std.proofs.lemmas.List.Edits.{sets};
 ghost use Rattle.words.specs.Ascii.{ascii};

@@ -13,7 +13,6 @@ use Rattle.tokens.specs.declared.Token.{Token}
 use Rattle.tokens.proofs.Tests.{by-test}
 use Rattle.grammar.specs.Symbols.{groups, group_number, group, is_symbol}
 use Rattle.token_table.specs.private.Table.{function_number, word_class, word_operand, Sound}
-use Rattle.token_table.specs.private.Table as Sound
 use Rattle.token_table.proofs.Laws.{token_class, token_operand}
 
 pub low_half : (w : ℕ) → w % 65536 ≡ word_class w + 256 * word_operand w

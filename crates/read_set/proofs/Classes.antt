@@ -1,34 +1,28 @@
 -- What an instruction reads, by its class.
 use mathlib.Core.Path.{◌≡◌, refl, sym, ap, ◌∙◌, subst}
 use mathlib.Core.Bool.{Bool, true, false, cond}
-use Prim.Native.Nat.{ℕ, ◌+◌, ◌≤◌, ◌<◌}
+use Prim.Native.Nat.{ℕ, ◌+◌}
 use native.Mathlib.Omega.{arith}
-use lib.Dec.{ltb, leb, eqb}
+use lib.Dec.{ltb, eqb}
 use lib.Ieee.{Float, nan, inf, fin, binary32}
 use lib.Ieee as Ieee
 use borrow.Author.Tests.{ltb-true, ltb-false, le-leb, lt-leb, ne_eqb, eq-eqb}
 use Rattle.memory.specs.declared.Bank.{Bank}
 use Rattle.memory.specs.declared.numbers.BankOf.{BankOf}
-use Rattle.memory.specs.declared.numbers.BankOf.TheVariants as BankOf
 use Rattle.memory.specs.Layout.{layout_of}
 use Rattle.memory.specs.Numbers.{bank_numbered}
 use Rattle.operators.specs.declared.tables.UnaryOf.{UnaryOf}
-use Rattle.operators.specs.declared.tables.UnaryOf.TheVariants as UnaryOf
 use Rattle.operators.specs.declared.tables.BinaryOf.{BinaryOf}
-use Rattle.operators.specs.declared.tables.BinaryOf.TheVariants as BinaryOf
 use Rattle.operators.specs.Tables.{unary_of, binary_of}
 use Rattle.totals.specs.declared.TotalOp.{TotalOp}
 use Rattle.totals.specs.declared.MatchOp.{MatchOp}
 use Rattle.totals.specs.declared.tables.TotalOf.{TotalOf}
-use Rattle.totals.specs.declared.tables.TotalOf.TheVariants as TotalOf
 use Rattle.totals.specs.declared.tables.MatchOf.{MatchOf}
-use Rattle.totals.specs.declared.tables.MatchOf.TheVariants as MatchOf
 use Rattle.totals.specs.Totals.{good_range}
 use Rattle.code.specs.declared.Instr.{Instr}
 use Rattle.code.specs.declared.Instr.TheVariants.{Load, LoadIndexed, Unary, Binary, Tick, Since, Total, Match, Unknown}
 use Rattle.code.specs.declared.Class.{Class}
-use Rattle.code.specs.declared.Class.TheVariants as Class
-use Rattle.code.specs.Instructions.{finite_only, load_element, load_indexed, range_bank, range_first, range_count, over_range, ranging, opcode_of, word_of}
+use Rattle.code.specs.Instructions.{finite_only, load_element, load_indexed, range_bank, range_first, range_count, over_range, opcode_of, word_of}
 use Rattle.code.specs.Instructions.{instruction_of}
 use Rattle.code.specs.private.Classes.{class_of, of_bank, of_unary, of_binary, of_total, of_match, instr_in, number_of}
 use Rattle.code.proofs.Page.{number-class}

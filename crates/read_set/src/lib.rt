@@ -1,5 +1,7 @@
 // Which cells code reads (paper 02, Ask 11): specs/Cells.antt. Each instruction marks where its cells begin and how many they are; one
 // pass over the numbers of all cells then lists those that a mark reaches. No instruction marks more than one word.
+#![tactic(auto)]
+
 ghost use Rattle.std.specs.Prelude.{◌≡◌, ◌/◌, ◌<◌, length, set};
 ghost use Rattle.std.proofs.lemmas.List.Edits.{sets};
 ghost use Rattle.code.specs.declared.Class.TheVariants.{Load, LoadIndexed, Total, Match};

@@ -1,5 +1,4 @@
 -- `draft::added` meets its contract.
-use borrow.Author.Rules.{rules}
 use Rattle.draft.proofs.added.Goals as goal
 
 pub returns : goal.returns

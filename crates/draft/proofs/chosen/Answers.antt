@@ -7,31 +7,16 @@ use borrow.Author.Rules.{rules}
 use Rattle.draft.proofs.chosen.Goals as goal
 
 pub overflow_add-k : goal.overflow_add-k
-overflow_add-k c = omega (
-  arith,
-  c.skipped.ensures,
-  (few (number_kind c.kind_of-a.result)
-      (number_kind c.kind_of-b.result)).0,
-)
+overflow_add-k c = omega (arith, c.skipped.ensures, (few (number_kind c.kind_of-a.result) (number_kind c.kind_of-b.result)).0)
 
 pub overflow_cast-k : goal.overflow_cast-k
-overflow_cast-k c = omega (
-  arith,
-  c.skipped.ensures,
-  (few (number_kind c.kind_of-a.result)
-      (number_kind c.kind_of-b.result)).0,
-)
+overflow_cast-k c = omega (arith, c.skipped.ensures, (few (number_kind c.kind_of-a.result) (number_kind c.kind_of-b.result)).0)
 
 pub done-requires : goal.done-requires
 done-requires c = (
   search rules,
-  omega (
-    arith,
-    c.promoted-end.ensures.value,
-    (few (number_kind c.kind_of-a.result) (number_kind c.kind_of-b.result)).1,
-  ),
-  (joined-kind c.kind_of-a.ensures.result_value
-      c.kind_of-b.ensures.result_value c.joined.ensures).1,
+  omega (arith, c.promoted-end.ensures.value, (few (number_kind c.kind_of-a.result) (number_kind c.kind_of-b.result)).1),
+  (joined-kind c.kind_of-a.ensures.result_value c.kind_of-b.ensures.result_value c.joined.ensures).1,
   search rules,
 )
 

@@ -6,7 +6,6 @@ use Rattle.token_table.specs.private.Table.{word_operand}
 use Rattle.draft.proofs.Numbers.{binary-at}
 use Rattle.draft.proofs.Typed.{binary-typed}
 use Rattle.draft.proofs.Words.{which}
-use borrow.Author.Rules.{rules}
 use Rattle.draft.proofs.joined.Goals as goal
 
 pub settle-requires : goal.settle-requires
@@ -26,8 +25,6 @@ pub returns : goal.returns
 returns c =
     let n = word_operand c.args.w in
     let l : n < 18 = omega arith in
-    let t = binary-typed n c.requires.0 c.operand_of-n.ensures
-    c.kind_of.ensures.result_value
-    c.kind_of-2.ensures.result_value
+    let t = binary-typed n c.requires.0 c.operand_of-n.ensures c.kind_of.ensures.result_value c.kind_of-2.ensures.result_value
     c.binary_kind-kind.ensures in
     rw (lt-ltb n 18 l) (record { result_value = cc (t.0, t.1); draft_after = cc (binary-at n c.requires.0) })

@@ -6,12 +6,7 @@ use borrow.Author.Rules.{rules}
 use Rattle.draft.proofs.loaded.Goals as goal
 
 pub added-requires : goal.added-requires
-added-requires c = (
-  search rules,
-  (bank-kind c.args.bank
-      c.requires.0 refl c.bank_kind.ensures).1,
-  search rules,
-)
+added-requires c = (search rules, (bank-kind c.args.bank c.requires.0 refl c.bank_kind.ensures).1, search rules)
 
 pub returns : goal.returns
 returns c =

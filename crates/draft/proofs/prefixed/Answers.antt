@@ -5,7 +5,6 @@ use native.Mathlib.Omega.{arith}
 use Rattle.draft.specs.private.Words.{prefix_number}
 use Rattle.draft.proofs.Numbers.{unary-at}
 use Rattle.draft.proofs.Typed.{unary-typed}
-use borrow.Author.Rules.{rules}
 use Rattle.draft.proofs.prefixed.Goals as goal
 
 pub returns-then-sign-eq-NEG : goal.returns-then-sign-eq-NEG
@@ -17,7 +16,5 @@ pub returns : goal.returns
 returns c =
     let n = prefix_number c.args.w in
     let h : n < 8 = omega (arith, c.requires.0) in
-    let t = unary-typed n h c.sign_of-sign.ensures
-    c.kind_of-2.ensures.result_value
-    c.unary_kind-kind.ensures in
+    let t = unary-typed n h c.sign_of-sign.ensures c.kind_of-2.ensures.result_value c.unary_kind-kind.ensures in
     record { result_value = cc (t.0, t.1); draft_after = cc (unary-at n h) }

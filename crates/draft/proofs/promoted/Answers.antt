@@ -1,6 +1,5 @@
 -- `draft::promoted` meets its contract, for each pair of kinds.
 use Rattle.draft.proofs.Words.{promoted-none, promoted-two, promoted-one}
-use borrow.Author.Rules.{rules}
 use Rattle.draft.proofs.promoted.Goals as goal
 
 pub returns-then-first-second : goal.returns-then-first-second

@@ -1,5 +1,4 @@
 -- `draft::pushed` meets its contract.
-use borrow.Author.Rules.{rules}
 use Rattle.draft.proofs.pushed.Goals as goal
 
 pub returns : goal.returns

@@ -2,7 +2,6 @@
 use mathlib.Core.Path.{sym, ap}
 use lib.ListN.{set}
 use lib.Seq.{set_out}
-use borrow.Author.Rules.{rules}
 use Rattle.draft.proofs.put.Goals as goal
 
 pub returns-then-place-draft : goal.returns-then-place-draft

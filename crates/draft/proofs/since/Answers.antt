@@ -1,6 +1,5 @@
 -- `draft::since` meets its contract.
 use Rattle.draft.proofs.Typed.{integer-typed}
-use borrow.Author.Rules.{rules}
 use Rattle.draft.proofs.since.Goals as goal
 
 pub returns : goal.returns

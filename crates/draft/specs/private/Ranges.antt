@@ -1,5 +1,5 @@
 -- For the contracts of private functions: what the words of a first cell and of a count say of the range.
-use Rattle.std.specs.Prelude.{◌≡◌, ℕ, ◌<◌, ℤ, get_or}
+use Rattle.std.specs.Prelude.{ℕ, ◌<◌, ℤ, get_or}
 use Rattle.values.specs.Patterns.{signed_of}
 use Rattle.values.specs.declared.CompareOp.TheVariants.{Eq}
 use Rattle.memory.specs.declared.Bank.{Bank}

@@ -1,7 +1,6 @@
 -- `ahead::expected` meets its contract.
 use mathlib.Core.Path.{ap, ◌∙◌}
 use Rattle.draft.specs.private.Words.{is_mark}
-use borrow.Author.Rules.{rules}
 use Rattle.draft.proofs.ahead.expected.Goals as goal
 
 pub returns : goal.returns

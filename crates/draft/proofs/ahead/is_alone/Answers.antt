@@ -1,6 +1,5 @@
 -- `ahead::is_alone` meets its contract: its tests are those of `is_alone`.
-use borrow.Author.Tests.{eq-eqb, ne_eqb, not-true, not-false}
-use borrow.Author.Rules.{rules}
+use borrow.Author.Tests.{eq-eqb, ne_eqb}
 use Rattle.draft.proofs.ahead.is_alone.Goals as goal
 
 pub returns-then-not-is_leaf : goal.returns-then-not-is_leaf

@@ -1,6 +1,5 @@
 -- `ahead::is_leaf` meets its contract.
 use borrow.Author.Tests.{eq-eqb, ne_eqb}
-use borrow.Author.Rules.{rules}
 use Rattle.draft.proofs.ahead.is_leaf.Goals as goal
 
 pub returns-then-class-eq-NONE : goal.returns-then-class-eq-NONE

@@ -1,5 +1,4 @@
 -- `ahead::sign_of` meets its contract.
-use borrow.Author.Rules.{rules}
 use Rattle.draft.proofs.ahead.sign_of.Goals as goal
 
 pub returns-then-is_symbol : goal.returns-then-is_symbol

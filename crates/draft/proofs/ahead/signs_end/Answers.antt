@@ -1,11 +1,6 @@
 -- `ahead::signs_end` meets its contract. The loop's invariant: unary operators stand from `at` up to `end`. The measure is what is left of the table.
-use Prim.Native.Nat.{ℕ, ◌-◌, ◌≤◌, ◌<◌}
 use native.Mathlib.Omega.{arith}
-use lib.ListN.{length}
 use borrow.Author.Count.{below_more}
-use borrow.Author.Rules.{rules}
-use Rattle.token_table.specs.private.Table.{word_at}
-use Rattle.draft.specs.private.Words.{prefix_number}
 use Rattle.draft.proofs.ahead.Signs.{sign-here, sign-stops}
 use Rattle.draft.proofs.ahead.signs_end.Goals as goal
 
@@ -14,14 +9,12 @@ loop-end-init c = (omega arith, omega arith, λ i h k. absurd (omega arith))
 
 pub loop-end-smaller : goal.loop-end-smaller
 loop-end-smaller c =
-    let h = sign-here c.args.table.now c.loop-end.end
-    c.word_at.ensures c.sign_of.ensures c.loop-end-test.true in
+    let h = sign-here c.args.table.now c.loop-end.end c.word_at.ensures c.sign_of.ensures c.loop-end-test.true in
     omega arith
 
 pub loop-end-preserved : goal.loop-end-preserved
 loop-end-preserved c =
-    let h = sign-here c.args.table.now c.loop-end.end
-    c.word_at.ensures c.sign_of.ensures c.loop-end-test.true in
+    let h = sign-here c.args.table.now c.loop-end.end c.word_at.ensures c.sign_of.ensures c.loop-end-test.true in
     (omega arith, omega arith, below_more _ _ c.loop-end.invariant.2 (λ k. h.1))
 
 pub returns : goal.returns
@@ -30,6 +23,5 @@ returns c =
       ahead = omega arith;
       within = omega arith;
       each = λ i h k. c.loop-end.invariant.2 i k h;
-      stops = sign-stops c.args.table.now c.loop-end.end
-          c.word_at.ensures c.sign_of.ensures c.loop-end-test.false;
+      stops = sign-stops c.args.table.now c.loop-end.end c.word_at.ensures c.sign_of.ensures c.loop-end-test.false;
     }

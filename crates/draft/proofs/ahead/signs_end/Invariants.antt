@@ -1,12 +1,8 @@
 -- `ahead::signs_end` meets its contract. The loop's invariant: unary operators stand from `at` up to `end`. The measure is what is left of the table.
 use Prim.Native.Nat.{ℕ, ◌-◌, ◌≤◌, ◌<◌}
-use native.Mathlib.Omega.{arith}
 use lib.ListN.{length}
-use borrow.Author.Count.{below_more}
-use borrow.Author.Rules.{rules}
 use Rattle.token_table.specs.private.Table.{word_at}
 use Rattle.draft.specs.private.Words.{prefix_number}
-use Rattle.draft.proofs.ahead.Signs.{sign-here, sign-stops}
 use Rattle.draft.proofs.ahead.signs_end.Given as goal
 
 abbrev pub invariant-loop-end : goal.invariant-loop-end

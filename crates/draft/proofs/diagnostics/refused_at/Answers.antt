@@ -1,7 +1,6 @@
 -- `diagnostics::refused_at` meets its contract: every place in a word is one of 16 bits.
 use Prim.Native.Nat.{◌+◌, ◌*◌}
 use native.Mathlib.Omega.{arith}
-use borrow.Author.Rules.{rules}
 use Rattle.draft.proofs.diagnostics.Diagnostics.{word-diagnosed}
 use Rattle.draft.proofs.diagnostics.refused_at.Goals as goal
 

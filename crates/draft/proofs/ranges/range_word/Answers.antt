@@ -1,8 +1,6 @@
 -- `draft::ranges::range_word` meets its contract.
 use native.Mathlib.Omega.{arith}
-use mathlib.Core.Path.{refl}
 use Rattle.draft.proofs.ranges.Spans.{small, span-is}
-use borrow.Author.Rules.{rules}
 use Rattle.draft.proofs.ranges.range_word.Goals as goal
 
 pub range_word-requires : goal.range_word-requires
@@ -19,8 +17,7 @@ pub returns : goal.returns
 returns c =
     cc (
       span-is c.args.first c.args.count c.requires c.operand_of-bank.ensures
-          c.bank_elements-elements.ensures c.number_of-element.ensures c.number_of.ensures
-          c.span_of-span.ensures,
+          c.bank_elements-elements.ensures c.number_of-element.ensures c.number_of.ensures c.span_of-span.ensures,
       c.range_word.ensures,
       c.operand_of-bank.ensures,
       c.number_of-element.ensures,

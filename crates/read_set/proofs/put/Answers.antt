@@ -1,0 +1,7 @@
+-- `put` meets its contract: without room nothing changes.
+use mathlib.Core.Path.{sym}
+use lib.Seq.{set_out}
+use Rattle.read_set.proofs.put.Goals as goal
+
+pub returns-else-at-list : goal.returns-else-at-list
+returns-else-at-list c = sym (set_out _ _ _ c.if-at-list.false)
