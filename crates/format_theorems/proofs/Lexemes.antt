@@ -29,6 +29,7 @@ use Rattle.tokens.proofs.numerals.Runs.{run-starts, run_len_lem}
 use Rattle.tokens.proofs.Theorems.{letter-range, no-space, letter-lexeme, digit-lexeme, longer-start}
 use Rattle.format_laws.specs.Formatted.{lexeme_bytes, lexeme}
 use Rattle.format_theorems.proofs.Words.{Spelling, word-spelling, numeral-spelling}
+use mathlib.Core.List.{[]}
 
 -- ---- spellings
 -- a byte with which a word or a numeral might go on
@@ -89,6 +90,7 @@ word-lexeme : (w r : List ℕ) (p : ℕ) → LongestRun is_letter is_word w r �
 word-lexeme w r p h = go w h.starts h.every
   where
     go : (w : List ℕ) → Starts is_letter w → all is_word w ≡ true → lexeme_of (w ++ r) p ≡ Scan.lexeme p (length w) (word_token w)
+    go [] x'' a = elim x'' [ ]
     go (c ∷ cs) (first l) a =
         letter-lexeme c (cs ++ r) p l
         ∙ ap (λ (n : ℕ). Scan.lexeme p n (word_token (take n ((c ∷ cs) ++ r)))) (run_length is_word (c ∷ cs) r a h.stops)
@@ -109,9 +111,11 @@ lexeme-of (stray c q s l d k) e n p = let z : ◌≡◌ {A = ℕ} 0 1 = cc in ab
 
 -- no word and no numeral begins with a blank
 front-letter : (w r : List ℕ) → Starts is_letter w → run_len is_space (w ++ r) ≡ 0
+front-letter [] r x' = elim x' [ ]
 front-letter (c ∷ cs) r (first l) = rw (no-space c (omega (arith, letter-range c l)))
 
 front-digit : (w r : List ℕ) → Starts is_digit w → run_len is_space (w ++ r) ≡ 0
+front-digit [] r x' = elim x' [ ]
 front-digit (c ∷ cs) r (first d) = rw (no-space c (omega (arith, digit-range c d)))
 
 front : {w r : List ℕ} {j : Scanned} {x : Token} → LongestLexeme w r j → j ≡ Good x → is_no_symbol x ≡ true → run_len is_space (w ++ r) ≡ 0

@@ -50,6 +50,7 @@ abbrev pub is_first : ℕ → Bool
 is_first c = not (is_equals c)
 
 first_stops : (x r : List ℕ) → Starts is_first x → Stops is_equals (x ++ r)
+first_stops [] r x'' = elim x'' [ ]
 first_stops (c ∷ cs) r (first e) = go (is_equals c) refl e
   where
     go : (b : Bool) → is_equals c ≡ b → not b ≡ true → Stops is_equals ((c ∷ cs) ++ r)
@@ -57,9 +58,11 @@ first_stops (c ∷ cs) r (first e) = go (is_equals c) refl e
     go false q e = other q
 
 longer : {P : ℕ → Bool} (x y : List ℕ) → Starts P x → Starts P (x ++ y)
+longer {P = P} [] y x'' = elim x'' [ ]
 longer (c ∷ cs) y (first e) = first e
 
 not-equals : (P : ℕ → Bool) → P (byte "=") ≡ false → (w : List ℕ) → Starts P w → Starts is_first w
+not-equals P f [] x' = elim x' [ ]
 not-equals P f (c ∷ cs) (first e) =
     by-test (is_equals c) (λ t. no (sym f ∙ ap P (eqb-true (byte "=") c t) ∙ e)) (λ t. first (rw t))
 

@@ -48,6 +48,7 @@ record Tokens (s : List ℕ) (t : Tree) (x : List ℕ) : Type 0 where
   some : 1 ≤ length x
 
 starts-some : {P : ℕ → Bool} (x : List ℕ) → Starts P x → 1 ≤ length x
+starts-some {P = P} [] x'' = elim x'' [ ]
 starts-some (c ∷ cs) (first e) = omega arith
 
 tokens-again : (s : List ℕ) (t : Tree) → AcceptedFrom 0 s t → Tokens s t (formatted s t)

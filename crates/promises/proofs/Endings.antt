@@ -131,6 +131,7 @@ module _ (m : List ℕ) (size : length m ≡ image_size) where
 
     arrives : (v : Value) → is_finite v ≡ true → (d : Destination) → a.destination ≡ d → Sound d
         → StoredOrFault m n a (Ended.Done v) (arrived_answer m v (n + a.count) d) (arrived_memory m v d)
+    arrives v h lost q x'' = elim x'' [ ]
     arrives v h (Goes.cell _ _) q (cell {b} {i} l) = rw (there b i l) (kept v b i (rw (there b i l) tt) h q (encode_cell b v) refl)
     arrives v h (Goes.fault _) q (fault {f}) = rw (flag f) (Term.no_element h q)
 
