@@ -1,10 +1,10 @@
 -- What a buffer holds of a text that goes on: a byte, some bytes, parentheses around its last part.
-use mathlib.Core.Path.{◌≡◌, refl, sym, ap, subst, ◌∙◌}
+use mathlib.Core.Path.{◌≡◌, sym, ap, subst, ◌∙◌}
 use mathlib.Core.List.{List, [], ◌∷◌, ◌++◌, append_assoc, append-nil}
-use Prim.Native.Nat.{ℕ, zero, suc, ◌+◌, ◌-◌, ◌≤◌, ◌<◌}
+use Prim.Native.Nat.{ℕ, suc, ◌+◌, ◌-◌, ◌≤◌, ◌<◌}
 use native.Mathlib.Numerals.{add-one}
 use native.Mathlib.Omega.{arith}
-use lib.ListN.{length, get_or, take, drop, set, length-append, length-set, length-take}
+use lib.ListN.{length, get_or, take, drop, set, length-append, length-set}
 use lib.Seq.{take-suc, take-suc-set, length-take-le, take-take, take_at, drop_at, take-add, drop-cons, drop-set-lt}
 use Rattle.words.specs.Ascii.{ascii, byte}
 use Rattle.format_writer.specs.private.Scratch.{Holds, kept, lost, StartsBehind}

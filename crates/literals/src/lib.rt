@@ -1,6 +1,8 @@
 // The single nearest to the decimal n * 10 ^ scale, ties to even, by whole numbers of 64 bits and no float operation. The decimal is a
 // fraction whose denominator is too large for 64 bits, but is the product of two numbers b and a that are not. It is kept as a mixed
 // number, whose remainder is two digits: one below b and one below a.
+#![tactic(auto)]
+
 ghost use Rattle.std.specs.Prelude.{◌≡◌, false, ◌*◌, ◌^◌, ◌≤◌, ◌<◌};
 ghost use Rattle.std.specs.Float.{binary32};
 ghost use Rattle.std.specs.Float.Ieee.{round, to_bits};

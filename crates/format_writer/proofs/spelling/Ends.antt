@@ -1,6 +1,6 @@
 -- Where the token that stands at a place ends: parts of a numeral, and what the scanner found there.
-use mathlib.Core.Path.{◌≡◌, refl, sym, ap, subst, ◌∙◌}
-use mathlib.Core.Bool.{Bool, true, false, and-false}
+use mathlib.Core.Path.{◌≡◌, refl, sym, ap, ◌∙◌}
+use mathlib.Core.Bool.{true, false, and-false}
 use mathlib.Core.List.{List, [], ◌∷◌, map}
 use Prim.Native.Nat.{ℕ, zero, suc, ◌+◌, ◌-◌, ◌≤◌, ◌<◌}
 use native.Mathlib.Nat.{add-zero}
@@ -15,7 +15,7 @@ use Rattle.tokens.specs.declared.Token.TheVariants.{Symbol}
 use Rattle.tokens.specs.declared.Scanned.{Scanned}
 use Rattle.tokens.specs.declared.Scanned.TheVariants.{Good, Bad}
 use Rattle.tokens.specs.Bytes.{is_letter, is_word, is_run, run_len}
-use Rattle.tokens.specs.Numerals.{non_empty, behind_digits, has_part, behind_part, behind_mantissa, is_sign, opens_exponent, tail_len, numeral_len, numeral_of}
+use Rattle.tokens.specs.Numerals.{behind_digits, behind_part, behind_mantissa, is_sign, opens_exponent, tail_len, numeral_len, numeral_of}
 use Rattle.tokens.specs.Symbols.{symbols, symbol_count, symbol_bytes, longest}
 use Rattle.tokens.specs.Words.{word_token}
 use Rattle.tokens.specs.Scan.{Found, lexeme, symbol_lexeme, lexeme_of}
