@@ -1,5 +1,7 @@
 // The words of a report for C. The caller gives the value's pattern: the one of a real takes a comparison of floats, which the library without reals
 // may not hold.
+#![tactic(auto)]
+
 ghost use Rattle.std.specs.Prelude.{◌≡◌, ◌%◌, ◌^◌};
 ghost use Rattle.operations.specs.Operations.{kind_word};
 ghost use Rattle.c_report.specs.Words.{words_with};

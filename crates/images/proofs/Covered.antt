@@ -13,9 +13,8 @@ use Rattle.words.proofs.Laws.{word_laws}
 use Rattle.words.proofs.Digits.{digit-laws}
 use Rattle.values.specs.declared.Fault.TheVariants.{DividedByZero, Overflow, OutOfRange, IndexError}
 use Rattle.memory.specs.declared.Bank.TheVariants.{X, C, «V», N, D, R}
-use Rattle.memory.specs.Layout.{image_size, packed}
+use Rattle.memory.specs.Layout.{image_size}
 use Rattle.memory.proofs.Runs.{run_length, run-bytes}
-use Rattle.images.specs.Bytewise.{old_size}
 use Rattle.images.specs.Conversions.{Corresponds, byte_of, packed_of, unpacked_of}
 use Rattle.images.specs.Theorems.{SameCells, Digits}
 use Rattle.images.proofs.Rows.{row_at, first_byte}

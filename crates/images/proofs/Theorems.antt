@@ -2,14 +2,11 @@
 use mathlib.Core.Path.{◌≡◌, sym}
 use mathlib.Core.Logic.{◌≢◌, inr}
 use mathlib.Core.List.{List}
-use Prim.Native.Nat.{ℕ, ◌/◌, ◌%◌, ◌<◌}
-use native.Mathlib.Decide.{dec_lt}
-use lib.ListN.{length, get_or}
-use lib.Seq.{get_or-drop}
+use Prim.Native.Nat.{ℕ, ◌<◌}
+use lib.ListN.{length}
 use Rattle.words.specs.Laws.{Bytes}
 use Rattle.memory.specs.declared.Bank.TheVariants.{C}
 use Rattle.memory.specs.Layout.{image_size, packed}
-use Rattle.memory.specs.Laws.{is_c}
 use Rattle.memory.proofs.Laws.{packed-laws}
 use Rattle.images.specs.Conversions.{packed_of, unpacked_of}
 use Rattle.images.specs.Theorems.{ImageTheorems}

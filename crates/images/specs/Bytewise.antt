@@ -1,6 +1,6 @@
 -- The old image (paper 01): "Memory is 3,204 bytes, little-endian: X at 0, C at 64 (one byte a bit, any non-zero byte reads 1), V at 128, N at 640, D at
 -- 1152, R at 2176, then the flags IndexError, OutOfRange, Overflow, DividedByZero at 3200 to 3203." The box converts it and reads no cell of it.
-use Rattle.std.specs.Prelude.{List, ℕ, ◌+◌, ◌*◌, take, drop}
+use Rattle.std.specs.Prelude.{ℕ, ◌+◌, ◌*◌, take, drop}
 use Rattle.std.proofs.lemmas.List.Edits.{sets}
 use Rattle.words.specs.Words.{little_endian, bytes_of}
 use Rattle.values.specs.declared.Fault.{Fault}

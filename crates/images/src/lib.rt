@@ -1,4 +1,6 @@
 // The old image and the new one: the conversions, and what corresponds.
+#![tactic(auto)]
+
 ghost use Rattle.std.specs.Prelude.{◌≡◌, ◌++◌, ◌+◌, ◌*◌, ◌/◌, ◌%◌, ◌≤◌, length, get_or, take, drop};
 ghost use Rattle.words.specs.Bits.{bit};
 ghost use Rattle.memory.specs.Layout.{image_size};

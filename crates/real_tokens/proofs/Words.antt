@@ -1,12 +1,12 @@
 -- A word that a table holds is real as its token is.
-use mathlib.Core.Path.{◌≡◌, refl, sym, ap, subst, ◌∙◌}
-use mathlib.Core.Bool.{Bool, true, false, cond}
-use mathlib.Core.List.{List, [], ◌∷◌}
+use mathlib.Core.Path.{◌≡◌, refl, sym, ap, ◌∙◌}
+use mathlib.Core.Bool.{true, false}
+use mathlib.Core.List.{List, ◌∷◌}
 use Prim.Native.Nat.{ℕ, suc, ◌+◌, ◌≤◌, ◌<◌}
 use native.Mathlib.Omega.{arith}
 use lib.Dec.{eqb}
 use lib.ListN.{length, drop_of_length-le}
-use borrow.Author.Tests.{eqb-true, ne_eqb}
+use borrow.Author.Tests.{ne_eqb}
 use Rattle.memory.specs.declared.Bank.{Bank}
 use Rattle.memory.specs.declared.Bank.TheVariants.{X, C, «V», N, D, R}
 use Rattle.memory.specs.Numbers.{bank_number}
@@ -17,9 +17,8 @@ use Rattle.totals.specs.declared.MatchOp.TheVariants as M
 use Rattle.tokens.specs.declared.Function.{Function}
 use Rattle.tokens.specs.declared.Function.TheVariants as F
 use Rattle.tokens.specs.declared.Token.{Token}
-use Rattle.tokens.specs.Scan.{Tok}
 use Rattle.grammar.specs.Tree.{Diagnostic, clear}
-use Rattle.token_table.specs.private.Table.{function_number, pack_token, word_class, word_operand, word_place, entry_of, word_at, listed, tokens_from, Sound}
+use Rattle.token_table.specs.private.Table.{function_number, pack_token, word_class, word_operand, entry_of, word_at, listed, tokens_from, Sound}
 use Rattle.token_table.specs.private.Table.{TokenWord, blank}
 use Rattle.token_table.specs.private.Table.{token, TokenWords}
 use Rattle.token_table.proofs.Laws.{tok, token_class, token_operand, class-packed, operand-packed, place-packed, unpacked, some-class, blank-end}

@@ -1,4 +1,6 @@
 // The first real token of a table (paper 02, request 12): an R cell, the letter R, a real literal, TOREAL, FRAC or AVGR.
+#![tactic(auto)]
+
 ghost use Rattle.std.specs.Prelude.{◌≡◌};
 ghost use Rattle.token_table.specs.private.Table.{word_class, word_operand, listed, TokenWords};
 ghost use Rattle.profile_text.specs.Judge.{token_diagnostic};

@@ -1,5 +1,5 @@
 -- For the contracts of private functions: whether a word's token is real, by its class and operand; and what a word found says.
-use Rattle.std.specs.Prelude.{Bool, true, false, ◌||◌, cond, ℕ, eqb}
+use Rattle.std.specs.Prelude.{Bool, true, false, cond, ℕ, eqb}
 use Rattle.operators.specs.Kinds.{kind_number}
 use Rattle.values.specs.declared.Kind.TheVariants.{Real}
 use Rattle.memory.specs.Numbers.{bank_numbered, bank_typed}
