@@ -73,7 +73,8 @@ number-at D i k w = omega arith
 number-at R i k w = omega arith
 
 -- two blocks that share a byte are one
-pub shared : (b : Bank) (i : ℕ) (c : Bank) (j k : ℕ) → i < (layout_of b).elements → j < (layout_of c).elements → InBlock b i k → InBlock c j k → OneBlock b i c j
+pub shared : (b : Bank) (i : ℕ) (c : Bank) (j k : ℕ) → i < (layout_of b).elements → j < (layout_of c).elements → InBlock b i k → InBlock c j k
+    → OneBlock b i c j
 shared b i c j k h g v w =
     let same : b ≡ c = sym (bank-at b i k h v) ∙ bank-at c j k g w in
     record { bank = same; block = sym (number-at b i k v) ∙ ap (λ (x : Bank). number_at x k) same ∙ number-at c j k w }

@@ -57,7 +57,8 @@ pub data Writes (b : Bank) (i : ℕ) : Effect → Type 0 where
   cell : {n : ℕ} {h : i < (layout_of b).elements} {k : Holdable b n} → Writes b i (Effect.cell b i n h k)
   flag : {f : Fault} → Writes b i (Effect.flag f)
 
-encoded-writes : (b : Bank) (i : ℕ) (h : i < (layout_of b).elements) (e : Encoded) (k : (p : ℕ) → e ≡ Pattern p → Holdable b p) → Writes b i (of_encoded b i h e k)
+encoded-writes : (b : Bank) (i : ℕ) (h : i < (layout_of b).elements) (e : Encoded) (k : (p : ℕ) → e ≡ Pattern p → Holdable b p)
+    → Writes b i (of_encoded b i h e k)
 unfolding of_encoded
 encoded-writes b i h (Pattern p) k = Writes.cell
 encoded-writes b i h (Stopped f) k = Writes.flag

@@ -7,6 +7,7 @@ use Rattle.operators.specs.declared.Position.{Position}
 use Rattle.operators.specs.declared.Position.TheVariants as P
 use Rattle.memory.specs.Cells.{at_position}
 
-pub position-has : (H : Outcome → Type 0) (cell : ℕ → Outcome) → ((i : ℕ) → H (cell i)) → ((f : Fault) → H (Stopped f)) → (p : Position) → H (at_position cell p)
+pub position-has : (H : Outcome → Type 0) (cell : ℕ → Outcome) → ((i : ℕ) → H (cell i)) → ((f : Fault) → H (Stopped f))
+    → (p : Position) → H (at_position cell p)
 position-has H cell each fault (P.At i) = each i
 position-has H cell each fault (P.Stopped f) = fault f

@@ -98,7 +98,8 @@ module _ (F : ImageLayout) (L : LayoutLaws F) where
       twice : length s ≡ F.size → (a : Bank) (k : ℕ) (x : Value) (e : Bank) (l : ℕ) (y : Value)
           → store_in F (store_in F s a k x) e l y ≡ after F (after F s (storing a k x)) (storing e l y)
       twice z a k x e l y =
-          Effects.stored F L (store_in F s a k x) e l y (same_length s a k x ∙ z) ∙ ap (λ (t : List ℕ). after F t (storing e l y)) (Effects.stored F L s a k x z)
+          Effects.stored F L (store_in F s a k x) e l y (same_length s a k x ∙ z)
+          ∙ ap (λ (t : List ℕ). after F t (storing e l y)) (Effects.stored F L s a k x z)
 
       by : Dec (length s ≡ F.size) → store_in F (store_in F s b i v) c j w ≡ store_in F (store_in F s c j w) b i v
       by (yes e) = twice e b i v c j w ∙ Effects.commute F L s e (apart (writes b i v) (writes c j w) d) ∙ sym (twice e c j w b i v)

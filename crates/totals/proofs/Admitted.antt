@@ -29,7 +29,8 @@ module _ (reals bank other : Bool) (x : Visited) {r : Visited} where
   whole e f g h = rw (e, f, g) h
 
 module _ (reals : Bool) (image : List ℕ) (op : TotalOp) (b : Bank) (i n : ℕ) {r : Visited} where
-  pub total-full : reals ≡ true → ((tick : ℕ) → r ≡ total_over (memory_at tick image) op b i n) → (tick : ℕ) → r ≡ total_in reals (memory_at tick image) op b i n
+  pub total-full : reals ≡ true → ((tick : ℕ) → r ≡ total_over (memory_at tick image) op b i n) → (tick : ℕ)
+      → r ≡ total_in reals (memory_at tick image) op b i n
   total-full e h tick = full reals (real_bank b) (real_total op) _ e (h tick)
 
   pub total-of-reals : reals ≡ false → real_bank b ≡ true → r ≡ no_visit → (tick : ℕ) → r ≡ total_in reals (memory_at tick image) op b i n

@@ -1,4 +1,5 @@
--- Edges of totals, one equation each: zeros of both signs, sums that leave their range, cells that cannot be read, and the IF forms. Singles by their patterns.
+-- Edges of totals, one equation each: zeros of both signs, sums that leave their range, cells that cannot be read, and the IF forms.
+-- Singles by their patterns.
 use mathlib.Core.Path.{◌≡◌, refl}
 use mathlib.Core.Bool.{cond}
 use Prim.Native.Nat.{ℕ}
@@ -6,7 +7,6 @@ use lib.Dec.{eqb}
 use lib.IntN.{ℤ, pos, negsuc}
 use lib.Ieee as Ieee
 use lib.Ieee.{Float, fin, binary32, to_bits, of_bits}
-use Rattle.values.specs.declared.Value.{Value}
 use Rattle.values.specs.declared.Value.TheVariants.{Int, Real}
 use Rattle.values.specs.declared.Fault.{Fault}
 use Rattle.values.specs.declared.Fault.TheVariants.{Overflow, OutOfRange}

@@ -1,4 +1,6 @@
 // Totals over a run of cells (paper 02, Ask 2): specs/Totals.antt.
+#![tactic(auto)]
+
 ghost use Rattle.std.specs.Prelude.{◌≡◌, ℕ, T};
 ghost use Rattle.memory.specs.Cells.{bank_kind, read_rule};
 ghost use Rattle.memory.specs.Environment.{memory_at};

@@ -115,7 +115,9 @@ module _ {s : List ℕ} {at n i v : ℕ} (r : Reads s at n i v) where
 
   -- what was read, and the byte x behind it, where that is no digit
   abbrev Stopped : ℕ → Type 0
-  Stopped x = (v ≡ min (decimal_from n (digits_of (drop at s))) decimal_limit) × (((i ≡ at + length (digits_of (drop at s))) × (i ≤ length s)) × (x ≡ get_or s i 0))
+  Stopped x =
+      (v ≡ min (decimal_from n (digits_of (drop at s))) decimal_limit)
+      × (((i ≡ at + length (digits_of (drop at s))) × (i ≤ length s)) × (x ≡ get_or s i 0))
 
   last : {x : ℕ} → digits_of (drop i s) ≡ [] → x ≡ get_or s i 0 → Stopped x
   last e b =
@@ -132,7 +134,8 @@ module _ {s : List ℕ} {at n i v : ℕ} (r : Reads s at n i v) where
 pub not-digits : (ds : List ℕ) (m : ℕ) → (length (digits_of ds) ≡ length ds → ⊥) → number_below m ds ≡ false
 not-digits ds m h = rw (digits-not ds h, and-false)
 
-module _ (ds : List ℕ) (m v : ℕ) (e : length (digits_of ds) ≡ length ds) (k : v ≡ min (decimal_from 0 (digits_of ds)) decimal_limit) (l : m ≤ decimal_limit) where
+module _ (ds : List ℕ) (m v : ℕ) (e : length (digits_of ds) ≡ length ds) (k : v ≡ min (decimal_from 0 (digits_of ds)) decimal_limit)
+    (l : m ≤ decimal_limit) where
   same : v ≡ min (decimal_value ds) decimal_limit
   same = k ∙ ap (λ (x : List ℕ). min (decimal_value x) decimal_limit) (digits-all ds e).1
 
