@@ -1,5 +1,7 @@
 // Where the value of a run, or a given one, goes: the cell or the element that an index names, and the answer and the flag that follow. `operations`
 // calls these functions, behind the tests that they ask for.
+#![tactic(auto)]
+
 ghost use Rattle.std.specs.Prelude.{◌≡◌, true, ℕ, ◌≤◌};
 ghost use Rattle.memory.specs.Store.{is_finite, with_flag};
 ghost use Rattle.targets.specs.declared.Element.TheVariants.{By};
