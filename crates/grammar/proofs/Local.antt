@@ -148,7 +148,8 @@ module _ {X : Type 0} where
 
 local-range : (k : Bank → ℕ → ℕ → ℤ → Tree) (r : List Tok) → Local (λ r. expect_range r k) r (expect_range r k)
 local-range k r =
-    local-cell _ r (λ b i ys. local-expect comma _ ys (λ zs. local-count _ zs (λ p n us. local-expect close_paren (λ v. ok (k b i p n) v) us (λ vs. kept _ vs))))
+    local-cell _ r
+    (λ b i ys. local-expect comma _ ys (λ zs. local-count _ zs (λ p n us. local-expect close_paren (λ v. ok (k b i p n) v) us (λ vs. kept _ vs))))
 
 local-bind : {X Y : Type 0} {G : List Tok → Result X} {ts : List Tok} {q : Result X} (k : X → List Tok → Result Y) → Local G ts q
     → ((t : X) (r : List Tok) → Local (k t) r (k t r))

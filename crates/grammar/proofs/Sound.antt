@@ -52,7 +52,8 @@ zero-closed n = closed 0 zero_is
 in-parentheses : {w : List Tok} {t : Tree} (p : ℕ) → Closed close_paren w t → Derives 0 (tok (Symbol open_paren) p ∷ w) t
 in-parentheses p (closed q a) = parenthesis q a
 
-in-brackets : {w : List Tok} {t : Tree} (b : Bank) (p q : ℕ) → Closed close_index w t → Derives 0 (tok (Letter b) p ∷ tok (Symbol open_index) q ∷ w) (indexed b t)
+in-brackets : {w : List Tok} {t : Tree} (b : Bank) (p q : ℕ) → Closed close_index w t
+    → Derives 0 (tok (Letter b) p ∷ tok (Symbol open_index) q ∷ w) (indexed b t)
 in-brackets b p q (closed r a) = index r a
 
 -- a first cell, a count and the closing parenthesis, with the tree that k makes of them
@@ -183,7 +184,8 @@ mutual
   sound-primary (suc f) room d (Number v) p xs m = took (tok (Number v) p ∷ []) refl number (passing refl refl nothing)
   sound-primary (suc f) room d (Cell b i) p xs m = took (tok (Cell b i) p ∷ []) refl name (passing refl refl nothing)
   sound-primary (suc f) room d (Letter b) p xs m =
-      enters room open_index xs (tok (Letter b) p ∷ []) (zero_tok ∷ tok (Symbol close_index) 0 ∷ []) (indexed b zero_tree) _ refl m (passing refl refl nothing) refl
+      enters room open_index xs (tok (Letter b) p ∷ []) (zero_tok ∷ tok (Symbol close_index) 0 ∷ []) (indexed b zero_tree)
+      _ refl m (passing refl refl nothing) refl
       (λ q. in-brackets b p q (zero-closed close_index))
       (λ q room' ys m' e. wrap (tok (Letter b) p ∷ tok (Symbol open_index) q ∷ []) (λ t. indexed b t) (sound-bracket f room' d close_index ys m' refl refl)
       (passing refl refl (opener open_index q room' refl m')) (ap (λ (z : List Tok). tok (Letter b) p ∷ z) e) (λ w t a. in-brackets b p q a))

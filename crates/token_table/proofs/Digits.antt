@@ -24,7 +24,8 @@ inside (d ∷ ds) zero c e h = omega arith
 inside (d ∷ ds) (suc i) c e h = let k = inside ds i c e h in omega arith
 
 -- the byte behind the digits
-pub behind : (s : List ℕ) (at : ℕ) {e x : ℕ} → e ≡ at + length (digits_of (drop at s)) → x ≡ get_or s e 0 → x ≡ get_or (drop at s) (length (digits_of (drop at s))) 0
+pub behind : (s : List ℕ) (at : ℕ) {e x : ℕ} → e ≡ at + length (digits_of (drop at s)) → x ≡ get_or s e 0
+    → x ≡ get_or (drop at s) (length (digits_of (drop at s))) 0
 behind s at ends is = is ∙ ap (λ (k : ℕ). get_or s k 0) ends ∙ sym (get_or-drop at s (length (digits_of (drop at s))) 0)
 
 -- digits alone are their own digits

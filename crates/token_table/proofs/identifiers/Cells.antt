@@ -68,7 +68,8 @@ module _ (s : List ℕ) (at : ℕ) (letter : is_letter (get_or s at 0) ≡ true)
   here : drop at s ≡ get_or s at 0 ∷ rest
   here = drop-cons s at 0 (omega (arith, second)) ∙ ap (λ (k : ℕ). get_or s at 0 ∷ drop k s) (sym (add-one at))
 
-  judged : run_lexeme is_word word_token (drop at s) at ≡ lexeme at (suc (run_len is_word rest)) (cell_word (cell_after_letter run (letter_bank (get_or s at 0))))
+  judged : run_lexeme is_word word_token (drop at s) at
+      ≡ lexeme at (suc (run_len is_word rest)) (cell_word (cell_after_letter run (letter_bank (get_or s at 0))))
   judged =
       let both : drop at s ≡ get_or s at 0 ∷ get_or s (at + 1) 0 ∷ drop (suc (at + 1)) s = here ∙ ap (λ (l : List ℕ). get_or s at 0 ∷ l) there in
       rw (both, there) (on_list (get_or s at 0) (get_or s (at + 1) 0) (drop (suc (at + 1)) s) at letter digit)
@@ -136,7 +137,8 @@ module _ (s : List ℕ) (at : ℕ) (letter : is_letter (get_or s at 0) ≡ true)
           some : 0 < length run
           some = rw (there, digit-word (get_or s (at + 1) 0) digit) (omega arith)
 
-      pub cell : v < elements → (get_or s (at + 1) 0 ≡ 48 → e ≡ at + 2) → Lexes (run_lexeme is_word word_token (drop at s) at) (pack_fields 3 (bank_number b) v 0) e
+      pub cell : v < elements → (get_or s (at + 1) 0 ≡ 48 → e ≡ at + 2)
+          → Lexes (run_lexeme is_word word_token (drop at s) at) (pack_fields 3 (bank_number b) v 0) e
       cell l z =
           let h = below run elements v only made (few b) (plain z) l in
           let n : suc (run_len is_word rest) ≡ suc (length run) = rw length-take (omega (arith, run-most is_word rest)) in

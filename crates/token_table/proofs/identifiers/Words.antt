@@ -63,7 +63,8 @@ module _ (s : List ℕ) (at : ℕ) where
         → Lexes (run_lexeme is_word word_token (drop at s) at) w (at + 1)
     a-letter b e k = whole_run is_word word_token s at one (sym (letter-run ∙ ap letter_word e)) k
 
-    pub no-letter : {w n : ℕ} → letter_bank (get_or s at 0) ≡ Other → ((p : ℕ) → Lexes (Wrong 6 p) w n) → Lexes (run_lexeme is_word word_token (drop at s) at) w n
+    pub no-letter : {w n : ℕ} → letter_bank (get_or s at 0) ≡ Other → ((p : ℕ) → Lexes (Wrong 6 p) w n)
+        → Lexes (run_lexeme is_word word_token (drop at s) at) w n
     no-letter e = refused-run one (letter-run ∙ ap letter_word e)
 
   -- ---- more bytes

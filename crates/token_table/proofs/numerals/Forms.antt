@@ -313,7 +313,8 @@ module _ (s : List ℕ) (at : ℕ) (o : OtherNumeral s at) where
   next-byte = get_or (drop at s) (length (digits_of (drop at s))) 0
 
   pub rest-run : {e w : ℕ} {r : Scanned} → e ≡ at + run_len is_run (drop at s)
-      → r ≡ (let u = take (e - at) (drop at s) in cond (is_hex_run u) (hex_of (drop 2 u)) (Bad 4)) → w ≡ scanned_word r → Lexes (numeral_lexeme (drop at s) at) w e
+      → r ≡ (let u = take (e - at) (drop at s) in cond (is_hex_run u) (hex_of (drop 2 u)) (Bad 4)) → w ≡ scanned_word r
+      → Lexes (numeral_lexeme (drop at s) at) w e
   rest-run {e} {w} {r} ends is word =
       let cs = drop at s in
       let n = run_len is_run cs in
