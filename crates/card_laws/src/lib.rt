@@ -2,6 +2,8 @@
 // code.
 
 // What a judge says of a target and an expression, or of a card: nothing, or the answer that refuses it.
+#![tactic(auto)]
+
 #[derive(Clone, Copy)]
 pub enum Verdict {
     Fine,

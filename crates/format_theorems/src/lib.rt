@@ -1,1 +1,2 @@
 // What formatting a formula promises (paper 02, request 10): the theorems.
+#![tactic(auto)]

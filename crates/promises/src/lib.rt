@@ -1,1 +1,2 @@
 // What the operations promise: definitions and theorems, no code.
+#![tactic(auto)]
