@@ -1,4 +1,6 @@
 // A formula's text as it is saved: written out from its tree, with parentheses where operators are mixed.
+#![tactic(auto)]
+
 ghost use Rattle.std.specs.Prelude.{◌≡◌, ◌||◌, List, ℕ, ◌≤◌, ◌<◌, max, eqb, length};
 ghost use Rattle.words.specs.Ascii.{byte};
 ghost use Rattle.token_table.specs.private.Table.{TokenWords};

@@ -90,7 +90,7 @@ fn operator(text: &[u8], out: &mut [u8], n: usize, w: u64) -> usize
 }
 
 // expression: operand { infix expression of a tighter group }
-#[cycle(expression_list_operand_primary)]
+#[cycle(walk)]
 fn expression(text: &[u8], table: &[u64], out: &mut [u8], at: usize, n: usize, level: u8) -> Piece
     requires { Position text.now table.now at × Counted n out.old × Some (SaysExpression level text.now (tokens_from table.now at)) }
     ensures { Formats (SaysExpression level text.now (tokens_from table.now at)) text.now
@@ -119,7 +119,7 @@ fn expression(text: &[u8], table: &[u64], out: &mut [u8], at: usize, n: usize, l
 }
 
 // operand: { - | ~ | ! } primary
-#[cycle(expression_list_operand_primary)]
+#[cycle(walk)]
 fn operand(text: &[u8], table: &[u64], out: &mut [u8], at: usize, n: usize) -> Piece
     requires { Position text.now table.now at × Counted n out.old × Some (SaysOperand text.now (tokens_from table.now at)) }
     ensures { Formats (SaysOperand text.now (tokens_from table.now at)) text.now
@@ -139,7 +139,7 @@ fn operand(text: &[u8], table: &[u64], out: &mut [u8], at: usize, n: usize) -> P
 }
 
 // primary: number | cell | letter [ expression ] | name ( arguments ) | ( expression )
-#[cycle(expression_list_operand_primary)]
+#[cycle(walk)]
 fn primary(text: &[u8], table: &[u64], out: &mut [u8], at: usize, n: usize) -> Piece
     requires { Position text.now table.now at × Counted n out.old × Some (SaysPrimary text.now (tokens_from table.now at)) }
     ensures { Formats (SaysPrimary text.now (tokens_from table.now at)) text.now
@@ -168,7 +168,7 @@ fn primary(text: &[u8], table: &[u64], out: &mut [u8], at: usize, n: usize) -> P
 }
 
 // list: [ expression { , expression } ] closer. The cell and the count of a range are expressions too.
-#[cycle(expression_list_operand_primary)]
+#[cycle(walk)]
 fn list(text: &[u8], table: &[u64], out: &mut [u8], at: usize, n: usize) -> Piece
     requires { Position text.now table.now at × Counted n out.old × Some (SaysList text.now (tokens_from table.now at)) }
     ensures { Formats (SaysList text.now (tokens_from table.now at)) text.now

@@ -1,6 +1,8 @@
 // The operations of paper 01 with the targets of paper 02: compile, compile a target, check, run, compile and run, and the two
 // halves of a run, evaluate and store. None asks anything of its caller: a bad request is refused with its number, and then nothing is written.
 // Each stands twice: `.._in` is that of the full box (reals true) or of the profile without reals (false), and behind it comes the full box's own.
+#![tactic(auto)]
+
 ghost use Rattle.std.specs.Prelude.{◌≡◌, ◌≤◌, length};
 ghost use Rattle.profile_text.specs.Targets.{target_in};
 ghost use Rattle.compiler.specs.Compile.{compiling, coded_bytes};

@@ -17,7 +17,7 @@ use Rattle.tokens.specs.Bytes.{run_len}
 use Rattle.tokens.specs.Symbols.{equal_bytes}
 use Rattle.tokens.proofs.Same.{unlike}
 use Rattle.lines.specs.Lines.{except}
-use Rattle.card_laws.specs.Lines.{ended, Lacks, Field, field, wrong, to_end, rest_of_line, begins, field_of}
+use Rattle.card_laws.specs.Lines.{ended, Field, field, wrong, to_end, rest_of_line, begins, field_of}
 use Rattle.card_laws.specs.Cards.{card_key, card_number, is_check}
 use Rattle.card_laws.proofs.Lines.{field_is}
 use Rattle.card_file.specs.declared.form.Field.TheVariants.{Value, Wrong}

@@ -1,21 +1,20 @@
 -- The four lines, found one after the other: one law for each way through `card_form`. Assumes nothing.
-use mathlib.Core.Path.{◌≡◌, refl, sym, ap, subst, ◌∙◌}
+use mathlib.Core.Path.{◌≡◌, sym, ap, ◌∙◌}
 use mathlib.Core.Bool.{Bool, true, false, ◌&&◌, cond, and-false}
-use mathlib.Core.List.{List, [], ◌∷◌, ◌++◌}
-use Prim.Native.Nat.{ℕ, suc, ◌+◌, ◌-◌, ◌≤◌, ◌<◌}
+use mathlib.Core.List.{List}
+use Prim.Native.Nat.{ℕ, ◌+◌, ◌-◌, ◌≤◌, ◌<◌}
 use native.Mathlib.Omega.{arith}
 use lib.Dec.{ltb}
 use lib.ListN.{length, take, drop, length-drop}
 use lib.Seq.{drop-drop}
 use borrow.Author.Tests.{lt-ltb, le-ltb}
-use Rattle.lines.specs.Printing.{width_of, decimal_text}
+use Rattle.lines.specs.Printing.{width_of}
 use Rattle.lines.proofs.printing.Digits.{length_digits}
-use Rattle.card_laws.specs.Lines.{Field, field, wrong, field_of}
+use Rattle.card_laws.specs.Lines.{field, field_of}
 use Rattle.card_laws.specs.Cards.{card_key, target_key, expr_key, check_key, Form, formed, out, card_number, is_check, numbered, with_check, with_expr}
 use Rattle.card_laws.specs.Cards.{with_target, with_number, card_form}
 use Rattle.card_laws.proofs.Cards.{number_is, five}
 use Rattle.card_file.specs.declared.form.Field.TheVariants.{Value, Wrong}
-use Rattle.card_file.specs.declared.form.FourLines.{FourLines}
 use Rattle.card_file.specs.Spans.{length_in, target_at, expr_at, check_at, card_end, spans}
 use Rattle.card_file.proofs.form.Fields.{FieldIn, field_in, no_field}
 

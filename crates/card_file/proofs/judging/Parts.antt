@@ -1,14 +1,14 @@
 -- The parts of a card that stands in its form, as the code takes them out of the text; and the judgement, one law for each way through it. Assumes nothing.
-use mathlib.Core.Path.{◌≡◌, refl, sym, ap, subst, ◌∙◌}
-use mathlib.Core.Bool.{Bool, true, false, cond}
+use mathlib.Core.Path.{◌≡◌, refl, sym, ap, ◌∙◌}
+use mathlib.Core.Bool.{Bool, true, false}
 use mathlib.Core.List.{List, [], ◌∷◌, ◌++◌}
-use Prim.Native.Nat.{ℕ, suc, ◌+◌, ◌-◌, ◌≤◌, ◌<◌}
+use Prim.Native.Nat.{ℕ, ◌+◌, ◌-◌, ◌≤◌}
 use native.Mathlib.Omega.{arith}
 use lib.Dec.{ltb}
 use lib.ListN.{length, take, drop, length-append}
 use lib.Seq.{take_at, drop_at}
 use Rattle.tokens.specs.Symbols.{equal_bytes}
-use Rattle.lines.specs.Printing.{width_of, decimal_text, low_digits}
+use Rattle.lines.specs.Printing.{width_of, low_digits}
 use Rattle.lines.proofs.printing.Digits.{length_digits}
 use Rattle.text.specs.Judge.{Judgement, accepted, judge}
 use Rattle.text.specs.Judge as Judge
@@ -22,8 +22,8 @@ use Rattle.compiler.specs.Compile.{coded_answer}
 use Rattle.card_laws.specs.declared.Verdict.{Verdict}
 use Rattle.card_laws.specs.declared.Verdict.TheVariants.{Fine, Refusal}
 use Rattle.card_laws.specs.Lines.{ended}
-use Rattle.card_laws.specs.Cards.{card, card_key, target_key, expr_key, check_key, card_line, check_of, checked_lines, check_text, Form, formed, out, card_form}
-use Rattle.card_laws.specs.Reading.{CardRead, taken, refused, unless_refused, judged}
+use Rattle.card_laws.specs.Cards.{card, target_key, expr_key, check_key, card_line, check_of, checked_lines, check_text, Form, formed, out, card_form}
+use Rattle.card_laws.specs.Reading.{unless_refused, judged}
 use Rattle.card_laws.specs.Formulas.{judged_expr, judged_target, formula_answer}
 use Rattle.card_laws.proofs.Cards.{Formed, form-is, five, ended-append}
 use Rattle.card_file.specs.declared.form.FourLines.{FourLines}

@@ -1,9 +1,9 @@
 -- Reading card after card: what was read so far, and what the rest gives. Assumes nothing.
 use mathlib.Core.Path.{◌≡◌, refl, sym, ap, subst, ◌∙◌}
-use mathlib.Core.Bool.{Bool, true}
+use mathlib.Core.Bool.{true}
 use mathlib.Core.List.{List, [], ◌∷◌, ◌++◌, append-nil, append_assoc}
-use Prim.Native.Nat.{ℕ, zero, suc, ◌+◌, ◌-◌, ◌*◌, ◌≤◌, ◌<◌}
-use native.Mathlib.Nat.{add-zero, add_assoc}
+use Prim.Native.Nat.{ℕ, suc, ◌+◌, ◌-◌, ◌*◌, ◌≤◌, ◌<◌}
+use native.Mathlib.Nat.{add-zero}
 use native.Mathlib.Omega.{arith}
 use lib.ListN.{length, take, drop, set, replicate, length-append, length-drop, length-replicate, drop_of_length-le}
 use lib.Seq.{sets, set_comm, drop_at, drop-drop, length-sets}
@@ -13,7 +13,7 @@ use Rattle.lines.specs.private.Steps.{Puts}
 use Rattle.lines.proofs.Stores.{then}
 use Rattle.card_laws.specs.declared.Verdict.TheVariants.{Fine, Refusal}
 use Rattle.card_laws.specs.Cards.{Card, card, number_of, card_bytes, cards_bytes, Form, formed, out, card_form}
-use Rattle.card_laws.specs.Reading.{CardRead, taken, refused, CardsRead, good, bad, also_card, then_cards, last_of, judged, read_card, read_from}
+use Rattle.card_laws.specs.Reading.{CardRead, taken, refused, good, bad, then_cards, last_of, judged, read_card, read_from}
 use Rattle.card_laws.specs.Reading.{read_cards, GoodCard, Valid, none, next}
 use Rattle.card_laws.specs.Formulas.{formula_answer}
 use Rattle.card_laws.proofs.Formulas.{judge-laws}
@@ -49,7 +49,8 @@ not-out d last f e v = go (card_form d) e v
     go out q w = absurd (let z : ◌≡◌ {A = ℕ} 0 1 = cc in omega arith)
     go (formed n t e k r) q w = ap (λ (l : FourLines). l.good) q
 
-pub card-taken : (d : List ℕ) (last : ℕ) (f : FourLines) → f ≡ spans (card_form d) → Fine ≡ verdict_in (judged formula_answer last (card_form d)) → Taken d last f
+pub card-taken : (d : List ℕ) (last : ℕ) (f : FourLines) → f ≡ spans (card_form d) → Fine ≡ verdict_in (judged formula_answer last (card_form d)) →
+    Taken d last f
 card-taken d last f e v =
     let p : Parts d f = parts d f e (not-out d last f e v) in
     let q = verdict-taken (judged formula_answer last (card_form d)) v in
@@ -237,7 +238,8 @@ taken_at file at last f e v =
 
 pub stopped-at : {file words : List ℕ} {at to last count a : ℕ} → Reading file words at to last count → at < length file
     → Refusal a ≡ verdict_in (judged formula_answer last (card_form (Rest file at))) → read_words (bad a at) ≡ read_words (read_cards formula_answer file)
-stopped-at {file} {words} {at} {to} {last} g h v = stopped g h (v ∙ ap (λ (s : List ℕ). verdict_in (judged formula_answer last (card_form s))) (rest_of file at))
+stopped-at {file} {words} {at} {to} {last} g h v = stopped g h (v ∙ ap (λ (s : List ℕ). verdict_in (judged formula_answer last (card_form s)))
+    (rest_of file at))
 
 pub long : {file words : List ℕ} {at to last count : ℕ} → Reading file words at to last count → length words ≡ 323
 long {file} {words} g = ap length g.stored.bytes ∙ length-sets (replicate 323 0) 3 (cards_words 0 g.cards) ∙ length-replicate {A = ℕ} 323 0

@@ -1,0 +1,34 @@
+-- `reply` meets its contract: a bad target comes first, then what the text comes to.
+use mathlib.Core.Path.{ap, ◌∙◌}
+use native.Mathlib.Omega.{arith}
+use Rattle.lines.proofs.Stores.{as-text}
+use Rattle.program.specs.Reply.{report_text}
+use Rattle.program.proofs.Answers.{fault-not, refused-not}
+use Rattle.read_reply.proofs.Replies.{target-done, target-not}
+use Rattle.read_reply.proofs.reply.Goals as goal
+
+pub returns-in-Done : goal.returns-in-Done
+returns-in-Done c =
+    record {
+      puts = as-text (target-done c.args.target.now c.args.text.now c.blank_code-index.ensures.1 c.compile_target-answer.ensures.value
+          c.in-Done.is c.compile_target-answer.ensures.index_after) c.reply_to_text.ensures.puts;
+      upper_bound = c.reply_to_text.ensures.upper_bound;
+    }
+
+pub returns-in-Fault : goal.returns-in-Fault
+returns-in-Fault c =
+    let same = target-not c.args.target.now c.args.text.now c.blank_code-index.ensures.1 c.compile_target-answer.ensures.value
+    (fault-not c.in-Fault.is) in
+    record {
+      puts = as-text (ap report_text c.reported.ensures ∙ same) c.put_report.ensures.puts;
+      upper_bound = omega (arith, c.put_report.ensures.upper_bound);
+    }
+
+pub returns-in-Refused : goal.returns-in-Refused
+returns-in-Refused c =
+    let same = target-not c.args.target.now c.args.text.now c.blank_code-index.ensures.1 c.compile_target-answer.ensures.value
+    (refused-not c.in-Refused.is) in
+    record {
+      puts = as-text (ap report_text c.reported-in-Refused.ensures ∙ same) c.put_report-in-Refused.ensures.puts;
+      upper_bound = omega (arith, c.put_report-in-Refused.ensures.upper_bound);
+    }
