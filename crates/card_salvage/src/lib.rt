@@ -1,4 +1,6 @@
 // What is kept of a spoiled file of cards, and what is left out (paper 02, request 7).
+#![tactic(auto)]
+
 ghost use Rattle.std.specs.Prelude.{◌≡◌, length};
 ghost use Rattle.card_laws.specs.Formulas.{formula_answer};
 ghost use Rattle.salvage_laws.specs.Salvage.{salvage};

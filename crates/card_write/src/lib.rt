@@ -1,4 +1,6 @@
 // Writing a file of cards. A refused file leaves the lent buffer as it was, so cards are measured and judged before any is put.
+#![tactic(auto)]
+
 ghost use Rattle.std.specs.Prelude.{◌≡◌, ◌+◌, ◌*◌, ◌≤◌, min, leb, length};
 ghost use Rattle.lines.specs.private.Steps.{Puts};
 ghost use Rattle.card_laws.specs.Cards.{card, checked_lines, card_bytes, cards_bytes};

@@ -1,6 +1,8 @@
 // The operations of the profile without reals for C: include/formula_int.h. Each is the full library's operation with `reals` false, so that nothing
 // of floating point is left in the archive; its test lists the instructions. A slice is a pointer and a length there, and the report is seven
 // 32-bit words.
+#![tactic(auto)]
+
 ghost use Rattle.std.specs.Prelude.{◌≡◌, false};
 ghost use Rattle.operators.specs.Reals.{real_value};
 ghost use Rattle.operations.specs.Operations.{report_of, bits_of, given_value, request_answer, request_memory, request_code, request_index};

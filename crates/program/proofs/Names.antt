@@ -11,7 +11,6 @@ use borrow.Author.Tests.{eq-eqb, lt-ltb}
 use Rattle.memory.specs.declared.Bank.{Bank}
 use Rattle.memory.specs.declared.names.Letter.{Letter}
 use Rattle.memory.specs.declared.names.Letter.TheVariants as L
-use Rattle.memory.specs.declared.names.Named.{Named}
 use Rattle.memory.specs.declared.names.Named.TheVariants.{Cell, Other}
 use Rattle.memory.specs.Layout.{image_size, layout_of, has_cell}
 use Rattle.memory.specs.Names.{letter_bank, no_leading_zero, all_digits, decimal_value, number_below, cell_after_letter, named_rule}

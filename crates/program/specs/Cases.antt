@@ -3,7 +3,6 @@
 use Rattle.std.specs.Prelude.{cond, List, [], ◌∷◌, ℕ, ltb, length, replicate}
 use Rattle.memory.specs.declared.Bank.{Bank}
 use Rattle.memory.specs.declared.names.Named.{Named}
-use Rattle.memory.specs.declared.names.Named.TheVariants as Named
 use Rattle.memory.specs.Layout.{image_size, packed}
 use Rattle.memory.specs.Names.{named_rule}
 use Rattle.tokens.specs.Symbols.{equal_bytes}

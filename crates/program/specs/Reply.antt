@@ -1,7 +1,7 @@
 -- The program's reply to a case (paper 01, "Sheet of sums"): the answer, its place and, on answer 0, the cell stored to, after the store (paper 02: "The
 -- program prints the cell stored to, as `D42=`."). "A refusal or fault prints the first two lines only." Each line ends with byte 10. No reply is longer
 -- than 64 bytes: that is part of the contract of `respond`.
-use Rattle.std.specs.Prelude.{◌≡◌, cond, List, [], ◌∷◌, ◌++◌, ℕ, ◌≤◌, ◌<◌, ltb, length, take}
+use Rattle.std.specs.Prelude.{◌≡◌, cond, List, [], ◌++◌, ℕ, ◌≤◌, ◌<◌, ltb, length, take}
 use Rattle.std.proofs.lemmas.List.Edits.{sets}
 use Rattle.values.specs.declared.Value.{Value}
 use Rattle.memory.specs.declared.Bank.{Bank}

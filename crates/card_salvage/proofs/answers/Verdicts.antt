@@ -1,15 +1,14 @@
 -- The answer to a part: one law for each way through `part_answer`. Assumes nothing.
-use mathlib.Core.Path.{◌≡◌, refl, sym, ap, subst, ◌∙◌}
-use mathlib.Core.Bool.{Bool, true, false}
+use mathlib.Core.Path.{◌≡◌, refl, sym, ap, ◌∙◌}
 use mathlib.Core.List.{List, [], ◌∷◌, ◌++◌}
-use Prim.Native.Nat.{ℕ, suc, ◌+◌, ◌≤◌, ◌<◌}
+use Prim.Native.Nat.{ℕ, ◌+◌}
 use native.Mathlib.Omega.{arith}
 use lib.ListN.{length, length-append}
 use Rattle.lines.specs.Printing.{width_of, decimal_text}
 use Rattle.lines.proofs.printing.Digits.{length_digits}
 use Rattle.card_laws.specs.declared.Verdict.TheVariants.{Fine, Refusal}
 use Rattle.card_laws.specs.Lines.{ended}
-use Rattle.card_laws.specs.Cards.{Card, card, number_of, target_key, expr_key, check_key, card_line, Form, formed, out, card_form}
+use Rattle.card_laws.specs.Cards.{number_of, target_key, expr_key, check_key, Form, formed, out, card_form}
 use Rattle.card_laws.specs.Reading.{CardRead, taken, refused, judged}
 use Rattle.card_laws.specs.Formulas.{formula_answer}
 use Rattle.card_laws.proofs.Cards.{Formed, form-is, five, judged-is}
@@ -65,7 +64,8 @@ module _ (p : List ℕ) (last : ℕ) (f : FourLines) (h : f ≡ spans (card_form
     unfolding spans judged
     kept v = go (card_form p) h v ∙ sym (ap (λ (x : Form). answer_in (answer_of (judged formula_answer last x))) nothing-more)
       where
-        go : (x : Form) → f ≡ spans x → Fine ≡ verdict_in (judged formula_answer last x) → Keeps f.number ≡ answer_in (answer_of (judged formula_answer last x))
+        go : (x : Form) → f ≡ spans x → Fine ≡ verdict_in (judged formula_answer last x)
+            → Keeps f.number ≡ answer_in (answer_of (judged formula_answer last x))
         go out w u = absurd (let z : ◌≡◌ {A = ℕ} 0 1 = cc in omega arith)
         go (formed m t e k r) w u = by (judged formula_answer last (formed m t e k r)) refl u
           where

@@ -1,7 +1,7 @@
 -- What is left of both rooms, part after part: one law for each way through `measure`; and rooms that need no measuring. Assumes nothing.
 use mathlib.Core.Path.{◌≡◌, refl, sym, ap, subst, ◌∙◌}
 use mathlib.Core.Bool.{Bool, true, false, ◌&&◌, and-false}
-use mathlib.Core.List.{List, [], ◌∷◌, ◌++◌}
+use mathlib.Core.List.{List, []}
 use Prim.Native.Nat.{ℕ, ◌+◌, ◌*◌, ◌-◌, ◌≤◌, ◌<◌}
 use native.Mathlib.Omega.{arith}
 use lib.Dec.{leb}
@@ -22,7 +22,8 @@ both-fit f {room} {other} h k =
     sym (ap (λ (b : Bool). b && leb (length named) other) (le-leb (length kept) room h) ∙ le-leb (length named) other k)
 
 -- enough for every file of this size
-pub roomy : (f : List ℕ) {room other : ℕ} → length f < 1000000 → length f ≤ room → 6 * length f + 64 ≤ other → true ≡ fits room other (salvaged formula_answer f)
+pub roomy : (f : List ℕ) {room other : ℕ} → length f < 1000000 → length f ≤ room → 6 * length f + 64 ≤ other
+    → true ≡ fits room other (salvaged formula_answer f)
 roomy f u h k = both-fit f (omega (arith, salvage-theorems.shorter f)) (omega (arith, salvage-theorems.names f u))
 
 -- what is left of each room, with what is left for it, makes the whole
@@ -60,7 +61,8 @@ module _ {f : List ℕ} {room other left named-left at last : ℕ} (r : Rooms f 
       sym (ap (λ (b : Bool). leb (length kept-bytes) room && b) (lt-leb (length named-bytes) other (omega (arith, r.named, named-next t, e)))
       ∙ and-false (leb (length kept-bytes) room))
 
-  pub next : {end n m : ℕ} {a : Answer} → Taken f last at end a → n ≡ kept_size a (end - at) → m ≡ length (name_of a at (end - at)) → n ≤ left → m ≤ named-left
+  pub next : {end n m : ℕ} {a : Answer} → Taken f last at end a → n ≡ kept_size a (end - at) → m ≡ length (name_of a at (end - at)) → n ≤ left
+      → m ≤ named-left
       → {last' : ℕ} → last' ≡ last_in last a → Rooms f room other (left - n) (named-left - m) end last'
   next {end} {n} {m} {a} t e d h k {last'} l =
       subst (Rooms f room other (left - n) (named-left - m) end) (sym l)

@@ -31,7 +31,8 @@ pub record Taken (f : List ℕ) (last at end : ℕ) (a : Answer) : Type 0 where
   pub named : named_bytes (parts_left f last at) ≡ name_of a at (end - at) ++ named_bytes (parts_left f (last_in last a) end)
   pub size : kept_size a (end - at) ≡ length (kept_of a (take (end - at) (drop at f)))
 
-pub taken : {f : List ℕ} (last : ℕ) {at end : ℕ} {a : Answer} → PartTo f at end → a ≡ answer_in (part_answer formula_answer last (take (end - at) (drop at f)))
+pub taken : {f : List ℕ} (last : ℕ) {at end : ℕ} {a : Answer} → PartTo f at end
+    → a ≡ answer_in (part_answer formula_answer last (take (end - at) (drop at f)))
     → Taken f last at end a
 taken {f} last {at} {end} {a} p e =
     record {

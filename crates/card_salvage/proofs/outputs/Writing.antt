@@ -1,17 +1,16 @@
 -- Both outputs, part after part: what stands in the buffers and what is left make the whole. Assumes nothing.
 use mathlib.Core.Path.{◌≡◌, refl, sym, ap, subst, ◌∙◌}
 use mathlib.Core.List.{List, [], ◌∷◌, ◌++◌, append-nil, append_assoc}
-use Prim.Native.Nat.{ℕ, ◌+◌, ◌-◌, ◌≤◌, ◌<◌}
+use Prim.Native.Nat.{ℕ, ◌+◌, ◌-◌, ◌≤◌}
 use native.Mathlib.Omega.{arith}
 use lib.ListN.{length, take, drop, length-append}
-use lib.Seq.{sets, length-sets}
+use lib.Seq.{length-sets}
 use Rattle.words.specs.Ascii.{ascii}
 use Rattle.lines.specs.Printing.{decimal_text}
 use Rattle.lines.specs.private.Steps.{Puts}
 use Rattle.lines.proofs.Stores.{then, as-text}
-use Rattle.card_laws.specs.Lines.{ended}
 use Rattle.card_laws.specs.Formulas.{formula_answer}
-use Rattle.salvage_laws.specs.Salvage.{Part, kept_bytes, named_bytes, name_lines, salvaged}
+use Rattle.salvage_laws.specs.Salvage.{kept_bytes, named_bytes, name_lines, salvaged}
 use Rattle.card_salvage.specs.declared.answers.Answer.{Answer}
 use Rattle.card_salvage.specs.private.Steps.{last_in, kept_of, name_of}
 use Rattle.card_salvage.proofs.outputs.Taken.{parts_left, none_left, Taken}

@@ -6,7 +6,6 @@ use Prim.Native.Nat.{ℕ, ◌<◌}
 use native.Mathlib.Omega.{arith}
 use Rattle.memory.specs.declared.Bank.{Bank}
 use Rattle.memory.specs.declared.names.Named.{Named}
-use Rattle.memory.specs.declared.names.Named.TheVariants as Named
 use Rattle.memory.specs.Layout.{packed}
 use Rattle.memory.specs.Laws.{Bits, is_x, is_c, Holdable}
 use Rattle.memory.specs.Names.{decimal_value, number_below}
