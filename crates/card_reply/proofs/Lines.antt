@@ -42,7 +42,8 @@ module _ (file : List ℕ) {ws ws' : List ℕ} (e : ws ≡ ws') where
   far-reply z q h = rw (← e, ne_eqb (get_or ws 0 0) 0 z, drop_of_length-le file {i = get_or ws 1 0} (omega arith))
 
   pub bad-reply : (get_or ws 0 0 ≡ 0 → ⊥) → {p : ℕ} → p ≡ get_or ws 1 0
-      → result_lines (get_or ws 0 0) (get_or ws 1 0) (get_or ws 2 0) ++ refused_lines (take (length file - p) (drop p file)) (get_or ws 0 0) ≡ reply_text file ws'
+      → result_lines (get_or ws 0 0) (get_or ws 1 0) (get_or ws 2 0) ++ refused_lines (take (length file - p) (drop p file)) (get_or ws 0 0)
+      ≡ reply_text file ws'
   bad-reply z q = rw (
     ← e,
     q,

@@ -1,4 +1,6 @@
 // What the program `cards` prints of a file: three lines, and two more of a refused file, for whoever stands before it.
+#![tactic(auto)]
+
 ghost use Rattle.std.specs.Prelude.{◌≡◌, ◌+◌, ◌≤◌, length};
 ghost use Rattle.lines.specs.private.Steps.{Puts};
 ghost use Rattle.card_laws.specs.Reading.{read_cards};

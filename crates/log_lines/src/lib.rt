@@ -1,4 +1,6 @@
 // What one line of a log does (paper 02, request 13): a change of a cell, a tick, a run of a card.
+#![tactic(auto)]
+
 ghost use Rattle.std.specs.Prelude.{◌≡◌, [], ◌++◌, suc, ◌+◌, ◌≤◌, length, take};
 ghost use Rattle.memory.specs.Layout.{image_size};
 ghost use Rattle.words.specs.Ascii.{ascii};

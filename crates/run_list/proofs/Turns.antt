@@ -1,14 +1,12 @@
 -- One turn after the other: the formulas before stand run, with their answers in the first places.
 use mathlib.Core.Path.{◌≡◌, refl, sym, ap, subst, ◌∙◌}
-use mathlib.Core.Bool.{true, false}
 use mathlib.Core.List.{List, [], ◌∷◌, ◌++◌, append-nil, append_assoc}
-use Prim.Native.Nat.{ℕ, zero, suc, ◌+◌, ◌-◌, ◌*◌, ◌/◌, ◌≤◌, ◌<◌}
+use Prim.Native.Nat.{ℕ, suc, ◌+◌, ◌-◌, ◌*◌, ◌/◌, ◌≤◌, ◌<◌}
 use native.Mathlib.Omega.{arith}
 use lib.ListN.{length, take, drop, get_or, set, replicate, length-append, length-drop}
-use lib.Seq.{drop-drop, get_or-drop, set_at, append_snoc}
+use lib.Seq.{drop-drop, get_or-drop, set_at}
 use borrow.Author.Tests.{lt-ltb, le-ltb}
 use Rattle.delivery.specs.declared.Answer.{Answer}
-use Rattle.operations.specs.declared.Report.{Report}
 use Rattle.operations.specs.Operations.{report_of}
 use Rattle.list_laws.specs.Running.{Listed, formulas_of, Buffers, stepped, answered, after, answers_of, most_listed, ListRun, ran_list}
 use Rattle.list_laws.specs.Independence.{SameLengths}

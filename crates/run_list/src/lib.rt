@@ -1,4 +1,6 @@
 // A list of formulas, run in turn by compile-and-run: "past their faults and refusals".
+#![tactic(auto)]
+
 ghost use Rattle.std.specs.Prelude.{◌≡◌};
 ghost use Rattle.list_laws.specs.Running.{ran_table};
 ghost use Rattle.run_list.specs.private.Parts.{PartOf};
