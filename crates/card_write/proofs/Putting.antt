@@ -12,7 +12,8 @@ use Rattle.lines.specs.Printing.{low_digits, decimal_text}
 use Rattle.lines.specs.private.Steps.{Puts}
 use Rattle.lines.proofs.Stores.{then, as-text}
 use Rattle.card_laws.specs.Lines.{ended}
-use Rattle.card_laws.specs.Cards.{Card, card, card_key, target_key, expr_key, check_key, card_line, check_of, checked_lines, check_text, card_bytes, cards_bytes}
+use Rattle.card_laws.specs.Cards.{Card, card, card_key, target_key, expr_key, check_key, card_line, check_of, checked_lines, check_text}
+use Rattle.card_laws.specs.Cards.{card_bytes, cards_bytes}
 use Rattle.card_laws.specs.Writing.{CardsWritten, done, unwritten, written_bytes, write_from}
 use Rattle.card_laws.specs.Formulas.{formula_answer}
 use Rattle.card_laws.proofs.Cards.{ended-append}

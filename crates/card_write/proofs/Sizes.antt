@@ -141,7 +141,8 @@ room_next r l e = record { total = omega (arith, r.total, rest-size l) }
 pub nothing_left : (texts ws : List ℕ) (n k : ℕ) → n ≤ k → from texts ws n k ≡ []
 nothing_left texts ws n k h = let z : n - k ≡ 0 = omega arith in ap (λ (i : ℕ). first_cards texts i (drop (5 * k) ws)) z
 
-pub room-end : {texts ws : List ℕ} {room rest k : ℕ} → Room texts ws room rest k → length ws / 5 ≤ k → true ≡ leb (length (cards_bytes (cards_in texts ws))) room
+pub room-end : {texts ws : List ℕ} {room rest k : ℕ} → Room texts ws room rest k → length ws / 5 ≤ k
+    → true ≡ leb (length (cards_bytes (cards_in texts ws))) room
 room-end {texts} {ws} {room} {rest} {k} r h =
     sym (le-leb (length (cards_bytes (cards_in texts ws))) room (omega (
       arith,
@@ -268,7 +269,8 @@ pub clip : (texts : List ℕ) (a n t m : ℕ) → t ≡ min a (length texts) →
 clip texts a n t m p q =
     let i : t + m - t ≡ min n (length texts - min a (length texts)) = omega (arith, ap (λ (x : ℕ). min n (length texts - x)) p) in
     record {
-      bytes = ap (λ (k : ℕ). take k (drop t texts)) i ∙ ap (λ (x : ℕ). take (min n (length texts - min a (length texts))) (drop x texts)) p ∙ clipped texts a n;
+      bytes = ap (λ (k : ℕ). take k (drop t texts)) i ∙ ap (λ (x : ℕ). take (min n (length texts - min a (length texts))) (drop x texts)) p
+          ∙ clipped texts a n;
       order = omega arith;
       inside = omega arith;
     }

@@ -1,7 +1,7 @@
 -- The line at the front of a log. Assumes nothing.
 use mathlib.Core.Path.{◌≡◌, refl, sym, ap, subst, ◌∙◌}
 use mathlib.Core.Bool.{Bool, true, false, not, cond}
-use mathlib.Core.List.{List, [], ◌∷◌}
+use mathlib.Core.List.{List, [], ◌∷◌, ◌++◌}
 use Prim.Native.Nat.{ℕ, suc, ◌≤◌, ◌<◌}
 use native.Mathlib.Omega.{arith}
 use lib.Dec.{eqb}
@@ -10,10 +10,10 @@ use lib.Seq.{take_all}
 use borrow.Author.Tests.{lt-ltb}
 use Rattle.tokens.proofs.Runs.{run-every}
 use Rattle.lines.specs.Lines.{except}
-use Rattle.card_laws.specs.Lines.{line_end, ended, Lacks, field, wrong, to_end, rest_of_line}
+use Rattle.card_laws.specs.Lines.{line_end, ended, Lacks, Field, field, wrong, to_end, rest_of_line}
 use Rattle.card_laws.proofs.Lines.{line-length, Lined, rest-lined, rest-there}
 use Rattle.salvage_laws.specs.Cut.{onto_first}
-use Rattle.log_laws.specs.Log.{bad, text_entry, ended_entry, log_lines, log_entry_of}
+use Rattle.log_laws.specs.Log.{LogEntry, bad, text_entry, ended_entry, log_lines, log_entry_of}
 use Rattle.log_laws.proofs.Lines.{unended-bad}
 
 -- ---- the lines of a log are its first line and the lines behind it

@@ -4,12 +4,14 @@ use mathlib.Core.Bool.{Bool, true, false, cond}
 use mathlib.Core.List.{List}
 use Prim.Native.Nat.{ℕ, zero, suc, ◌^◌, ◌≤◌, ◌<◌}
 use native.Mathlib.Omega.{arith}
+use lib.Dec.{ltb}
 use lib.ListN.{length, take, drop}
 use borrow.Author.Tests.{lt-ltb, le-ltb}
 use Rattle.words.specs.Ascii.{ascii}
 use Rattle.memory.specs.declared.Bank.{Bank}
 use Rattle.memory.specs.declared.Bank.TheVariants.{X, C, «V», N, D, R}
 use Rattle.memory.specs.declared.names.Named.{Named}
+use Rattle.memory.specs.declared.names.Named.TheVariants as Named
 use Rattle.memory.specs.Layout.{layout_of}
 use Rattle.memory.specs.Laws.{Holdable}
 use Rattle.memory.specs.Names.{named_rule}
@@ -25,7 +27,7 @@ use Rattle.card_laws.specs.Cards.{card_number}
 use Rattle.log_laws.specs.Log.{LogEntry, change, tick, run, bad, tick_entry, run_entry, change_entry, cell_entry, keyed_entry, text_entry}
 use Rattle.log_laws.proofs.Entries.{Within, of-change, of-bad, holdable, text-within}
 use Rattle.log_lines.specs.declared.entry.Entry.{Entry}
-use Rattle.log_lines.specs.declared.entry.Entry.TheVariants.{Change, Run, Bad}
+use Rattle.log_lines.specs.declared.entry.Entry.TheVariants.{Change, Tick, Run, Bad}
 use Rattle.log_lines.specs.private.Steps.{entry_in, EntryInside}
 
 pub tick_is : (v : List ℕ) {f : Form} → f ≡ hex_form v → entry_in (tick_entry f) ≡ entry_in (tick_entry (hex_form v))

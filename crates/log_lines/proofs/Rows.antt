@@ -1,26 +1,28 @@
 -- The words of a good file: card by card, where target and expression stand in it. Assumes nothing.
 use mathlib.Core.Path.{◌≡◌, refl, sym, ap, subst, ◌∙◌}
-use mathlib.Core.Bool.{Bool, cond}
+use mathlib.Core.Bool.{Bool, true, false, cond}
 use mathlib.Core.List.{List, [], ◌∷◌, ◌++◌, append_assoc}
 use Prim.Native.Nat.{ℕ, suc, ◌+◌, ◌-◌, ◌*◌, ◌≤◌, ◌<◌}
 use native.Mathlib.Nat.{add-zero, zero-add}
 use native.Mathlib.Omega.{arith}
+use lib.Dec.{eqb}
 use lib.ListN.{length, take, drop, get_or, replicate, length-append, length-replicate}
-use lib.Seq.{take-append_seam, drop-append_seam, get_or-take}
+use lib.Seq.{sets, take-append_seam, drop-append_seam, get_or-take, length-sets}
 use borrow.Author.Tests.{eq-eqb, ne_eqb}
 use Rattle.memory.proofs.Runs.{run-written}
 use Rattle.lines.specs.Printing.{decimal_text, width_of}
 use Rattle.lines.proofs.printing.Digits.{length_digits}
 use Rattle.card_laws.specs.Lines.{ended}
-use Rattle.card_laws.specs.Cards.{Card, card, card_key, target_key, expr_key, check_key, check_text, card_line, card_bytes, cards_bytes}
+use Rattle.card_laws.specs.Cards.{Card, card, card_key, target_key, expr_key, check_key, check_text, card_line, card_before, card_bytes, cards_bytes}
+use Rattle.card_laws.specs.Reading.{good, Valid}
 use Rattle.card_laws.specs.Formulas.{formula_answer}
 use Rattle.card_laws.proofs.Formulas.{judge-laws}
 use Rattle.card_laws.proofs.Cards.{bytes-before}
 use Rattle.card_laws.proofs.Reading.{Sizes, sizes, sound}
 use Rattle.card_file.specs.Spans.{target_at, expr_at}
-use Rattle.card_file.specs.Words.{cards_words, read_words}
+use Rattle.card_file.specs.Words.{card_words, cards_words, read_words}
 use Rattle.card_file.proofs.read.Turns.{words_count}
-use Rattle.log_laws.specs.Replay.{FoundCard, found, card_of}
+use Rattle.log_laws.specs.Replay.{FoundCard, found, lacks, card_of}
 use Rattle.log_lines.specs.private.Steps.{cards_in, Book, Part, Finds, there, nowhere}
 
 -- ---- a text within a file

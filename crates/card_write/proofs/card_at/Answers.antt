@@ -1,8 +1,5 @@
 -- `card_at` meets its contract.
 use Rattle.card_write.proofs.Sizes.{clip, given}
-use native.Mathlib.Omega.{arith}
-use Prim.Native.Nat.{◌+◌, ◌*◌}
-use borrow.Author.Rules.{rules}
 use Rattle.card_write.proofs.card_at.Goals as goal
 
 -- OLD overflow-cast-least (no goal of that name now; delete or use)

@@ -1,8 +1,7 @@
 -- `fits` meets its contract: the room left and the cards left make the whole. The measure is how many cards are left.
-use Rattle.card_write.proofs.Sizes.{left, Room, room-start, no_room, room_next, room-end}
+use Rattle.card_write.proofs.Sizes.{left, room-start, no_room, room_next, room-end}
 use Rattle.lines.proofs.printing.Widths.{at_most}
 use native.Mathlib.Omega.{arith}
-use borrow.Author.Rules.{rules}
 use Prim.Native.Nat.{◌-◌}
 use Rattle.card_write.proofs.fits.Goals as goal
 

@@ -1,6 +1,5 @@
 -- `is_line` meets its contract.
 use Rattle.card_write.proofs.Sizes.{line-test}
-use borrow.Author.Rules.{rules}
 use Rattle.card_write.proofs.is_line.Goals as goal
 
 pub returns : goal.returns

@@ -1,7 +1,6 @@
 -- `judge_cards` meets its contract: the cards before are good, and the rest gives the whole. The measure is how many cards are left.
-use Rattle.card_write.proofs.Sizes.{left, Judging, judging-start, judging-low, refused-at, judging-next, judging-end}
+use Rattle.card_write.proofs.Sizes.{left, judging-start, judging-low, refused-at, judging-next, judging-end}
 use native.Mathlib.Omega.{arith}
-use borrow.Author.Rules.{rules}
 use Prim.Native.Nat.{◌-◌}
 use mathlib.Core.Path.{refl, sym, ◌∙◌}
 use Rattle.card_write.proofs.judge_cards.Goals as goal

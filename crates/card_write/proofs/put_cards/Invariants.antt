@@ -1,8 +1,5 @@
 -- `put_cards` meets its contract: the cards before stand in the buffer. The measure is how many cards are left.
-use Rattle.card_write.proofs.Putting.{Putting, start, room, next, end, long}
-use Rattle.card_write.proofs.Sizes.{left}
-use native.Mathlib.Omega.{arith}
-use borrow.Author.Rules.{rules}
+use Rattle.card_write.proofs.Putting.{Putting}
 use Prim.Native.Nat.{◌-◌}
 use Rattle.card_write.proofs.put_cards.Given as goal
 

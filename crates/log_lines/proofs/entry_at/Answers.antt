@@ -15,4 +15,7 @@ slice_bounds-entry_of-end c = sym (length-take-le c.args.k c.args.rest.now
     (omega (arith, c.if-rest-k.false)))
 
 pub returns : goal.returns
-returns c = record { value = c.entry_of.ensures.value ∙ ap entry_in (entry-text c.args.rest.now c.requires c.if-rest-k.false); entry_inside = c.entry_of.ensures.entry_inside }
+returns c = record {
+  value = c.entry_of.ensures.value ∙ ap entry_in (entry-text c.args.rest.now c.requires c.if-rest-k.false);
+  entry_inside = c.entry_of.ensures.entry_inside;
+}

@@ -1,5 +1,6 @@
 -- `find_card` meets its contract.
 use native.Mathlib.Omega.{arith}
+use Prim.Native.Nat.{◌-◌}
 use Rattle.log_lines.proofs.Rows.{seek, none_left, past-last, met, passed}
 use Rattle.log_lines.proofs.find_card.Goals as goal
 

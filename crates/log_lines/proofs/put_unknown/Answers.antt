@@ -17,10 +17,5 @@ pub returns-clause-puts : goal.returns-clause-puts
 returns-clause-puts c = then (then c.put_all-a.ensures c.put_decimal-b.ensures.puts) c.put_all.ensures
 
 pub returns-clause-upper_bound : goal.returns-clause-upper_bound
-returns-clause-upper_bound c = omega (
-  arith,
-  c.put_all.ensures.end,
-  c.put_decimal-b.ensures.value,
-  c.put_all-a.ensures.end,
-  at_most 9 c.args.k (omega arith),
-)
+returns-clause-upper_bound c =
+    omega (arith, c.put_all.ensures.end, c.put_decimal-b.ensures.value, c.put_all-a.ensures.end, at_most 9 c.args.k (omega arith))

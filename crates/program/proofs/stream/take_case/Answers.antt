@@ -9,6 +9,7 @@ pub returns : goal.returns
 unfolding nothing more
 returns c =
     holds
-    (more (nothing c.requires c.blank_text-line.result c.blank_text-line.ensures) c.args.input.now (c.feed-n.ensures.stream_buffers, c.feed-n.ensures.result_after))
+    (more (nothing c.requires c.blank_text-line.result c.blank_text-line.ensures) c.args.input.now
+    (c.feed-n.ensures.stream_buffers, c.feed-n.ensures.result_after))
     c.end_line.auto.memory
     (c.end_line.ensures.lengths_inside, (c.end_line.ensures.result_after, c.end_line.ensures.line_value))
