@@ -1,5 +1,7 @@
 // The operations for C, and the remainder: include/formula.h. A slice is a pointer and a length there, and the report is seven
 // 32-bit words.
+#![tactic(auto)]
+
 ghost use Rattle.std.specs.Prelude.{◌≡◌, length};
 ghost use Rattle.std.specs.Float.{binary32};
 ghost use Rattle.std.specs.Float.Ieee.{rem};

@@ -1,7 +1,6 @@
 -- The three words of what was written. Assumes nothing.
 use mathlib.Core.Path.{◌≡◌, refl, ap, ◌∙◌}
-use mathlib.Core.List.{List, [], ◌∷◌}
-use Prim.Native.Nat.{ℕ}
+use mathlib.Core.List.{[], ◌∷◌}
 use Rattle.card_laws.specs.Writing.{CardsWritten, done, unwritten}
 use Rattle.card_write.specs.declared.Written.{Written}
 use Rattle.card_write.specs.Given.{written_in}

@@ -1,6 +1,6 @@
 -- The two words of a listing's result.
 use mathlib.Core.Path.{◌≡◌, ap, ◌∙◌}
-use mathlib.Core.List.{List, [], ◌∷◌}
+use mathlib.Core.List.{[], ◌∷◌}
 use Prim.Native.Nat.{ℕ, ◌%◌, ◌^◌}
 use lib.ListN.{length}
 use Rattle.code_listing.specs.Listing.{Listed}

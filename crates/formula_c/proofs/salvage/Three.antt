@@ -1,7 +1,6 @@
 -- The three words of a salvage. Assumes nothing.
 use mathlib.Core.Path.{◌≡◌, refl, ap, ◌∙◌}
-use mathlib.Core.List.{List, [], ◌∷◌}
-use Prim.Native.Nat.{ℕ}
+use mathlib.Core.List.{[], ◌∷◌}
 use Rattle.salvage_laws.specs.Salvage.{Salvage, rescued, unfit}
 use Rattle.card_salvage.specs.declared.Salvaged.{Salvaged}
 use Rattle.card_salvage.specs.Outputs.{salvaged_in}
