@@ -130,7 +130,8 @@ module _ (target text : List ℕ) where
         → judged_text new k b (compiling 16384 text) ≡ listing_text target text
     target-done {v} {k} {b} {i} {new} d w =
         let good = sym answered ∙ d in
-        let part : index_part new k b ≡ index_lines (target_of target) = ap (λ (s : List ℕ). index_part s k b) (w ∙ coded) ∙ index_is (target_of target) refl good in
+        let part : index_part new k b ≡ index_lines (target_of target) =
+        ap (λ (s : List ℕ). index_part s k b) (w ∙ coded) ∙ index_is (target_of target) refl good in
         of-goal k b new (target_of target) part good ∙ sym asked
 
     pub target-not : NotDone a → refusal_text (report_of a) ≡ listing_text target text

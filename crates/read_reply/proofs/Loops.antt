@@ -32,7 +32,8 @@ one_line n = append-nil (number_text n)
 one_more : (list : List ℕ) (k : ℕ) → k < length list → number_lines (take k list) ++ number_text (get_or list k 0) ≡ number_lines (take (k + 1) list)
 one_more list k h =
     let e : take (k + 1) list ≡ take k list ++ (get_or list k 0 ∷ []) = rw (add-one k) (take-suc list k 0 h) in
-    sym (ap number_lines e ∙ append-lines (take k list) (get_or list k 0 ∷ []) ∙ ap (λ (s : List ℕ). number_lines (take k list) ++ s) (one_line (get_or list k 0)))
+    sym (ap number_lines e ∙ append-lines (take k list) (get_or list k 0 ∷ [])
+    ∙ ap (λ (s : List ℕ). number_lines (take k list) ++ s) (one_line (get_or list k 0)))
 
 module _ {old list now : List ℕ} {at k : ℕ} (p : Putting old list now at k) where
   pub long : length now ≡ length old
