@@ -3,11 +3,11 @@ use mathlib.Core.Path.{◌≡◌, refl, sym, ap, subst, ◌∙◌}
 use mathlib.Core.Bool.{Bool, true, false, cond}
 use mathlib.Core.Logic.{◌⊎◌, inl, inr}
 use mathlib.Core.List.{List, [], ◌∷◌, ◌++◌, append-nil}
-use Prim.Native.Nat.{ℕ, suc, ◌+◌, ◌-◌, ◌*◌, ◌%◌, ◌^◌, ◌≤◌, ◌<◌, min}
+use Prim.Native.Nat.{ℕ, ◌+◌, ◌-◌, ◌*◌, ◌%◌, ◌^◌, ◌≤◌, ◌<◌, min}
 use native.Mathlib.Nat.{zero-add}
 use native.Mathlib.Omega.{arith}
-use lib.Dec.{eqb, ltb}
-use lib.ListN.{length, take, drop, get_or, replicate, length-append, length-drop, length-replicate, drop_of_length-le}
+use lib.Dec.{ltb}
+use lib.ListN.{length, take, drop, get_or, replicate, length-drop, length-replicate, drop_of_length-le}
 use lib.Seq.{sets, sets-eq, get_or-take, drop-length, take_all}
 use borrow.Author.Tests.{lt-ltb, le-ltb, ltb-true, ltb-false, eq-eqb, ne_eqb}
 use Rattle.memory.specs.Layout.{image_size}
@@ -21,9 +21,8 @@ use Rattle.card_laws.proofs.Formulas.{judge-laws}
 use Rattle.card_laws.proofs.Reading.{Sizes, sizes, sound}
 use Rattle.card_file.specs.Words.{cards_words, read_words}
 use Rattle.card_file.proofs.read.Turns.{words_count}
-use Rattle.log_laws.specs.Replay.{ReplayState, Pause, full, log_end, bad_line, Replay, lent, line_room, refusal_lines, replay_from, state_at, first_state}
-use Rattle.log_laws.specs.Replay.{CallWords, Called, is_over, done_at, after_replay, called_with, replay_call}
-use Rattle.log_replay.specs.declared.Pause as Code
+use Rattle.log_laws.specs.Replay.{ReplayState, Pause, full, log_end, bad_line, lent, line_room, refusal_lines, replay_from, first_state}
+use Rattle.log_laws.specs.Replay.{Called, is_over, done_at, after_replay, called_with, replay_call}
 use Rattle.log_replay.specs.declared.Replayed.{Replayed}
 use Rattle.log_replay.specs.declared.ReplayWords.{ReplayWords}
 use Rattle.log_replay.specs.Replays.{pause_in, Plays, call_words, CallGives}

@@ -6,8 +6,8 @@ use Prim.Native.Nat.{ℕ, suc, ◌+◌, ◌-◌, ◌≤◌, ◌<◌}
 use native.Mathlib.Nat.{add-zero}
 use native.Mathlib.Omega.{arith}
 use lib.Dec.{ltb}
-use lib.ListN.{length, take, drop, get_or, length-drop, drop_of_length-le}
-use lib.Seq.{drop-cons, drop-drop, length-sets, length-take-le}
+use lib.ListN.{length, take, drop, length-drop, drop_of_length-le}
+use lib.Seq.{drop-drop, length-sets, length-take-le}
 use borrow.Author.Tests.{lt-ltb, le-ltb, ltb-true, ltb-false}
 use Rattle.words.proofs.Lists.{rest_of}
 use Rattle.memory.specs.Layout.{image_size}
@@ -21,7 +21,7 @@ use Rattle.program.proofs.reply.Whole.{front}
 use Rattle.card_laws.specs.Lines.{to_end}
 use Rattle.card_laws.specs.Cards.{Card}
 use Rattle.log_laws.specs.Log.{LogEntry, log_lines, log_entry_of}
-use Rattle.log_laws.specs.Replay.{ReplayState, AfterLine, goes, stops, after_entry, after_line, after_line_in, Pause, full, log_end, bad_line, Replay, printed}
+use Rattle.log_laws.specs.Replay.{ReplayState, AfterLine, goes, stops, after_entry, after_line, after_line_in, full, log_end, Replay, printed}
 use Rattle.log_laws.specs.Replay.{lent, line_room, refusal_lines, onward, replay_lines, replay_from}
 use Rattle.log_laws.proofs.Replaying.{printed-twice}
 use Rattle.log_replay.specs.declared.Pause.TheVariants.{Full, End, BadLine}

@@ -1,4 +1,6 @@
 // Replaying a night (paper 02, request 13): the lines of a log, played with a file of cards.
+#![tactic(auto)]
+
 ghost use Rattle.std.specs.Prelude.{◌≡◌, ◌+◌, ◌^◌, ◌≤◌, ◌<◌, min, length, drop};
 ghost use Rattle.memory.specs.Layout.{image_size};
 ghost use Rattle.lines.specs.private.Steps.{Puts};

@@ -2,11 +2,7 @@
 use lib.ListN.{length-replicate}
 use mathlib.Core.Path.{sym}
 use Prim.Native.Nat.{ℕ}
-use Rattle.salvage.proofs.named_buffer.Statement.{statement}
-use Rattle.salvage.proofs.named_buffer.Tie as tie
+use Rattle.salvage.proofs.named_buffer.Goals as goal
 
-returns : tie.Need-returns
+pub returns : goal.returns
 returns c = sym (length-replicate {0} {A = ℕ} 1572928 0)
-
-pub named-buffer-spec : {M : Type 1} → statement M
-named-buffer-spec = tie.close (tie.spec returns)
