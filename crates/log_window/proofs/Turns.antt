@@ -12,7 +12,7 @@ use Rattle.lines.specs.private.Steps.{Puts}
 use Rattle.card_laws.specs.Lines.{line_end}
 use Rattle.card_laws.specs.Cards.{Card}
 use Rattle.log_laws.specs.Replay.{ReplayState, Pause, full, log_end, bad_line, Replay, lent, line_room, replay_from}
-use Rattle.log_laws.specs.Window.{one_before, through_last_end, playable_of, playable, turn, kept_bytes}
+use Rattle.log_laws.specs.Window.{one_before, through_last_end, playable_of, playable, turn}
 use Rattle.log_laws.proofs.Theorems.{replay-theorems}
 use Rattle.log_replay.specs.declared.Pause.TheVariants.{Full}
 use Rattle.log_replay.specs.declared.Replayed.{Replayed}

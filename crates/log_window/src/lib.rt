@@ -1,4 +1,6 @@
 // A log of any length, read through a window (paper 02, request 13): which of its bytes are played, and which are kept.
+#![tactic(auto)]
+
 ghost use Rattle.std.specs.Prelude.{◌≡◌, ◌+◌, ◌^◌, ◌≤◌, ◌<◌, length, take, drop};
 ghost use Rattle.memory.specs.Layout.{image_size};
 ghost use Rattle.lines.specs.private.Steps.{Puts};
