@@ -9,7 +9,8 @@ mkdir -p target/bin target/staticlib
 for name in "$@"; do
     crate=crates/$name
     if [ -f "$crate/src/main.rt" ]; then
-        # A program is built to be run: what it answers to no input is of no use here.
+        # A program is built to be run: what it answers to no input is of no use here, and a failed proof leaves none.
+        rm -f "$crate/out/$name"
         (cd "$crate" && rt run < /dev/null > /dev/null) || [ -x "$crate/out/$name" ]
         cp "$crate/out/$name" "target/bin/$name"
     else
