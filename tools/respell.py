@@ -29,7 +29,7 @@ LEMMAS = {
     "is_leaf": "compiler/proofs/reader/Looking",
 }
 DEFINED = re.compile(r"\s*(?:(?:pub|abbrev|unfoldable)\s+)*([^\s(){}:;,.]+)\s*:(?!=)")
-STRING = re.compile(r"\"(?:[^\"\\]|\\.)*\"|b'[^']*'")
+STRING = re.compile(r"\"(?:[^\"\\]|\\.)*\"|b'(?:\\.|[^'\\])'")
 
 
 def texts(kinds):
