@@ -45,8 +45,5 @@ loop-k-preserved c =
     next c.loop-k.invariant (left c.args.texts.now c.args.cards.now _ c.loop-k.k
     c.card_at-g.result c.loop-k-test.true c.card_at-g.ensures) c.put_card-at.ensures
 
--- OLD same-length (no goal of that name now; delete or use)
--- long c.loop-k.invariant
-
 pub returns : goal.returns
 returns c = end c.loop-k.invariant c.loop-k-test.false
