@@ -1,14 +1,13 @@
 # shellcheck shell=sh
 # For the scripts of this folder, which source it from the repository's root: folders, the kit's tools, and a word where a tool is missing.
 out=target/controller
-kit=${RATTLE_HOME:-$(dirname "$(dirname "$(readlink -f "$(command -v rt || echo /rt/is/missing)")")")}
-own=$kit/on/$(uname -m)
+kit=$(dirname "$(dirname "$(readlink -f "$(command -v rt || echo /rt/is/missing)")")")
 mkdir -p "$out"
 
 # The kit's clang is a whole set of tools, each under its own name.
 kit_tool() {
     mkdir -p "$out/bin"
-    ln -sf "$own/toolchain/bin/clang" "$out/bin/$1"
+    ln -sf "$kit/toolchain/bin/clang" "$out/bin/$1"
     echo "$out/bin/$1"
 }
 

@@ -1,9 +1,9 @@
 #!/bin/sh
-# Proves a library as `rt staticlib` does and keeps the one LLVM module of which its archive is made: sh controller/module/capture.sh CRATE
+# Proves a library as `rt lib` does and keeps the one LLVM module of which its archive is made: sh controller/module/capture.sh CRATE
 #   target/staticlib/libCRATE.a        the archive for x86-64, as always
 #   target/controller/module/CRATE.bc  the module
-# `rt` is run with a kit whose every file is a link to the real one but for its clang: that is a script which keeps its input and then
-# becomes the real clang. Nothing of what `rt` proves or of what it is told changes.
+# `rt` is run with a kit whose every file is a link to the real one but for its clang, and for `rt` itself, which finds the kit by its own place: that clang is
+# a script which keeps its input and then becomes the real one. Nothing of what `rt` proves or of what it is told changes.
 set -eu
 cd "$(dirname "$0")/../.."
 . controller/tools.sh
@@ -11,26 +11,10 @@ crate=$1
 kept=$PWD/$out/module
 linked=$PWD/$out/kit
 rm -rf "$linked" "$kept/$crate.bc" "$kept/$crate.words"
-mkdir -p "$kept"
-
-# Links to all that a folder has but for one name, which becomes a folder of its own.
-link_all_but() {
-    mkdir -p "$2/$3"
-    for file in "$1"/*; do
-        [ "$(basename "$file")" = "$3" ] || ln -s "$file" "$2/"
-    done
-}
-machine=$(uname -m)
-link_all_but "$kit" "$linked" on
-link_all_but "$kit/on" "$linked/on" "$machine"
-link_all_but "$own" "$linked/on/$machine" toolchain
-link_all_but "$own/toolchain" "$linked/on/$machine/toolchain" bin
-bin=$linked/on/$machine/toolchain/bin
-link_all_but "$own/toolchain/bin" "$bin" clang
-rmdir "$bin/clang"
+mkdir -p "$kept" "$linked/bin" "$linked/toolchain/bin" target/staticlib
 
 # A library is one module: a second one would be lost.
-cat > "$bin/clang" << END
+cat > "$linked/toolchain/bin/clang" << END
 #!/bin/sh
 for word in "\$@"; do
     case \$word in
@@ -41,11 +25,22 @@ for word in "\$@"; do
         ;;
     esac
 done
-exec '$own/toolchain/bin/clang' "\$@"
+exec '$kit/toolchain/bin/clang' "\$@"
 END
-chmod +x "$bin/clang"
+chmod +x "$linked/toolchain/bin/clang"
+cp "$kit/bin/rt" "$kit/bin/rtlib.py" "$linked/bin/"
 
-RATTLE_HOME=$linked rt staticlib "$crate"
+# Links to all else that the kit has there.
+for folder in bin toolchain/bin toolchain .; do
+    for file in "$kit/$folder"/*; do
+        [ -e "$linked/$folder/$(basename "$file")" ] || ln -s "$file" "$linked/$folder/"
+    done
+done
+
+# What an earlier run made is made again, so that the compiler is called.
+rm -f "crates/$crate/out/lib$crate.a"
+(cd "crates/$crate" && "$linked/bin/rt" lib)
+cp "crates/$crate/out/lib$crate.a" target/staticlib/
 rm -rf "$linked"
 [ -s "$kept/$crate.bc" ] || { echo "capture: the backend handed no module to clang" >&2; exit 1; }
 

@@ -1,6 +1,6 @@
 # Writes the text of a captured module for another machine: awk -v layout=.. -v triple=.. -v remainder=.. -f retarget.awk MODULE.ll
-# What changes: the line of the data layout, the line of the triple, the attributes "target-cpu" and "probe-stack", and each remainder of
-# two singles, which becomes a call of a function (formula_remainder, proved to be that). Everything else is printed as it stands.
+# What changes: the line of the data layout, the line of the triple, the attributes "target-cpu", "probe-stack" and "stack-probe-size", and each
+# remainder of two singles, which becomes a call of a function (formula_remainder, proved to be that). Everything else is printed as it stands.
 # A module is refused if it holds anything that is not known here to mean the same on every machine: every word of it must be listed below,
 # so integers made of pointers, assembly, vectors, types of one processor or functions of others are refused without being named.
 
@@ -42,7 +42,8 @@ BEGIN {
 /^target triple = / { print triple; next }
 /^attributes #/ {
     sub(/ "probe-stack"="inline-asm"/, "")
-    sub(/ "target-cpu"="x86-64"/, "")
+    sub(/ "stack-probe-size"="[0-9]+"/, "")
+    sub(/ "target-cpu"="x86-64(-v2)?"/, "")
     if (/"/) refuse("an attribute")
 }
 /^declare / {
