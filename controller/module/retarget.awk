@@ -29,12 +29,16 @@ function check_words(line,    each, count, i) {
 }
 
 BEGIN {
-    list(known, "define declare internal attributes align noundef zeroext to x void ptr i1 i8 i16 i32 i64 float double true false")
-    list(known, "alloca load store getelementptr inbounds nuw nsw call ret br label switch unreachable")
+    # tables are written as bytes, the lowest first, and pairs of values are read whole, each at a multiple of its size
+    if (layout !~ /"e-/ || layout !~ /-i64:64[-"]/) refuse("a machine that lays numbers out otherwise than x86-64")
+    list(known, "define declare internal attributes align noundef zeroext to x void ptr i1 i8 i16 i32 i64 float double true false null")
+    list(known, "alloca load store extractvalue getelementptr inbounds nuw nsw call ret br label switch unreachable")
     list(known, "add sub mul udiv sdiv urem srem shl lshr ashr and or xor trunc zext sext bitcast icmp eq ne ult ule ugt uge slt sle sgt sge")
     list(known, "fadd fsub fmul fdiv fneg fpext fptrunc uitofp sitofp fptoui fptosi fcmp oeq one olt ole ogt oge ord une uno")
-    list(known, "nounwind nocallback nofree nosync willreturn noreturn cold speculatable writeonly readonly immarg")
+    list(known, "private unnamed_addr constant")
+    list(known, "nounwind nocallback nocreateundeforpoison nofree nosync willreturn noreturn cold speculatable writeonly readonly immarg")
     list(functions, "llvm.trap llvm.memmove.p0.p0.i64 llvm.memcpy.p0.p0.i64 llvm.memset.p0.i64 llvm.ctlz.i32 llvm.ctlz.i64")
+    list(functions, "llvm.arithmetic.fence.f32 llvm.arithmetic.fence.f64")
 }
 
 /^$/ || /^;/ || /^source_filename = "rattle"$/ || /^}$/ || /^!/ { print; next }

@@ -7,7 +7,7 @@ cd "$(dirname "$0")/../.."
 target=$1 archive=$2 numbers=$3
 memory='memset|memcpy|memmove|__aeabi_mem(set|clr|cpy|move)[48]?'
 whole='__aeabi_(u?idiv|u?idivmod|u?ldivmod|lmul|llsl|llsr|lasr)|__(u?div|u?mod|mul|ashl|lshr|ashr)[sd]i3|__clz[sd]i2|__gnu_thumb1_case_[a-z]+'
-reals='__aeabi_(f2d|f[a-z]+|cf[a-z]+|u?i2f)|__[a-z]+sf2?|__[a-z]+sf(df|si|3)2?|__(add|sub|mul|div)sf3|__float(un)?sisf'
+reals='__aeabi_(f2d|dcmple|f[a-z]+|cf[a-z]+|u?i2f)|__[a-z]+sf2?|__[a-z]+sf(df|si|3)2?|__(add|sub|mul|div)sf3|__float(un)?sisf|__ledf2'
 linker='__stack_pointer'
 foreseen="$memory|$whole|$linker"
 [ "$numbers" = integers ] || foreseen="$foreseen|$reals"
