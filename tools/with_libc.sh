@@ -4,7 +4,7 @@
 # singles calls. Three files are laid over the machine's by mounts that only the command sees and that end with it. That takes root; without it
 # the command runs as it would without this script.
 set -eu
-from=$(dirname "$(rt doc)")/toolchain/lib
+from=$(dirname "$(rt doc </dev/null)")/toolchain/lib
 loader=ld-linux-x86-64.so.2
 own=$(getconf GNU_LIBC_VERSION | sed 's/.* //')
 kit=$("$from/$loader" --version | sed -n '1s/.* version \([0-9.]*[0-9]\).*/\1/p')
