@@ -37,8 +37,8 @@ extern "C" {
 #define FORMULA_CODE_BYTES        16384u /* the least size of a code buffer to compile into */
 #define FORMULA_INSTRUCTION_BYTES 8u
 #define FORMULA_INSTRUCTIONS      2048u  /* the most that are accepted or compiled */
-#define FORMULA_STACK_BYTES       61440u /* the deepest call that was found takes 44,544, a list on a Cortex-M4F */
-#define FORMULA_REPLAY_STACK_BYTES 98304u /* 77,888 were found, on a Cortex-M3; each run of a card has its code buffers there */
+#define FORMULA_STACK_BYTES       61440u /* the deepest call that was found takes 37,560, a list on a Cortex-M4F */
+#define FORMULA_REPLAY_STACK_BYTES 98304u /* 71,600 were found, on a Cortex-M4F; each run of a card has its code buffers there */
 
 /* Where the banks and the fault flags stand in the memory. All numbers are little-endian. */
 #define FORMULA_X 0u    /* X0-X63, inputs, eight bits to a byte, the lowest first: formula_bit and formula_set_bit, below */

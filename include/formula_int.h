@@ -10,8 +10,8 @@
  * They call memset and memcpy alone, and on a Cortex-M the compiler's whole-number routines (divisions, shifts, a product, leading zeros); no float is added, compared or converted in them, so the
  * floating-point mode does not matter. libformula_c.a may be linked beside them.
  *
- * Reports, constants, answers, and what formula.h says of buffers, calls, the tick and the stack, hold here too (the deepest call that was found takes 50,688
- * bytes on x86-64 and 49,120 on a Cortex-M0). A report's kind is always 0: FORMULA_INTEGER.
+ * Reports, constants, answers, and what formula.h says of buffers, calls, the tick and the stack, hold here too (the deepest call that was found takes 45,480
+ * bytes on x86-64 and 43,008 on a Cortex-M0). A report's kind is always 0: FORMULA_INTEGER.
  * The memory has the same size and layout; no formula reads its bank R and none stores there. */
 #ifndef FORMULA_INT_H
 #define FORMULA_INT_H
