@@ -1,9 +1,10 @@
--- `inputs::read_full` ends: every turn puts at least one byte into the buffer. The bytes put lie within it.
-use Rattle.std.proofs.Common.{length, ◌-◌, ◌≤◌}
+-- `inputs::read_full` ends: every turn puts at least one byte into the buffer. The bytes put lie within it, and are those that the input gave.
+use Rattle.std.proofs.Common.{length, take, ◌-◌, ◌≤◌}
+use Rattle.std.specs.Io.KnownBytes.{Consumes}
 use Rattle.inputs.proofs.read_full.Given as goal
 
 abbrev pub invariant-loop-done : goal.invariant-loop-done
-invariant-loop-done g l = l.done ≤ length l.buffer
+invariant-loop-done g l = (l.done ≤ length l.buffer) × Consumes (g.R.Read.remaining l.initial.input) (g.R.Read.remaining l.input) (take l.done l.buffer)
 
 abbrev pub decreases-loop-done : goal.decreases-loop-done
 decreases-loop-done g l = length l.buffer - l.done
