@@ -1,5 +1,7 @@
 // Single-precision arithmetic: the five operations on bare singles. What each gives, in whole numbers of units of 2 ^ -149,
 // is stated in specs/ and proved in proofs/Laws.antt.
+#![tactic(auto)]
+
 ghost use Rattle.std.specs.Prelude.{◌≡◌};
 ghost use Rattle.reals.specs.Operations.{ieee};
 

@@ -63,7 +63,9 @@ module _ (formula : List ℕ → List ℕ → Verdict) (laws : JudgeLaws formula
       go : (f : Form) → card_form p ≡ f → answer_of (judged formula last (exact_form f)) ≡ keeps c → GoodPart last p c
       go out q w = absurd (let z : ◌≡◌ {A = ℕ} 0 1 = cc in omega arith)
       go (formed n t e k []) q w = judge-it n t e k q (judged formula last (formed n t e k [])) refl w
-      go (formed n t e k (d ∷ r)) q w = absurd (let z : ◌≡◌ {A = ℕ} 0 1 = cc in omega arith)
+      go (formed n t e k (d ∷ r)) q w =
+          let none : answer_of (judged formula last out) ≡ keeps c = w in
+          absurd (let z : ◌≡◌ {A = ℕ} 0 1 = cc in omega arith)
 
   good-keeps : {last : ℕ} {c : Card} → GoodCard formula last c → part_answer formula last (card_bytes c) ≡ keeps c
   good-keeps {last} (good_card {n} {t} {e} h b a) =

@@ -27,7 +27,7 @@ exact_int z = cond (in_range z) (Done (Int z)) (Stopped Overflow)
 abbrev pub equal_z : ℤ → ℤ → Bool
 equal_z a b = int_le a b && int_le b a
 
--- `quot_z` cuts toward zero; `rem_z` has the dividend's sign
+-- `int_div` cuts toward zero; `int_rem` has the dividend's sign
 abbrev pub int_arith : ArithOp → ℤ → ℤ → Outcome
 int_arith Add a b = exact_int (a +ℤ b)
 int_arith Sub a b = exact_int (a -ℤ b)

@@ -1,4 +1,6 @@
 -- `integers::truth` meets its contract: a comparison with zero.
+use mathlib.Core.Path.{ap}
+use mathlib.Core.Bool.{not}
 use borrow.Author.Rules.{rules}
 use native.Mathlib.Omega.{arith}
 use lib.IntN.{pos}
@@ -11,4 +13,4 @@ pub returns : goal.returns
 returns c =
     let z = c.args.z in
     let F : SFits w32 z = search rules in
-    rw (equal-bits z (pos 0) F (record { sfits = omega arith }))
+    ap not (equal-bits z (pos 0) F (record { sfits = omega arith }))
