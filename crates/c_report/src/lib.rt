@@ -18,6 +18,7 @@ fn kind_number(v: Value) -> u32
     }
 }
 
+// Cut on purpose: a word of a report has 32 bits.
 pub fn low(n: usize) -> u32
     ensures { result ≡ n % 2 ^ 32 }
 {
@@ -31,7 +32,7 @@ pub fn fill(r: Report, bits: u32, report: &mut [u32; 7])
     let place = low(r.place);
     let count = low(r.count);
     let bank = r.bank;
-    let number = memory::numbers::bank_number(bank) as u32;
+    let number = u8::from(bank) as u32;
     *report = [
         r.answer,
         place,

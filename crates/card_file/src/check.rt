@@ -5,23 +5,15 @@ ghost use Rattle.card_laws.specs.Cards.{check_of};
 
 const MODULUS: u32 = 65521;
 
-fn wide(b: u8) -> u32
-    ensures { (result ≡ b) × (result < 256) }
-{
-    b as u32
-}
-
 // The lines lie one behind the other in the file. Sum and position are both reduced at every byte: lines of any length are safe.
 pub fn sum_of(lines: &[u8]) -> u32
     ensures { result ≡ check_of lines.now }
 {
     let mut sum: u32 = 0;
     let mut position: u32 = 1;
-    let mut i = 0;
-    while i < lines.len() {
-        sum = (sum + position * wide(lines[i])) % MODULUS;
+    for &b in lines {
+        sum = (sum + position * u32::from(b)) % MODULUS;
         position = (position + 1) % MODULUS;
-        i += 1;
     }
     sum
 }

@@ -1,23 +1,13 @@
 // The form of a card: four lines, with what stands where.
 ghost use Rattle.std.specs.Prelude.{◌≡◌, ◌≤◌, length, drop};
 ghost use Rattle.card_laws.specs.Lines.{field_of};
-ghost use Rattle.card_laws.specs.Cards.{out, card_number, is_check, card_form};
+ghost use Rattle.card_laws.specs.Cards.{card_number, is_check, card_form};
 ghost use Rattle.card_file.specs.Spans.{length_in, line_number, spans};
 
-use memory::names::Number;
-
-// The length of the value of a line that has its key and its end.
-#[derive(Clone, Copy)]
-pub enum Field {
-    Value(usize),
-    Wrong,
-}
-
-// Whether the four lines stand at the front of a text, the card's number, where target, expression and check begin, and where the fourth line ends; of any
-// other text all 0.
+// Of four lines at the front of a text: the card's number, where target, expression and check begin, and where the fourth line ends. They are places and
+// no slices, since reading hands out places in the file.
 #[derive(Clone, Copy)]
 pub struct FourLines {
-    pub good: bool,
     pub number: u32,
     pub target: usize,
     pub expr: usize,
@@ -30,24 +20,24 @@ pub const TO_EXPR: usize = 6;
 
 pub const TO_CHECK: usize = 7;
 
-// The line that a key begins, at a place.
-fn field_at(s: &[u8], at: usize, key: &[u8]) -> Field
+// The length of the value of the line at a place, if it has its key and its end.
+fn field_at(s: &[u8], at: usize, key: &[u8]) -> Option<usize>
     requires { at ≤ length s.now }
     ensures { result ≡ length_in (field_of key.now (drop at s.now)) }
 {
     let k = key.len();
     if s.len() - at < k {
-        return Field::Wrong;
+        return None;
     }
     let from = at + k;
     if !tokens::identifiers::same_bytes(key, &s[at..from]) {
-        return Field::Wrong;
+        return None;
     }
     let n = lines::until(&s[from..], b'\n');
     if n == s.len() - from {
-        return Field::Wrong;
+        return None;
     }
-    Field::Value(n)
+    Some(n)
 }
 
 // 0 for a text that is that of no number from 1 to 64.
@@ -55,8 +45,8 @@ pub fn card_number(text: &[u8]) -> u32
     ensures { result ≡ card_number text.now }
 {
     match memory::names::number_below(text, 65) {
-        Number::Is(n) => n,
-        Number::Other => 0,
+        Some(n) => n,
+        None => 0,
     }
 }
 
@@ -64,7 +54,7 @@ pub fn card_number(text: &[u8]) -> u32
 pub fn line_number(s: &[u8]) -> u32
     ensures { result ≡ line_number s.now }
 {
-    let Field::Value(digits) = field_at(s, 0, b"card=") else {
+    let Some(digits) = field_at(s, 0, b"card=") else {
         return 0;
     };
     let end = 5 + digits;
@@ -80,54 +70,32 @@ fn is_check(text: &[u8]) -> bool
     memory::names::digits(text, 0, 0).end == 5
 }
 
-fn no_form() -> FourLines
-    ensures { result ≡ spans out }
-{
-    FourLines {
-        good: false,
-        number: 0,
-        target: 0,
-        expr: 0,
-        check: 0,
-        end: 0,
-    }
-}
-
-pub fn card_form(s: &[u8]) -> FourLines
+pub fn card_form(s: &[u8]) -> Option<FourLines>
     ensures { result ≡ spans (card_form s.now) }
 {
-    let Field::Value(digits) = field_at(s, 0, b"card=") else {
-        return no_form();
-    };
+    let digits = field_at(s, 0, b"card=")?;
     let number_end = 5 + digits;
     let number = card_number(&s[5..number_end]);
-    let Field::Value(target_size) = field_at(s, number_end + 1, b"target=") else {
-        return no_form();
-    };
+    let target_size = field_at(s, number_end + 1, b"target=")?;
     let target = number_end + 8;
     let target_end = target + target_size;
-    let Field::Value(expr_size) = field_at(s, target_end + 1, b"expr=") else {
-        return no_form();
-    };
+    let expr_size = field_at(s, target_end + 1, b"expr=")?;
     let expr = target_end + TO_EXPR;
     let expr_end = expr + expr_size;
-    let Field::Value(check_size) = field_at(s, expr_end + 1, b"check=") else {
-        return no_form();
-    };
+    let check_size = field_at(s, expr_end + 1, b"check=")?;
     let check = expr_end + TO_CHECK;
     let check_end = check + check_size;
     if number == 0 {
-        return no_form();
+        return None;
     }
     if !is_check(&s[check..check_end]) {
-        return no_form();
+        return None;
     }
-    FourLines {
-        good: true,
+    Some(FourLines {
         number,
         target,
         expr,
         check,
         end: check_end + 1,
-    }
+    })
 }

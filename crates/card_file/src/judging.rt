@@ -3,33 +3,27 @@ ghost use Rattle.std.specs.Prelude.{◌≡◌, ltb};
 ghost use Rattle.card_laws.specs.Cards.{card_form};
 ghost use Rattle.card_laws.specs.Reading.{judged};
 ghost use Rattle.card_laws.specs.Formulas.{formula_answer};
-ghost use Rattle.card_file.specs.Spans.{spans, verdict_in, is_target};
+ghost use Rattle.card_file.specs.Spans.{spans, places_in, is_target};
 
 use crate::check;
 use crate::form::{FourLines, TO_CHECK, TO_EXPR};
-use card_laws::Verdict;
-use compiler::Coded;
-use targets::Found;
 
 fn is_target(text: &[u8]) -> bool
     ensures { result ≡ is_target text.now }
 {
-    match targets::judge(text) {
-        Found::In(_, _) => true,
-        Found::Other => false,
-    }
+    targets::judge(text).is_some()
 }
 
 // "the formula's own number, target included"
-pub fn formula_verdict(target: &[u8], expr: &[u8]) -> Verdict
+pub fn formula_verdict(target: &[u8], expr: &[u8]) -> Result<(), u32>
     ensures { result ≡ formula_answer target.now expr.now }
 {
     if !is_target(target) {
-        return Verdict::Refusal(2);
+        return Err(2);
     }
     match compiler::judge(expr) {
-        Coded::Done(_) => Verdict::Fine,
-        Coded::Refused(a, _) => Verdict::Refusal(a),
+        Ok(_) => Ok(()),
+        Err(refusal) => Err(refusal.answer),
     }
 }
 
@@ -39,14 +33,14 @@ fn rises(last: u32, number: u32) -> bool
     last < number
 }
 
-// A text whose form has been found, behind a card with the number `last`.
-pub fn judged(s: &[u8], last: u32, f: FourLines) -> Verdict
+// A text whose form has been looked for, behind a card with the number `last`: where the lines of a good card stand.
+pub fn judged(s: &[u8], last: u32, f: Option<FourLines>) -> Result<FourLines, u32>
     requires { f ≡ spans (card_form s.now) }
-    ensures { result ≡ verdict_in (judged formula_answer last (card_form s.now)) }
+    ensures { result ≡ places_in (judged formula_answer last (card_form s.now)) }
 {
-    if !f.good {
-        return Verdict::Refusal(16);
-    }
+    let Some(f) = f else {
+        return Err(16);
+    };
     let target = f.target;
     let target_end = f.expr - TO_EXPR;
     let expr = f.expr;
@@ -59,10 +53,11 @@ pub fn judged(s: &[u8], last: u32, f: FourLines) -> Verdict
     let same = tokens::identifiers::same_bytes(&s[from..to], &digits);
     let above = rises(last, f.number);
     if !same {
-        return Verdict::Refusal(17);
+        return Err(17);
     }
     if !above {
-        return Verdict::Refusal(18);
+        return Err(18);
     }
-    formula_verdict(&s[target..target_end], &s[expr..expr_end])
+    formula_verdict(&s[target..target_end], &s[expr..expr_end])?;
+    Ok(f)
 }

@@ -7,7 +7,6 @@ ghost use Rattle.card_file.specs.Words.{span_words, read_words, SmallSpans};
 
 use crate::form::{FourLines, TO_CHECK, TO_EXPR};
 use crate::{form, judging};
-use card_laws::Verdict;
 
 // Answer, place and count, then five words for each of 64 cards.
 pub const READ_WORDS: usize = 323;
@@ -53,11 +52,13 @@ pub fn read(file: &[u8], res: &mut [u32; READ_WORDS])
     let mut count: u32 = 0;
     while at < file.len() {
         let rest = &file[at..];
-        let f = form::card_form(rest);
-        if let Verdict::Refusal(answer) = judging::judged(rest, last, f) {
-            *res = refused_words(answer, at as u32);
-            return;
-        }
+        let f = match judging::judged(rest, last, form::card_form(rest)) {
+            Ok(f) => f,
+            Err(answer) => {
+                *res = refused_words(answer, at as u32);
+                return;
+            }
+        };
         to = put_card(&mut words, to, at as u32, f);
         last = f.number;
         count += 1;

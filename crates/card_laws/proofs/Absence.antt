@@ -1,5 +1,6 @@
 -- A byte that no space, numeral, word or symbol holds stands in no text that is all tokens: stated once over the byte, and used for `k` and the line end.
 -- Assumes nothing.
+use Rattle.std.specs.Prelude.{Option, Result, Some, None, Ok, Err}
 use mathlib.Core.Path.{◌≡◌, refl, sym, ap, subst, ◌∙◌}
 use mathlib.Core.Bool.{Bool, true, false, ◌&&◌, ◌||◌, not, cond}
 use mathlib.Core.List.{List, [], ◌∷◌, ◌++◌}
@@ -10,18 +11,12 @@ use lib.ListN.{length, get_or, take, drop}
 use borrow.Author.Tests.{eqb-true, eq-eqb}
 use Rattle.words.specs.Ascii.{ascii}
 use Rattle.memory.specs.declared.Bank.{Bank}
-use Rattle.memory.specs.declared.names.Letter.{Letter}
-use Rattle.memory.specs.declared.names.Letter.TheVariants as L
-use Rattle.memory.specs.declared.names.Named.{Named}
-use Rattle.memory.specs.declared.names.Named.TheVariants as Named
 use Rattle.memory.specs.Layout.{layout_of}
 use Rattle.memory.specs.Names.{is_digit, all_digits, digits_of, decimal_value, no_leading_zero, number_below, letter_bank, cell_after_letter, named_rule}
 use Rattle.memory.proofs.names.Decimals.{digits-split, digits-only}
 use Rattle.tokens.specs.declared.Function.{Function}
 use Rattle.tokens.specs.declared.Token.{Token}
 use Rattle.tokens.specs.declared.Token.TheVariants as Token
-use Rattle.tokens.specs.declared.Scanned.{Scanned}
-use Rattle.tokens.specs.declared.Scanned.TheVariants.{Good, Bad}
 use Rattle.tokens.specs.Bytes.{is_space, is_hex, all}
 use Rattle.tokens.specs.Symbols.{equal_bytes, symbols, symbol_count, symbol_bytes}
 use Rattle.tokens.specs.Numerals.{non_empty, decimal_digits, hex_of, is_hex_run, behind_digits, has_part, behind_part, behind_mantissa, is_sign, without_sign}
@@ -51,16 +46,16 @@ pub record Unused (b : ℕ) : Type 0 where
   pub digit : is_digit b ≡ false
   pub hex : is_hex b ≡ false
   pub sign : is_sign b ≡ false
-  pub letter : letter_bank b ≡ L.Other
+  pub letter : letter_bank b ≡ None
   pub marks : Lacks b (ascii "0x.E[]")
   pub names : names_lack b functions ≡ true
   pub symbols-lack : all_lack b symbols ≡ true
 
-bad-good : {A : Type 0} {a : ℕ} {t : Token} → Bad a ≡ Good t → A
+bad-good : {A : Type 0} {a : ℕ} {t : Token} → Err a ≡ Ok t → A
 bad-good e = absurd (let z : ◌≡◌ {A = ℕ} 0 1 = cc in omega arith)
 
 -- a test that a good token has passed
-passed : (x : Bool) (y : Scanned) {t : Token} → cond x y (Bad 4) ≡ Good t → x ≡ true
+passed : (x : Bool) (y : (Result Token ℕ)) {t : Token} → cond x y (Err 4) ≡ Ok t → x ≡ true
 passed true y e = refl
 passed false y e = bad-good e
 
@@ -91,7 +86,7 @@ module _ (b : ℕ) (u : Unused b) where
   decimals-lack : (s : List ℕ) → decimal_digits s ≡ true → Lacks b s
   decimals-lack s h = digits-lack s (both (non_empty s) (all_digits s) h).1
 
-  hex-lacks : (s : List ℕ) {t : Token} → is_hex_run s ≡ true → hex_of (drop 2 s) ≡ Good t → Lacks b s
+  hex-lacks : (s : List ℕ) {t : Token} → is_hex_run s ≡ true → hex_of (drop 2 s) ≡ Ok t → Lacks b s
   hex-lacks [] h e = no h
   hex-lacks (c ∷ []) h e = no h
   hex-lacks (c ∷ d ∷ s) h e =
@@ -126,58 +121,58 @@ module _ (b : ℕ) (u : Unused b) where
       by true q w = lacks-cons b c cs (mark-in (ascii "0x") 46 (ascii "E[]") u.marks c (both (eqb c 46) (non_empty (digits_of cs)) q).0) (front-lacks cs w)
       by false q w = w
 
-  real-lacks : (s : List ℕ) {t : Token} → real_of s ≡ Good t → Lacks b s
+  real-lacks : (s : List ℕ) {t : Token} → real_of s ≡ Ok t → Lacks b s
   real-lacks s e = front-lacks s (part-lacks (behind_digits s) (exponent-lacks (behind_mantissa s) (passed (is_exponent (behind_mantissa s)) _ e)))
 
-  numeral-lacks : (s : List ℕ) {t : Token} → numeral_of s ≡ Good t → Lacks b s
+  numeral-lacks : (s : List ℕ) {t : Token} → numeral_of s ≡ Ok t → Lacks b s
   numeral-lacks s {t} e = by (decimal_digits s) refl (is_hex_run s) refl e
     where
-      by : (x : Bool) → decimal_digits s ≡ x → (y : Bool) → is_hex_run s ≡ y → cond x (decimal_of s) (cond y (hex_of (drop 2 s)) (real_of s)) ≡ Good t → Lacks b s
+      by : (x : Bool) → decimal_digits s ≡ x → (y : Bool) → is_hex_run s ≡ y → cond x (decimal_of s) (cond y (hex_of (drop 2 s)) (real_of s)) ≡ Ok t → Lacks b s
       by true p y q w = decimals-lack s p
       by false p true q w = hex-lacks s q w
       by false p false q w = real-lacks s w
 
   -- ---- words
-  pub letter-not : (c : ℕ) {k : Bank} → letter_bank c ≡ L.Of k → c ≡ b → ⊥
-  letter-not c e q = let z : letter_bank b ≡ L.Other = u.letter in let w : letter_bank c ≡ letter_bank b = ap letter_bank q in let f : ◌≡◌ {A = ℕ} 0 1 = cc in
+  pub letter-not : (c : ℕ) {k : Bank} → letter_bank c ≡ Some k → c ≡ b → ⊥
+  letter-not c e q = let z : letter_bank b ≡ None = u.letter in let w : letter_bank c ≡ letter_bank b = ap letter_bank q in let f : ◌≡◌ {A = ℕ} 0 1 = cc in
       omega arith
 
-  cell-lacks : (c : ℕ) (cs : List ℕ) (l : Letter) → letter_bank c ≡ l → {t : Token} → cell_word (cell_after_letter cs l) ≡ Good t → Lacks b (c ∷ cs)
-  cell-lacks c cs L.Other q e = bad-good e
-  cell-lacks c cs (L.Of k) q {t} e = by (number_below (layout_of k).elements cs) refl e
+  cell-lacks : (c : ℕ) (cs : List ℕ) (l : Option Bank) → letter_bank c ≡ l → {t : Token} → cell_word (cell_after_letter cs l) ≡ Ok t → Lacks b (c ∷ cs)
+  cell-lacks c cs None q e = bad-good e
+  cell-lacks c cs (Some k) q {t} e = by (number_below (layout_of k).elements cs) refl e
     where
-      by : (x : Bool) → number_below (layout_of k).elements cs ≡ x → cell_word (cond x (Named.Cell k (decimal_value cs)) Named.Other) ≡ Good t → Lacks b (c ∷ cs)
+      by : (x : Bool) → number_below (layout_of k).elements cs ≡ x → cell_word (cond x (Some (k, decimal_value cs)) None) ≡ Ok t → Lacks b (c ∷ cs)
       by true p w =
           lacks-cons b c cs (letter-not c q) (digits-lack cs (both (no_leading_zero cs) (all_digits cs)
           (both (no_leading_zero cs && all_digits cs) (ltb (decimal_value cs) (layout_of k).elements) p).0).1)
       by false p w = bad-good w
 
-  pub name-lacks : (s : List ℕ) {k : Bank} {i : ℕ} → named_rule s ≡ Named.Cell k i → Lacks b s
+  pub name-lacks : (s : List ℕ) {k : Bank} {i : ℕ} → named_rule s ≡ Some (k, i) → Lacks b s
   unfolding named_rule
   name-lacks [] e = refl
   name-lacks (c ∷ cs) {k} {i} e = cell-lacks c cs (letter_bank c) refl {t = Token.Cell k i} (ap cell_word e)
 
-  other-lacks : (s : List ℕ) {t : Token} → other_word s ≡ Good t → Lacks b s
+  other-lacks : (s : List ℕ) {t : Token} → other_word s ≡ Ok t → Lacks b s
   unfolding other_word named_rule
   other-lacks [] e = refl
   other-lacks (c ∷ []) {t} e = by (letter_bank c) refl e
     where
-      by : (l : Letter) → letter_bank c ≡ l → letter_word l ≡ Good t → Lacks b (c ∷ [])
-      by (L.Of k) q w = lacks-cons b c [] (letter-not c q) refl
-      by L.Other q w = bad-good w
+      by : (l : Option Bank) → letter_bank c ≡ l → letter_word l ≡ Ok t → Lacks b (c ∷ [])
+      by (Some k) q w = lacks-cons b c [] (letter-not c q) refl
+      by None q w = bad-good w
   other-lacks (c ∷ d ∷ s) e = cell-lacks c (d ∷ s) (letter_bank c) refl e
 
-  named-lacks : (fs : List Function) → names_lack b fs ≡ true → (s : List ℕ) (o : Scanned) {t : Token} → (o ≡ Good t → Lacks b s)
-      → function_named fs s o ≡ Good t → Lacks b s
+  named-lacks : (fs : List Function) → names_lack b fs ≡ true → (s : List ℕ) (o : (Result Token ℕ)) {t : Token} → (o ≡ Ok t → Lacks b s)
+      → function_named fs s o ≡ Ok t → Lacks b s
   named-lacks [] n s o h e = h e
   named-lacks (f ∷ fs) n s o {t} h e = by (equal_bytes (name_of f) s) refl e (λ w. named-lacks fs (both (lacks b (name_of f)) (names_lack b fs) n).1 s o h w)
     where
-      by : (x : Bool) → equal_bytes (name_of f) s ≡ x → cond x (Good (Token.Name f)) (function_named fs s o) ≡ Good t
-          → (function_named fs s o ≡ Good t → Lacks b s) → Lacks b s
+      by : (x : Bool) → equal_bytes (name_of f) s ≡ x → cond x (Ok (Token.Name f)) (function_named fs s o) ≡ Ok t
+          → (function_named fs s o ≡ Ok t → Lacks b s) → Lacks b s
       by true q w ih = subst (Lacks b) (same_bytes (name_of f) s q) (both (lacks b (name_of f)) (names_lack b fs) n).0
       by false q w ih = ih w
 
-  word-lacks : (s : List ℕ) {t : Token} → word_token s ≡ Good t → Lacks b s
+  word-lacks : (s : List ℕ) {t : Token} → word_token s ≡ Ok t → Lacks b s
   unfolding word_token
   word-lacks s e = named-lacks functions u.names s (other_word s) (other-lacks s) e
 
@@ -188,7 +183,7 @@ module _ (b : ℕ) (u : Unused b) where
   symbol-lacks (s ∷ ss) h (suc n) = symbol-lacks ss (both (lacks b s) (all_lack b ss) h).1 n
 
   -- ---- a text
-  lexeme-lacks : {w r : List ℕ} {j : Scanned} {t : Token} → LongestLexeme w r j → j ≡ Good t → Lacks b w
+  lexeme-lacks : {w r : List ℕ} {j : (Result Token ℕ)} {t : Token} → LongestLexeme w r j → j ≡ Ok t → Lacks b w
   lexeme-lacks {w} (word h) e = word-lacks w e
   lexeme-lacks {w} (numeral h) e = numeral-lacks w e
   lexeme-lacks (symbol n q h) e = subst (Lacks b) (sym q) (symbol-lacks symbols u.symbols-lack n)

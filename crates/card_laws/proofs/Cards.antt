@@ -8,6 +8,7 @@ use native.Mathlib.Omega.{arith}
 use lib.Dec.{eqb, ltb}
 use lib.ListN.{length, length-append}
 use borrow.Author.Tests.{eqb-true, lt-ltb, le-leb, ltb-true}
+use Rattle.std.specs.Prelude.{Ok, Err, Some, None}
 use Rattle.memory.specs.declared.Bank.TheVariants.{«V»}
 use Rattle.memory.specs.declared.Bank.{Bank}
 use Rattle.memory.specs.Names.{is_digit, all_digits, no_leading_zero, decimal_value, number_below}
@@ -17,15 +18,13 @@ use Rattle.tokens.proofs.Tests.{both, no}
 use Rattle.tokens.proofs.Same.{equal as same_bytes}
 use Rattle.lines.specs.Forms.{natural_form}
 use Rattle.lines.specs.Printing.{numeral_byte, low_digits, decimal_text}
-use Rattle.lines.specs.declared.forms.Form.TheVariants as Natural
 use Rattle.lines.proofs.Laws.{form-laws}
 use Rattle.lines.proofs.printing.Digits.{length_digits}
 use Rattle.card_laws.specs.Lines.{ended, Lacks, Field, field, wrong, field_of}
 use Rattle.card_laws.specs.Cards.{Card, card, card_key, target_key, expr_key, check_key, modulus, check_of, checked_lines, check_text, card_line}
 use Rattle.card_laws.specs.Cards.{card_before, card_bytes, Form, formed, out, most_cards, card_number, is_check, numbered, with_check, with_expr}
 use Rattle.card_laws.specs.Cards.{with_target, with_number, card_form}
-use Rattle.card_laws.specs.declared.Verdict.{Verdict}
-use Rattle.card_laws.specs.declared.Verdict.TheVariants.{Fine, Refusal}
+use Rattle.card_laws.specs.Verdicts.{Verdict}
 use Rattle.card_laws.specs.Reading.{CardRead, taken, refused, unless_refused, judged, read_card, GoodCard, good_card}
 use Rattle.card_laws.specs.Theorems.{JudgeLaws}
 use Rattle.card_laws.proofs.Lines.{lacks-append, lacks-cons, same-itself, field_is, field-there}
@@ -65,7 +64,7 @@ check-lacks t e = digits-lack (check_text t e) (five-digits (check_of (checked_l
 
 -- ---- the card's number
 -- what the number below m says of a text: lines' law of V cells, whose texts are these
-picked : (b : Bool) (m n : ℕ) → cond b (Natural.Pattern m) Natural.Other ≡ Natural.Pattern n → (b ≡ true) × (m ≡ n)
+picked : (b : Bool) (m n : ℕ) → cond b (Some m) None ≡ Some n → (b ≡ true) × (m ≡ n)
 picked true m n e = (refl, cc)
 picked false m n e = let z : ◌≡◌ {A = ℕ} 0 1 = cc in absurd (omega arith)
 
@@ -79,7 +78,7 @@ number_is v n e h = go (number_below 65 v) refl e
         let b = both (no_leading_zero v && all_digits v) (ltb (decimal_value v) 65) q in
         let small = ltb-true (decimal_value v) 65 b.1 in
         let wide : ltb (decimal_value v) 65536 ≡ true = lt-ltb (decimal_value v) 65536 (omega arith) in
-        let p : natural_form 65536 v ≡ Natural.Pattern n = rw (b.0, wide, w) in
+        let p : natural_form 65536 v ≡ Some n = rw (b.0, wide, w) in
         (form-laws.only «V» v n (λ z. let f : ◌≡◌ {A = ℕ} 0 1 = cc in omega arith) p, omega arith)
 
 pub number-there : (n : ℕ) → 0 < n → n ≤ 64 → (card_number (decimal_text n) ≡ n) × Lacks 10 (decimal_text n)
@@ -200,11 +199,11 @@ module _ (formula : List ℕ → List ℕ → Verdict) where
     pub rest : r ≡ r'
     pub check : k ≡ check_text t e
     pub rises : last < n
-    pub accepted : formula t e ≡ Fine
+    pub accepted : formula t e ≡ Ok tt
 
-  own : (v : Verdict) (c : Card) (r : List ℕ) (c' : Card) (r' : List ℕ) → unless_refused c r v ≡ taken c' r' → (v ≡ Fine) × (c ≡ c') × (r ≡ r')
-  own Fine c r c' r' h = (refl, cc, cc)
-  own (Refusal a) c r c' r' h = let z : ◌≡◌ {A = ℕ} 0 1 = cc in absurd (omega arith)
+  own : (v : Verdict) (c : Card) (r : List ℕ) (c' : Card) (r' : List ℕ) → unless_refused c r v ≡ taken c' r' → (v ≡ Ok tt) × (c ≡ c') × (r ≡ r')
+  own (Ok _) c r c' r' h = (refl, cc, cc)
+  own (Err a) c r c' r' h = let z : ◌≡◌ {A = ℕ} 0 1 = cc in absurd (omega arith)
 
   pub judged-is : (last n : ℕ) (t e k r : List ℕ) (c : Card) (r' : List ℕ) → judged formula last (formed n t e k r) ≡ taken c r' → Judged last n t e k r c r'
   unfolding judged
@@ -215,10 +214,10 @@ module _ (formula : List ℕ → List ℕ → Verdict) where
       go false q y p w = let z : ◌≡◌ {A = ℕ} 0 1 = cc in absurd (omega arith)
       go true q false p w = let z : ◌≡◌ {A = ℕ} 0 1 = cc in absurd (omega arith)
       go true q true p w =
-          let o : (formula t e ≡ Fine) × (card n t e ≡ c) × (r ≡ r') = own (formula t e) (card n t e) r c r' w in
+          let o : (formula t e ≡ Ok tt) × (card n t e ≡ c) × (r ≡ r') = own (formula t e) (card n t e) r c r' w in
           record { card-is = o.1; rest = o.2; check = same_bytes k (check_text t e) q; rises = ltb-true last n p; accepted = o.0 }
 
-  pub judged-there : (last n : ℕ) (t e r : List ℕ) → last < n → formula t e ≡ Fine → judged formula last (formed n t e (check_text t e) r) ≡ taken (card n t e) r
+  pub judged-there : (last n : ℕ) (t e r : List ℕ) → last < n → formula t e ≡ Ok tt → judged formula last (formed n t e (check_text t e) r) ≡ taken (card n t e) r
   unfolding judged
   judged-there last n t e r h a =
       ap (λ (x : Bool). cond x (cond (ltb last n) (unless_refused (card n t e) r (formula t e)) (refused 18)) (refused 17)) (same-itself (check_text t e))

@@ -8,11 +8,8 @@ use lib.Dec.{eqb, leb}
 use lib.ListN.{length, get_or, take, drop, length-drop, drop_of_length-le}
 use lib.Seq.{split_at, take-nil}
 use borrow.Author.Tests.{eqb-true, leb-true}
+use Rattle.std.specs.Prelude.{Ok, Err, Option, Some, None}
 use Rattle.memory.specs.declared.Bank.{Bank}
-use Rattle.memory.specs.declared.names.Letter.{Letter}
-use Rattle.memory.specs.declared.names.Letter.TheVariants as L
-use Rattle.memory.specs.declared.names.Named.{Named}
-use Rattle.memory.specs.declared.names.Named.TheVariants as Named
 use Rattle.memory.specs.Names.{letter_bank, cell_after_letter, named_rule, storable, target_rule}
 use Rattle.tokens.specs.Scan.{Tok, tokens, scan}
 use Rattle.tokens.proofs.Tests.{both, no}
@@ -23,8 +20,7 @@ use Rattle.text.specs.Targets.{Target, to_cell, to_indexed, no_target, is_enclos
 use Rattle.text.specs.Theorems.{AcceptedFrom}
 use Rattle.text.proofs.Theorems.{text-from}
 use Rattle.card_laws.specs.Lines.{Lacks}
-use Rattle.card_laws.specs.declared.Verdict.{Verdict}
-use Rattle.card_laws.specs.declared.Verdict.TheVariants.{Fine, Refusal}
+use Rattle.card_laws.specs.Verdicts.{Verdict}
 use Rattle.card_laws.specs.Formulas.{judged_expr, judged_target, formula_answer}
 use Rattle.card_laws.specs.Theorems.{JudgeLaws, CardTheorems}
 use Rattle.card_laws.proofs.Lines.{lacks-append, lacks-cons}
@@ -47,12 +43,12 @@ record Target-text (s : List ℕ) : Type 0 where
   short : length s ≤ 1024
   lacking : Lacks 10 s
 
-storable-cell : (n : Named) {k : Bank} {i : ℕ} → storable n ≡ Named.Cell k i → (j : Bank) × (m : ℕ) × (n ≡ Named.Cell j m)
-storable-cell (Named.Cell j m) e = (j, m, refl)
-storable-cell Named.Other e = absurd (let z : ◌≡◌ {A = ℕ} 0 1 = cc in omega arith)
+storable-cell : (n : (Option (Bank × ℕ))) {k : Bank} {i : ℕ} → storable n ≡ Some (k, i) → (j : Bank) × (m : ℕ) × (n ≡ Some (j, m))
+storable-cell (Some (j, m)) e = (j, m, refl)
+storable-cell None e = absurd (let z : ◌≡◌ {A = ℕ} 0 1 = cc in omega arith)
 
 -- a letter, `[`, an accepted index and `]`
-enclosed : (s : List ℕ) {k : Bank} {t : Tree} → letter_bank (get_or s 0 0) ≡ L.Of k → is_enclosed s ≡ true → judge_from 1 (index_text s) ≡ accepted t → Lacks 10 s
+enclosed : (s : List ℕ) {k : Bank} {t : Tree} → letter_bank (get_or s 0 0) ≡ Some k → is_enclosed s ≡ true → judge_from 1 (index_text s) ≡ accepted t → Lacks 10 s
 enclosed [] l e j = refl
 enclosed (c ∷ []) l e j = let f : ◌≡◌ {A = ℕ} 0 1 = cc in absurd (omega arith)
 enclosed (c ∷ d ∷ rest) {k} {t} l e j =
@@ -78,20 +74,20 @@ enclosed (c ∷ d ∷ rest) {k} {t} l e j =
     positive [] h = omega (arith, ap length (take-nil {A = ℕ} (length (c ∷ d ∷ []) - 3)))
     positive (f ∷ rest) h = omega arith
 
-stored_of : (l : Letter) {k : Bank} → stored_bank l ≡ L.Of k → (j : Bank) × (l ≡ L.Of j)
-stored_of (L.Of j) e = (j, refl)
-stored_of L.Other e = absurd (let z : ◌≡◌ {A = ℕ} 0 1 = cc in omega arith)
+stored_of : (l : (Option Bank)) {k : Bank} → stored_bank l ≡ Some k → (j : Bank) × (l ≡ Some j)
+stored_of (Some j) e = (j, refl)
+stored_of None e = absurd (let z : ◌≡◌ {A = ℕ} 0 1 = cc in omega arith)
 
-record Indexed (l : Letter) (j : Judgement) : Type 0 where
+record Indexed (l : (Option Bank)) (j : Judgement) : Type 0 where
   bank : Bank
   tree : Tree
-  letter : l ≡ L.Of bank
+  letter : l ≡ Some bank
   judgement : j ≡ accepted tree
 
-indexed_of : (l : Letter) (j : Judgement) → (indexed_by l j ≡ no_target → ⊥) → Indexed l j
-indexed_of (L.Of k) (accepted t) n = record { bank = k; tree = t; letter = refl; judgement = refl }
-indexed_of (L.Of k) (refused a p) n = absurd (n refl)
-indexed_of L.Other j n = absurd (n refl)
+indexed_of : (l : (Option Bank)) (j : Judgement) → (indexed_by l j ≡ no_target → ⊥) → Indexed l j
+indexed_of (Some k) (accepted t) n = record { bank = k; tree = t; letter = refl; judgement = refl }
+indexed_of (Some k) (refused a p) n = absurd (n refl)
+indexed_of None j n = absurd (n refl)
 
 indexed-text : (s : List ℕ) → (indexed_target s ≡ no_target → ⊥) → Target-text s
 unfolding indexed_target
@@ -111,12 +107,12 @@ target-text : (s : List ℕ) → (target_of s ≡ no_target → ⊥) → Target-
 unfolding target_of
 target-text s n = go (target_rule s) refl n
   where
-    go : (x : Named) → target_rule s ≡ x → (target_from s x ≡ no_target → ⊥) → Target-text s
-    go (Named.Cell k i) q w =
+    go : (x : (Option (Bank × ℕ))) → target_rule s ≡ x → (target_from s x ≡ no_target → ⊥) → Target-text s
+    go (Some (k, i)) q w =
         let c = storable-cell (named_rule s) q in
-        let e : named_rule s ≡ Named.Cell c.0 c.1 = c.2 in
+        let e : named_rule s ≡ Some (c.0, c.1) = c.2 in
         record { short = omega (arith, short-name s e); lacking = name-lacks 10 no-line-end s e }
-    go Named.Other q w = indexed-text s w
+    go None q w = indexed-text s w
 
 -- ---- both
 record Accepted (t e : List ℕ) : Type 0 where
@@ -124,35 +120,35 @@ record Accepted (t e : List ℕ) : Type 0 where
   tree : Tree
   formula : judge e ≡ accepted tree
 
-fine_of : (t e : List ℕ) → formula_answer t e ≡ Fine → Accepted t e
+fine_of : (t e : List ℕ) → formula_answer t e ≡ Ok tt → Accepted t e
 unfolding formula_answer
 fine_of t e h = go (target_of t) refl (judge e) refl h
   where
-    expr : (j : Judgement) → judged_expr j ≡ Fine → (x : Tree) × (j ≡ accepted x)
+    expr : (j : Judgement) → judged_expr j ≡ Ok tt → (x : Tree) × (j ≡ accepted x)
     expr (accepted x) w = (x, refl)
     expr (refused a p) w = absurd (let z : ◌≡◌ {A = ℕ} 0 1 = cc in omega arith)
 
-    go : (x : Target) → target_of t ≡ x → (j : Judgement) → judge e ≡ j → judged_target x (judged_expr j) ≡ Fine → Accepted t e
+    go : (x : Target) → target_of t ≡ x → (j : Judgement) → judge e ≡ j → judged_target x (judged_expr j) ≡ Ok tt → Accepted t e
     go (to_cell b i) p j q w = let g = expr j w in record { is-target = λ z. let f : ◌≡◌ {A = ℕ} 0 1 = cc in omega arith; tree = g.0; formula = q ∙ g.1 }
     go (to_indexed b x) p j q w = let g = expr j w in record { is-target = λ z. let f : ◌≡◌ {A = ℕ} 0 1 = cc in omega arith; tree = g.0; formula = q ∙ g.1 }
     go no_target p j q w = absurd (let z : ◌≡◌ {A = ℕ} 0 1 = cc in omega arith)
 
-expr-text : (b : ℕ) → Unused b → (t e : List ℕ) → formula_answer t e ≡ Fine → Text b e
+expr-text : (b : ℕ) → Unused b → (t e : List ℕ) → formula_answer t e ≡ Ok tt → Text b e
 expr-text b u t e h = let a : Accepted t e = fine_of t e h in text_of b 0 u (omega arith) e a.tree a.formula
 
 -- ---- a refusal
-own_answer : (t e : List ℕ) (a : ℕ) → formula_answer t e ≡ Refusal a → (2 ≤ a) × (a ≤ 9)
+own_answer : (t e : List ℕ) (a : ℕ) → formula_answer t e ≡ Err a → (2 ≤ a) × (a ≤ 9)
 unfolding formula_answer
 own_answer t e a h = by (target_of t) (judge e) refl h
   where
-    expr : (j : Judgement) → judge e ≡ j → judged_expr j ≡ Refusal a → (2 ≤ a) × (a ≤ 9)
+    expr : (j : Judgement) → judge e ≡ j → judged_expr j ≡ Err a → (2 ≤ a) × (a ≤ 9)
     expr (accepted x) q w = absurd (let z : ◌≡◌ {A = ℕ} 0 1 = cc in omega arith)
     expr (refused b p) q w =
         let z : b ≡ a = cc in
         let k = (text-from.theorems 0 (omega arith)).answers e b p q in
         (omega (arith, k.0), omega (arith, k.1))
 
-    by : (x : Target) (j : Judgement) → judge e ≡ j → judged_target x (judged_expr j) ≡ Refusal a → (2 ≤ a) × (a ≤ 9)
+    by : (x : Target) (j : Judgement) → judge e ≡ j → judged_target x (judged_expr j) ≡ Err a → (2 ≤ a) × (a ≤ 9)
     by (to_cell b i) j q w = expr j q w
     by (to_indexed b i) j q w = expr j q w
     by no_target j q w = let z : 2 ≡ a = cc in (omega arith, omega arith)

@@ -11,7 +11,7 @@ use Rattle.lines.proofs.printing.Digits.{length_digits}
 use Rattle.lines.proofs.printing.Widths.{at_most}
 use Rattle.card_laws.specs.Lines.{ended}
 use Rattle.card_laws.specs.Cards.{Card, card, number_of, target_key, expr_key, check_key, checked_lines, check_text, card_line, card_bytes, cards_bytes}
-use Rattle.card_laws.specs.declared.Verdict.{Verdict}
+use Rattle.card_laws.specs.Verdicts.{Verdict}
 use Rattle.card_laws.specs.Reading.{CardRead, taken, refused, read_card, CardsRead, good, bad, also_card, then_cards, last_of, is_empty, read_from}
 use Rattle.card_laws.specs.Reading.{read_cards, GoodCard, good_card, Valid, none, next}
 use Rattle.card_laws.specs.Theorems.{JudgeLaws}

@@ -9,11 +9,11 @@ use native.Mathlib.Omega.{arith}
 use lib.Dec.{ltb}
 use lib.ListN.{length, length-append}
 use borrow.Author.Tests.{lt-ltb, le-ltb, ltb-true, ltb-false}
+use Rattle.std.specs.Prelude.{Ok, Err}
 use Rattle.tokens.specs.Symbols.{equal_bytes}
 use Rattle.tokens.proofs.Same.{equal as same_bytes}
 use Rattle.card_laws.specs.Cards.{Card, card, number_of, check_text, card_bytes, cards_bytes, Form, formed, out, card_form}
-use Rattle.card_laws.specs.declared.Verdict.{Verdict}
-use Rattle.card_laws.specs.declared.Verdict.TheVariants.{Fine, Refusal}
+use Rattle.card_laws.specs.Verdicts.{Verdict}
 use Rattle.card_laws.specs.Reading.{CardRead, taken, refused, unless_refused, judged, read_card, CardsRead, good, bad, also_card, then_cards}
 use Rattle.card_laws.specs.Reading.{last_of, is_empty, read_from, read_cards, Valid, none, next}
 use Rattle.card_laws.specs.Writing.{CardsWritten, done, unwritten, writable, unless_here, card_verdict, write_from, write_cards}
@@ -57,8 +57,8 @@ module _ (formula : List ℕ → List ℕ → Verdict) where
       Goal b = Refused formula last (formed n t e k r) b
 
       accepted : (v : Verdict) → formula t e ≡ v → k ≡ check_text t e → last < n → unless_refused (card n t e) r v ≡ refused a → Goal a
-      accepted Fine q c l w = let z : ◌≡◌ {A = ℕ} 0 1 = cc in absurd (omega arith)
-      accepted (Refusal b) q c l w = let z : b ≡ a = cc in Why.own c l (q ∙ ap Refusal z)
+      accepted (Ok _) q c l w = let z : ◌≡◌ {A = ℕ} 0 1 = cc in absurd (omega arith)
+      accepted (Err b) q c l w = let z : b ≡ a = cc in Why.own c l (q ∙ ap Err z)
 
       above : (x : Bool) → ltb last n ≡ x → k ≡ check_text t e → cond x (unless_refused (card n t e) r (formula t e)) (refused 18) ≡ refused a → Goal a
       above true q c w = accepted (formula t e) refl c (ltb-true last n q) w
@@ -137,29 +137,29 @@ module _ (formula : List ℕ → List ℕ → Verdict) where
       }
 
   -- ---- a card that is to be written
-  unfit : (last a : ℕ) (c : Card) → card_verdict formula last c ≡ Refusal a → Unfit formula last c a
+  unfit : (last a : ℕ) (c : Card) → card_verdict formula last c ≡ Err a → Unfit formula last c a
   unfit last a (card n t e) h = by (writable (card n t e)) refl h
     where
       Goal : ℕ → Type 0
       Goal b = Unfit formula last (card n t e) b
 
-      above : (y : Bool) → ltb last n ≡ y → writable (card n t e) ≡ true → cond y (formula t e) (Refusal 18) ≡ Refusal a → Goal a
+      above : (y : Bool) → ltb last n ≡ y → writable (card n t e) ≡ true → cond y (formula t e) (Err 18) ≡ Err a → Goal a
       above true q l w = Why.own l (ltb-true last n q) w
       above false q l w = let z : 18 ≡ a = cc in subst Goal z (Why.not_above l (ltb-false last n q))
 
-      by : (x : Bool) → writable (card n t e) ≡ x → cond x (cond (ltb last n) (formula t e) (Refusal 18)) (Refusal 16) ≡ Refusal a → Goal a
+      by : (x : Bool) → writable (card n t e) ≡ x → cond x (cond (ltb last n) (formula t e) (Err 18)) (Err 16) ≡ Err a → Goal a
       by true q w = above (ltb last n) refl q w
       by false q w = let z : 16 ≡ a = cc in subst Goal z (no_lines q)
 
   abbrev verdict : Bool → Bool → Verdict → Verdict
-  verdict x y v = cond x (cond y v (Refusal 18)) (Refusal 16)
+  verdict x y v = cond x (cond y v (Err 18)) (Err 16)
 
-  unfit-is : (last : ℕ) {a : ℕ} {c : Card} → Unfit formula last c a → card_verdict formula last c ≡ Refusal a
+  unfit-is : (last : ℕ) {a : ℕ} {c : Card} → Unfit formula last c a → card_verdict formula last c ≡ Err a
   unfit-is last (no_lines {c = card n t e} h) = ap (λ (x : Bool). verdict x (ltb last n) (formula t e)) h
   unfit-is last (Why.not_above {n = n} {t = t} {e = e} h l) =
-      ap (λ (x : Bool). verdict x (ltb last n) (formula t e)) h ∙ ap (λ (y : Bool). cond y (formula t e) (Refusal 18)) (le-ltb last n l)
+      ap (λ (x : Bool). verdict x (ltb last n) (formula t e)) h ∙ ap (λ (y : Bool). cond y (formula t e) (Err 18)) (le-ltb last n l)
   unfit-is last (Why.own {n = n} {t = t} {e = e} h l q) =
-      ap (λ (x : Bool). verdict x (ltb last n) (formula t e)) h ∙ ap (λ (y : Bool). cond y (formula t e) (Refusal 18)) (lt-ltb last n l) ∙ q
+      ap (λ (x : Bool). verdict x (ltb last n) (formula t e)) h ∙ ap (λ (y : Bool). cond y (formula t e) (Err 18)) (lt-ltb last n l) ∙ q
 
   record Up (last at : ℕ) (cs : List Card) (a p : ℕ) : Type 0 where
     before : List Card
@@ -167,7 +167,7 @@ module _ (formula : List ℕ → List ℕ → Verdict) where
     after : List Card
     cards : cs ≡ before ++ this ∷ after
     valid : Valid formula last before
-    refusal : card_verdict formula (last_of last before) this ≡ Refusal a
+    refusal : card_verdict formula (last_of last before) this ≡ Err a
     place : p ≡ at + length (cards_bytes before)
 
   up_to : (last at : ℕ) (cs : List Card) (s : List ℕ) (a p : ℕ) → write_from formula last at cs s ≡ unwritten a p → Up last at cs a p
@@ -177,7 +177,7 @@ module _ (formula : List ℕ → List ℕ → Verdict) where
       go : (v : Verdict) → card_verdict formula last c ≡ v → unless_here v at (write_from formula (number_of c) (at + length (card_bytes c)) cs s) ≡ unwritten a p
           → (write_from formula (number_of c) (at + length (card_bytes c)) cs s ≡ unwritten a p → Up (number_of c) (at + length (card_bytes c)) cs a p)
           → Up last at (c ∷ cs) a p
-      go Fine q w ih =
+      go (Ok _) q w ih =
           let i : Up (number_of c) (at + length (card_bytes c)) cs a p = ih w in
           record {
             before = c ∷ i.before;
@@ -188,10 +188,10 @@ module _ (formula : List ℕ → List ℕ → Verdict) where
             refusal = i.refusal;
             place = omega (arith, i.place, length-append (card_bytes c) (cards_bytes i.before));
           }
-      go (Refusal b) q w ih =
+      go (Err b) q w ih =
           let x : b ≡ a = cc in
           let y : at ≡ p = cc in
-          record { before = []; this = c; after = cs; cards = refl; valid = none; refusal = q ∙ ap Refusal x; place = omega arith }
+          record { before = []; this = c; after = cs; cards = refl; valid = none; refusal = q ∙ ap Err x; place = omega arith }
 
   not_written : (room : ℕ) (cs : List Card) (a p : ℕ) → write_cards formula room cs ≡ unwritten a p → NotWritten formula room cs a p
   not_written room cs a p h = by (ltb room (length (cards_bytes cs))) refl h
@@ -234,7 +234,7 @@ module _ (formula : List ℕ → List ℕ → Verdict) where
     answers s a p h = let i : FirstRefused formula s a p = first_of s a p h in answer-of (last_of 0 i.before) i.why
 
     stops_at : {last : ℕ} {ks : List Card} (at : ℕ) → Valid formula last ks → (c : Card) (cs : List Card) (s : List ℕ) (a : ℕ)
-        → card_verdict formula (last_of last ks) c ≡ Refusal a
+        → card_verdict formula (last_of last ks) c ≡ Err a
         → write_from formula last at (ks ++ c ∷ cs) s ≡ unwritten a (at + length (cards_bytes ks))
     stops_at at none c cs s a h =
         ap (λ (x : Verdict). unless_here x at (write_from formula (number_of c) (at + length (card_bytes c)) cs s)) h ∙ ap (unwritten a) (sym (add-zero at))

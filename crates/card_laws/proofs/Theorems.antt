@@ -9,6 +9,7 @@ use native.Mathlib.Omega.{arith}
 use lib.Dec.{ltb}
 use lib.ListN.{length, take, drop, set, get_or, length-append}
 use borrow.Author.Tests.{lt-ltb}
+use Rattle.std.specs.Prelude.{Ok}
 use Rattle.memory.specs.Names.{decimal_value}
 use Rattle.tokens.specs.Symbols.{equal_bytes}
 use Rattle.tokens.proofs.Same.{equal as same_bytes}
@@ -16,8 +17,7 @@ use Rattle.lines.specs.Printing.{low_digits}
 use Rattle.card_laws.specs.Lines.{ended, Lacks}
 use Rattle.card_laws.specs.Cards.{Card, card, number_of, target_key, expr_key, check_key, check_of, checked_lines, check_text, card_line, card_bytes}
 use Rattle.card_laws.specs.Cards.{cards_bytes, Form, formed, out, card_form}
-use Rattle.card_laws.specs.declared.Verdict.{Verdict}
-use Rattle.card_laws.specs.declared.Verdict.TheVariants.{Fine}
+use Rattle.card_laws.specs.Verdicts.{Verdict}
 use Rattle.card_laws.specs.Reading.{CardRead, taken, refused, unless_refused, judged, read_card, CardsRead, good, bad, then_cards, last_of, is_empty}
 use Rattle.card_laws.specs.Reading.{read_from, read_cards, GoodCard, good_card, Valid, none, next}
 use Rattle.card_laws.specs.Writing.{written_bytes}
@@ -91,7 +91,7 @@ module _ (formula : List ℕ → List ℕ → Verdict) (laws : JudgeLaws formula
     which : (answer ≡ 16) ⊎ (answer ≡ 17)
 
   -- ---- the card itself
-  module _ (last n : ℕ) (t e bs p q : List ℕ) (x y : ℕ) (pn : 0 < n) (sn : n ≤ 64) (accepted : formula t e ≡ Fine) (fs : Follows bs)
+  module _ (last n : ℕ) (t e bs p q : List ℕ) (x y : ℕ) (pn : 0 < n) (sn : n ≤ 64) (accepted : formula t e ≡ Ok tt) (fs : Follows bs)
       (at : checked_lines t e ≡ p ++ y ∷ q) (differs : x ≡ y → ⊥) (bx : x < 256) (by : y < 256) where
     short : length (checked_lines t e) ≤ 2062
     short = omega (

@@ -7,21 +7,21 @@ use native.Mathlib.Omega.{arith}
 use lib.Dec.{ltb}
 use lib.ListN.{length}
 use borrow.Author.Tests.{lt-ltb, le-ltb, ltb-true, ltb-false}
+use Rattle.std.specs.Prelude.{Ok, Err}
 use Rattle.tokens.proofs.Tests.{both}
 use Rattle.card_laws.specs.Lines.{lacks}
 use Rattle.card_laws.specs.Cards.{Card, card, number_of, card_bytes, cards_bytes}
-use Rattle.card_laws.specs.declared.Verdict.{Verdict}
-use Rattle.card_laws.specs.declared.Verdict.TheVariants.{Fine, Refusal}
+use Rattle.card_laws.specs.Verdicts.{Verdict}
 use Rattle.card_laws.specs.Reading.{good, read_cards, GoodCard, good_card, Valid, none, next}
 use Rattle.card_laws.specs.Writing.{CardsWritten, done, unwritten, writable, unless_here, card_verdict, write_from, write_cards}
 use Rattle.card_laws.specs.Theorems.{JudgeLaws, Written}
 use Rattle.card_laws.proofs.Reading.{back}
 
 module _ (formula : List ℕ → List ℕ → Verdict) where
-  pub verdict-good : (last : ℕ) (c : Card) → card_verdict formula last c ≡ Fine → GoodCard formula last c
+  pub verdict-good : (last : ℕ) (c : Card) → card_verdict formula last c ≡ Ok tt → GoodCard formula last c
   verdict-good last (card n t e) h = go (writable (card n t e)) refl (ltb last n) refl h
     where
-      go : (x : Bool) → writable (card n t e) ≡ x → (y : Bool) → ltb last n ≡ y → cond x (cond y (formula t e) (Refusal 18)) (Refusal 16) ≡ Fine
+      go : (x : Bool) → writable (card n t e) ≡ x → (y : Bool) → ltb last n ≡ y → cond x (cond y (formula t e) (Err 18)) (Err 16) ≡ Ok tt
           → GoodCard formula last (card n t e)
       go false p y q w = let z : ◌≡◌ {A = ℕ} 0 1 = cc in absurd (omega arith)
       go true p false q w = let z : ◌≡◌ {A = ℕ} 0 1 = cc in absurd (omega arith)
@@ -29,7 +29,7 @@ module _ (formula : List ℕ → List ℕ → Verdict) where
           let small = ltb-true n 65 (both (lacks 10 t && lacks 10 e && ltb 0 n) (ltb n 65) p).1 in
           good_card (ltb-true last n q) (omega arith) w
 
-  pub good-verdict : JudgeLaws formula → {last : ℕ} {c : Card} → GoodCard formula last c → card_verdict formula last c ≡ Fine
+  pub good-verdict : JudgeLaws formula → {last : ℕ} {c : Card} → GoodCard formula last c → card_verdict formula last c ≡ Ok tt
   good-verdict laws {last} (good_card {n} {t} {e} h b a) =
       rw (laws.target_line t e a, laws.expr_line t e a, lt-ltb 0 n (omega arith), lt-ltb n 65 (omega arith), lt-ltb last n h) a
 
@@ -43,8 +43,8 @@ module _ (formula : List ℕ → List ℕ → Verdict) where
     where
       go : (v : Verdict) → card_verdict formula last c ≡ v → unless_here v at (write_from formula (number_of c) (at + length (card_bytes c)) cs s) ≡ done s'
           → (write_from formula (number_of c) (at + length (card_bytes c)) cs s ≡ done s' → Through (number_of c) cs s s') → Through last (c ∷ cs) s s'
-      go Fine q w ih = let i : Through (number_of c) cs s s' = ih w in record { same = i.same; valid = next (verdict-good last c q) i.valid }
-      go (Refusal a) q w ih = let z : ◌≡◌ {A = ℕ} 0 1 = cc in absurd (omega arith)
+      go (Ok _) q w ih = let i : Through (number_of c) cs s s' = ih w in record { same = i.same; valid = next (verdict-good last c q) i.valid }
+      go (Err a) q w ih = let z : ◌≡◌ {A = ℕ} 0 1 = cc in absurd (omega arith)
 
   module _ (laws : JudgeLaws formula) where
     from-there : {last : ℕ} {cs : List Card} (at : ℕ) (s : List ℕ) → Valid formula last cs → write_from formula last at cs s ≡ done s

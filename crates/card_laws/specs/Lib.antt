@@ -1,5 +1,6 @@
 pub mod Lines
 pub mod Cards
+pub mod Verdicts
 pub mod Reading
 pub mod Writing
 pub mod Refusals

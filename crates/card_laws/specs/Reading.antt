@@ -1,10 +1,9 @@
 -- Reading a file of cards (paper 02, request 6): "refusals: 16 a line out of form or order .., 17 check differs, 18 a card number repeated or falling, in
 -- that order; then the formula's own number, target included. .. The first refused card decides; its first byte is returned .. and no card is handed out."
 -- What is refused of a target and an expression is a parameter; Formulas has the real one.
-use Rattle.std.specs.Prelude.{◌≡◌, Bool, true, false, cond, List, [], ◌∷◌, ℕ, zero, suc, ◌+◌, ◌≤◌, ◌<◌, ltb, length}
+use Rattle.std.specs.Prelude.{◌≡◌, Bool, true, false, cond, List, [], ◌∷◌, ℕ, zero, suc, ◌+◌, ◌≤◌, ◌<◌, ltb, length, Ok, Err}
 use Rattle.tokens.specs.Symbols.{equal_bytes}
-use Rattle.card_laws.specs.declared.Verdict.{Verdict}
-use Rattle.card_laws.specs.declared.Verdict.TheVariants.{Fine, Refusal}
+use Rattle.card_laws.specs.Verdicts.{Verdict}
 use Rattle.card_laws.specs.Cards.{Card, card, number_of, card_bytes, check_text, Form, formed, out, card_form, most_cards}
 
 -- a card and what follows it, or its refusal
@@ -13,8 +12,8 @@ pub data CardRead : Type 0 where
   refused : ℕ → CardRead
 
 abbrev pub unless_refused : Card → List ℕ → Verdict → CardRead
-unless_refused c r Fine = taken c r
-unless_refused c r (Refusal a) = refused a
+unless_refused c r (Ok _) = taken c r
+unless_refused c r (Err a) = refused a
 
 -- the cards of a file, or the refusal of its first refused card and that card's first byte
 pub data CardsRead : Type 0 where
@@ -59,7 +58,7 @@ module _ (formula : List ℕ → List ℕ → Verdict) where
 
   -- a good card above the number `last`
   pub data GoodCard (last : ℕ) : Card → Type 0 where
-    good_card : {n : ℕ} {t e : List ℕ} → last < n → n ≤ most_cards → formula t e ≡ Fine → GoodCard last (card n t e)
+    good_card : {n : ℕ} {t e : List ℕ} → last < n → n ≤ most_cards → formula t e ≡ Ok tt → GoodCard last (card n t e)
 
   -- "accepted cards, numbers rising"
   pub data Valid : ℕ → List Card → Type 0 where

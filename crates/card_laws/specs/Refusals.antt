@@ -1,9 +1,8 @@
 -- Why a file of cards is refused (paper 02, request 6): "Refusals: 16 a line out of form or order (in writing, also a byte 10 in a text), 17 check differs,
 -- 18 a card number repeated or falling, in that order; then the formula's own number, target included. In writing, 10 comes first if the book would not fit
 -- the lent buffer. The first refused card decides; its first byte is returned (in writing, where it would stand)".
-use Rattle.std.specs.Prelude.{◌≡◌, true, false, List, ◌∷◌, ◌++◌, ℕ, ◌≤◌, ◌<◌, length}
-use Rattle.card_laws.specs.declared.Verdict.{Verdict}
-use Rattle.card_laws.specs.declared.Verdict.TheVariants.{Refusal}
+use Rattle.std.specs.Prelude.{◌≡◌, true, false, List, ◌∷◌, ◌++◌, ℕ, ◌≤◌, ◌<◌, length, Err}
+use Rattle.card_laws.specs.Verdicts.{Verdict}
 use Rattle.card_laws.specs.Cards.{Card, card, check_text, cards_bytes, Form, formed, out, card_form}
 use Rattle.card_laws.specs.Reading.{last_of, Valid}
 use Rattle.card_laws.specs.Writing.{writable}
@@ -14,7 +13,7 @@ module _ (formula : List ℕ → List ℕ → Verdict) where
     out_of_form : Refused last out 16
     wrong_check : {n : ℕ} {t e k r : List ℕ} → (k ≡ check_text t e → ⊥) → Refused last (formed n t e k r) 17
     not_above : {n : ℕ} {t e k r : List ℕ} → k ≡ check_text t e → n ≤ last → Refused last (formed n t e k r) 18
-    own : {n a : ℕ} {t e k r : List ℕ} → k ≡ check_text t e → last < n → formula t e ≡ Refusal a → Refused last (formed n t e k r) a
+    own : {n a : ℕ} {t e k r : List ℕ} → k ≡ check_text t e → last < n → formula t e ≡ Err a → Refused last (formed n t e k r) a
 
   -- a file that is good cards and then one that is refused, and that card's first byte
   pub record FirstRefused (s : List ℕ) (a p : ℕ) : Type 0 where
@@ -30,7 +29,7 @@ module _ (formula : List ℕ → List ℕ → Verdict) where
   pub data Unfit (last : ℕ) : Card → ℕ → Type 0 where
     no_lines : {c : Card} → writable c ≡ false → Unfit last c 16
     not_above : {n : ℕ} {t e : List ℕ} → writable (card n t e) ≡ true → n ≤ last → Unfit last (card n t e) 18
-    own : {n a : ℕ} {t e : List ℕ} → writable (card n t e) ≡ true → last < n → formula t e ≡ Refusal a → Unfit last (card n t e) a
+    own : {n a : ℕ} {t e : List ℕ} → writable (card n t e) ≡ true → last < n → formula t e ≡ Err a → Unfit last (card n t e) a
 
   -- cards that are good up to one that is not written, and where that one would stand
   pub record FirstUnfit (cs : List Card) (a p : ℕ) : Type 0 where

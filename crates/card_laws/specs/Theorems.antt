@@ -1,11 +1,10 @@
 -- What is promised of reading and writing cards (paper 02, request 6): proofs/Theorems.antt proves this record for every judge that keeps the laws
 -- `JudgeLaws`, and for the real one.
-use Rattle.std.specs.Prelude.{◌≡◌, ◌⊎◌, ◌↔◌, List, [], ◌∷◌, ◌++◌, ℕ, ◌+◌, ◌≤◌, ◌<◌, length, set, get_or}
+use Rattle.std.specs.Prelude.{◌≡◌, ◌⊎◌, ◌↔◌, List, [], ◌∷◌, ◌++◌, ℕ, ◌+◌, ◌≤◌, ◌<◌, length, set, get_or, Ok, Err}
 use Rattle.words.specs.Ascii.{byte}
 use Rattle.card_laws.specs.Lines.{line_end, ended, Lacks}
 use Rattle.card_laws.specs.Cards.{Card, card, card_line, checked_lines, cards_bytes, card_form}
-use Rattle.card_laws.specs.declared.Verdict.{Verdict}
-use Rattle.card_laws.specs.declared.Verdict.TheVariants.{Fine, Refusal}
+use Rattle.card_laws.specs.Verdicts.{Verdict}
 use Rattle.card_laws.specs.Reading.{refused, read_card, CardsRead, good, bad, read_cards, Valid}
 use Rattle.card_laws.specs.Writing.{done, unwritten, written_bytes, write_cards}
 use Rattle.card_laws.specs.Refusals.{Refused, FirstRefused, NotWritten}
@@ -13,13 +12,13 @@ use Rattle.card_laws.specs.Refusals.{Refused, FirstRefused, NotWritten}
 -- What is asked of a judge: an accepted text has at most 1,024 bytes and no line end; an accepted expression has no `k`, so that no line of it can become
 -- a `check=` line; its refusals are 2 to 9.
 pub record JudgeLaws (formula : List ℕ → List ℕ → Verdict) : Type 0 where
-  pub target_short : (t e : List ℕ) → formula t e ≡ Fine → length t ≤ 1024
-  pub expr_short : (t e : List ℕ) → formula t e ≡ Fine → length e ≤ 1024
-  pub target_line : (t e : List ℕ) → formula t e ≡ Fine → Lacks line_end t
-  pub expr_line : (t e : List ℕ) → formula t e ≡ Fine → Lacks line_end e
-  pub no_k : (t e : List ℕ) → formula t e ≡ Fine → Lacks (byte "k") e
+  pub target_short : (t e : List ℕ) → formula t e ≡ Ok tt → length t ≤ 1024
+  pub expr_short : (t e : List ℕ) → formula t e ≡ Ok tt → length e ≤ 1024
+  pub target_line : (t e : List ℕ) → formula t e ≡ Ok tt → Lacks line_end t
+  pub expr_line : (t e : List ℕ) → formula t e ≡ Ok tt → Lacks line_end e
+  pub no_k : (t e : List ℕ) → formula t e ≡ Ok tt → Lacks (byte "k") e
   -- "the formula's own number, target included"
-  pub own_answer : (t e : List ℕ) (a : ℕ) → formula t e ≡ Refusal a → (2 ≤ a) × (a ≤ 9)
+  pub own_answer : (t e : List ℕ) (a : ℕ) → formula t e ≡ Err a → (2 ≤ a) × (a ≤ 9)
 
 -- refused at a place with 16 or 17
 pub record Spoilt (r : CardsRead) (place : ℕ) : Type 0 where

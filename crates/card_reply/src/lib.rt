@@ -51,6 +51,7 @@ fn put_refused(out: &mut [u8], at: usize, card: &[u8], answer: u32) -> usize
     printing::put_all(out, c, b"\n")
 }
 
+// A function of its own: the range of a word that was read through a reference is known only as an argument's.
 fn wide(n: u32) -> usize
     ensures { result ≡ n }
 {

@@ -33,12 +33,10 @@ pub fn part_end(file: &[u8], at: usize) -> usize
     requires { at < length file.now }
     ensures { PartTo file.now at result }
 {
-    let mut last = at;
-    while last + 1 < file.len() {
+    for last in at..file.len() - 1 {
         if ends_at(file, last) {
             return last + 1;
         }
-        last += 1;
     }
-    last + 1
+    file.len()
 }

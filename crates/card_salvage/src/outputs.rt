@@ -1,4 +1,5 @@
-// The two outputs: the kept parts, and the names of those left out. Both passes take the same steps.
+// The two outputs: the kept parts, and the names of those left out. Both passes take the same steps, from one part's end to the next. "A number not above the
+// last kept one is 18, so the earlier card stays": a part that is left out leaves the last number as it was.
 ghost use Rattle.std.specs.Prelude.{◌≡◌, ◌+◌, ◌≤◌, length};
 ghost use Rattle.lines.specs.Printing.{width_of};
 ghost use Rattle.lines.specs.private.Steps.{Puts};
@@ -6,7 +7,6 @@ ghost use Rattle.card_laws.specs.Formulas.{formula_answer};
 ghost use Rattle.salvage_laws.specs.Salvage.{kept_bytes, named_bytes, name_lines, salvaged, fits};
 ghost use Rattle.card_salvage.specs.private.Steps.{kept_of, kept_size, name_of};
 
-use crate::answers::Answer;
 use crate::{Salvaged, answers, cutting};
 use lines::printing;
 
@@ -21,12 +21,12 @@ const NAMED_PER_BYTE: usize = 6;
 const NAMED_BESIDES: usize = 64;
 
 // How many bytes an answer adds to the kept output.
-fn kept_size(answer: Answer, size: usize) -> usize
+fn kept_size(answer: Result<u32, u32>, size: usize) -> usize
     ensures { result ≡ kept_size answer size }
 {
     match answer {
-        Answer::Keeps(_) => size,
-        Answer::Leaves(_) => 0,
+        Ok(_) => size,
+        Err(_) => 0,
     }
 }
 
@@ -40,12 +40,12 @@ fn name_size(first: usize, size: usize, answer: u32) -> usize
 }
 
 // How many bytes an answer adds to the named output.
-fn named_size(answer: Answer, first: usize, size: usize) -> usize
+fn named_size(answer: Result<u32, u32>, first: usize, size: usize) -> usize
     ensures { result ≡ length (name_of answer first size) }
 {
     match answer {
-        Answer::Keeps(_) => 0,
-        Answer::Leaves(a) => name_size(first, size, a),
+        Ok(_) => 0,
+        Err(a) => name_size(first, size, a),
     }
 }
 
@@ -70,7 +70,7 @@ fn measure(file: &[u8], room: usize, other: usize) -> bool
         }
         kept_left -= kept;
         named_left -= named;
-        last = answers::last_kept(last, answer);
+        last = answer.unwrap_or(last);
         at = end;
     }
     true
@@ -87,13 +87,13 @@ pub fn fit(file: &[u8], room: usize, other: usize) -> bool
     measure(file, room, other)
 }
 
-fn put_kept(out: &mut [u8], at: usize, answer: Answer, part: &[u8]) -> usize
+fn put_kept(out: &mut [u8], at: usize, answer: Result<u32, u32>, part: &[u8]) -> usize
     requires { at + length (kept_of answer part.now) ≤ length out.old }
     ensures { Puts out.old at out.new result (kept_of answer part.now) }
 {
     match answer {
-        Answer::Keeps(_) => printing::put_all(out, at, part),
-        Answer::Leaves(_) => at,
+        Ok(_) => printing::put_all(out, at, part),
+        Err(_) => at,
     }
 }
 
@@ -110,13 +110,13 @@ fn put_lines(out: &mut [u8], at: usize, first: usize, size: usize, answer: u32) 
     printing::put_all(out, f, b"\n")
 }
 
-fn put_name(out: &mut [u8], at: usize, answer: Answer, first: usize, size: usize) -> usize
+fn put_name(out: &mut [u8], at: usize, answer: Result<u32, u32>, first: usize, size: usize) -> usize
     requires { at + length (name_of answer first size) ≤ length out.old }
     ensures { Puts out.old at out.new result (name_of answer first size) }
 {
     match answer {
-        Answer::Keeps(_) => at,
-        Answer::Leaves(a) => put_lines(out, at, first, size, a),
+        Ok(_) => at,
+        Err(a) => put_lines(out, at, first, size, a),
     }
 }
 
@@ -136,7 +136,7 @@ pub fn write(file: &[u8], kept: &mut [u8], named: &mut [u8]) -> Salvaged
         let answer = answers::part_answer(&file[at..end], last);
         kept_at = put_kept(kept, kept_at, answer, &file[at..end]);
         named_at = put_name(named, named_at, answer, at, end - at);
-        last = answers::last_kept(last, answer);
+        last = answer.unwrap_or(last);
         at = end;
     }
     Salvaged {

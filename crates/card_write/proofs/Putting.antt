@@ -2,11 +2,11 @@
 use mathlib.Core.Path.{◌≡◌, refl, sym, ap, subst, ◌∙◌}
 use mathlib.Core.Bool.{Bool, true, false, cond}
 use mathlib.Core.List.{List, [], ◌∷◌, ◌++◌, append-nil, append_assoc}
-use Prim.Native.Nat.{ℕ, zero, suc, ◌+◌, ◌-◌, ◌*◌, ◌/◌, ◌≤◌, ◌<◌}
+use Prim.Native.Nat.{ℕ, suc, ◌+◌, ◌-◌, ◌≤◌}
 use native.Mathlib.Omega.{arith}
 use lib.Dec.{leb, ltb}
 use lib.ListN.{length, take, drop, length-append}
-use lib.Seq.{sets, sets-eq, take_at, drop_at, length-take-le, length-sets}
+use lib.Seq.{sets, sets-eq, take-length, take_at, drop_at, length-take-le, length-sets}
 use borrow.Author.Tests.{leb-true, leb-false, lt-ltb, le-ltb}
 use Rattle.lines.specs.Printing.{low_digits, decimal_text}
 use Rattle.lines.specs.private.Steps.{Puts}
@@ -19,12 +19,11 @@ use Rattle.card_laws.specs.Formulas.{formula_answer}
 use Rattle.card_laws.proofs.Cards.{ended-append}
 use Rattle.card_laws.proofs.Reading.{cards-append}
 use Rattle.card_laws.proofs.Writing.{from_is}
-use Rattle.card_write.specs.declared.Given.{Given}
 use Rattle.card_write.specs.declared.Judged.{Judged}
 use Rattle.card_write.specs.declared.Written.{Written}
-use Rattle.card_write.specs.Given.{first_cards, cards_in, writing, written_in}
-use Rattle.card_write.specs.private.Places.{judged_in, judged_cards}
-use Rattle.card_write.proofs.Sizes.{CardAt, from, Left, first-left, nothing_left}
+use Rattle.card_write.specs.Given.{cards_in, writing, written_in}
+use Rattle.card_write.specs.private.Places.{cards_of, judged_in, judged_cards}
+use Rattle.card_write.proofs.Sizes.{from, Left, nothing_left}
 
 -- ---- what was put is there
 pub put-part : {l m : List ℕ} {at b : ℕ} {s : List ℕ} → Puts l at m b s → at + length s ≤ length l → take (b - at) (drop at m) ≡ s
@@ -56,117 +55,128 @@ pub digits_of : (t e : List ℕ) {x ds : List ℕ} {sum : ℕ} → x ≡ checked
 unfolding check_text
 digits_of t e p q r = r ∙ ap (low_digits 10 5) (q ∙ ap check_of p)
 
--- ---- card after card, of n cards
-pub record Putting (texts ws : List ℕ) (n : ℕ) (old now : List ℕ) (at k : ℕ) : Type 0 where
+-- ---- card after card
+pub record Putting (texts : List ℕ) (ws : List (List ℕ)) (old now : List ℕ) (at k : ℕ) : Type 0 where
   pub cards : List Card
   pub put : Puts old 0 now at (cards_bytes cards)
-  pub whole : first_cards texts n ws ≡ cards ++ from texts ws n k
+  pub whole : cards_of texts ws ≡ cards ++ from texts ws k
 
-pub start : (texts ws : List ℕ) (n : ℕ) (old : List ℕ) → Putting texts ws n old old 0 0
-start texts ws n old = record { cards = []; put = record { bytes = refl; end = refl }; whole = first-left texts ws n }
+pub start : (texts : List ℕ) (ws : List (List ℕ)) (old : List ℕ) → Putting texts ws old old 0 0
+start texts ws old = record { cards = []; put = record { bytes = refl; end = refl }; whole = refl }
 
--- the next card has room
-pub room : {texts ws : List ℕ} {n : ℕ} {old now : List ℕ} {at k : ℕ} → (p : Putting texts ws n old now at k) → {g : Given} → Left texts ws n k g
-    → length (cards_bytes (first_cards texts n ws)) ≤ length old
-    → at + length (card_bytes (CardAt texts g)) ≤ length old
-room {texts} {ws} {n} {old} {now} {at} {k} p {g} l h =
-    let rest : List Card = from texts ws n (k + 1) in
-    let e : length (cards_bytes (first_cards texts n ws)) ≡ length (cards_bytes p.cards) + (length (card_bytes (CardAt texts g)) + length (cards_bytes rest)) =
-    ap (λ (cs : List Card). length (cards_bytes cs)) (p.whole ∙ ap (λ (cs : List Card). p.cards ++ cs) l.here)
-    ∙ ap length (cards-append p.cards (CardAt texts g ∷ rest))
-    ∙ length-append (cards_bytes p.cards) (card_bytes (CardAt texts g) ++ cards_bytes rest)
-    ∙ ap (λ (n : ℕ). length (cards_bytes p.cards) + n) (length-append (card_bytes (CardAt texts g)) (cards_bytes rest)) in
-    omega (arith, p.put.end)
+module _ {texts : List ℕ} {ws : List (List ℕ)} {old now : List ℕ} {at k : ℕ} (p : Putting texts ws old now at k) where
+  -- the next card has room
+  pub room : {n : ℕ} {t e : List ℕ} → Left texts ws k n t e → length (cards_bytes (cards_of texts ws)) ≤ length old
+      → at + length (card_bytes (card n t e)) ≤ length old
+  room {n} {t} {e} l h =
+      let rest : List Card = from texts ws (k + 1) in
+      let size : length (cards_bytes (cards_of texts ws)) ≡ length (cards_bytes p.cards) + (length (card_bytes (card n t e)) + length (cards_bytes rest)) =
+      ap (λ (cs : List Card). length (cards_bytes cs)) (p.whole ∙ ap (λ (cs : List Card). p.cards ++ cs) l.here)
+      ∙ ap length (cards-append p.cards (card n t e ∷ rest))
+      ∙ length-append (cards_bytes p.cards) (card_bytes (card n t e) ++ cards_bytes rest)
+      ∙ ap (λ (i : ℕ). length (cards_bytes p.cards) + i) (length-append (card_bytes (card n t e)) (cards_bytes rest)) in
+      omega (arith, p.put.end)
 
-pub next : {texts ws : List ℕ} {n : ℕ} {old now new : List ℕ} {at at' k : ℕ} → (p : Putting texts ws n old now at k) → {g : Given} → Left texts ws n k g
-    → Puts now at new at' (card_bytes (CardAt texts g))
-    → Putting texts ws n old new at' (k + 1)
-next {texts} {ws} {n} {old} {now} {new} {at} {at'} {k} p {g} l q =
-    let more : List Card = CardAt texts g ∷ [] in
-    record {
-      cards = p.cards ++ more;
-      put = as-text (ap (λ (s : List ℕ). cards_bytes p.cards ++ s) (sym (append-nil (card_bytes (CardAt texts g)))) ∙ sym (cards-append p.cards more))
-          (then p.put q);
-      whole = p.whole ∙ ap (λ (cs : List Card). p.cards ++ cs) l.here ∙ sym (append_assoc p.cards more (from texts ws n (k + 1)));
-    }
+  pub next : {new : List ℕ} {at' n : ℕ} {t e : List ℕ} → Left texts ws k n t e → Puts now at new at' (card_bytes (card n t e))
+      → Putting texts ws old new at' (k + 1)
+  next {new} {at'} {n} {t} {e} l q =
+      let more : List Card = card n t e ∷ [] in
+      record {
+        cards = p.cards ++ more;
+        put = as-text (ap (λ (s : List ℕ). cards_bytes p.cards ++ s) (sym (append-nil (card_bytes (card n t e)))) ∙ sym (cards-append p.cards more))
+            (then p.put q);
+        whole = p.whole ∙ ap (λ (cs : List Card). p.cards ++ cs) l.here ∙ sym (append_assoc p.cards more (from texts ws (k + 1)));
+      }
 
-pub end : {texts ws : List ℕ} {n : ℕ} {old now : List ℕ} {at k : ℕ} → (p : Putting texts ws n old now at k) → n ≤ k
-    → now ≡ sets old 0 (cards_bytes (first_cards texts n ws))
-end {texts} {ws} {n} {old} {now} {at} {k} p h =
-    let e : first_cards texts n ws ≡ p.cards = p.whole ∙ ap (λ (cs : List Card). p.cards ++ cs) (nothing_left texts ws n k h) ∙ append-nil p.cards in
-    p.put.bytes ∙ ap (λ (cs : List Card). sets old 0 (cards_bytes cs)) (sym e)
+  pub end : length ws ≤ k → now ≡ sets old 0 (cards_bytes (cards_of texts ws))
+  end h =
+      let e : cards_of texts ws ≡ p.cards = p.whole ∙ ap (λ (cs : List Card). p.cards ++ cs) (nothing_left texts ws k h) ∙ append-nil p.cards in
+      p.put.bytes ∙ ap (λ (cs : List Card). sets old 0 (cards_bytes cs)) (sym e)
 
-pub long : {texts ws : List ℕ} {n : ℕ} {old now : List ℕ} {at k : ℕ} → Putting texts ws n old now at k → length now ≡ length old
-long {old = old} p = ap length p.put.bytes ∙ length-sets old 0 (cards_bytes p.cards)
+  pub long : length now ≡ length old
+  long = ap length p.put.bytes ∙ length-sets old 0 (cards_bytes p.cards)
 
--- ---- the whole
-module _ (out texts ws : List ℕ) where
+-- ---- the whole, of rows that have all cards
+module _ (out texts ws : List ℕ) (rows : List (List ℕ)) (b : cards_of texts rows ≡ cards_in texts ws) where
   abbrev Whole : CardsWritten
   Whole = writing texts ws out
 
   abbrev Result : Written → List ℕ → Type 0
   Result r new = (r ≡ written_in Whole) × (new ≡ written_bytes out Whole)
 
-  pub too_long : false ≡ leb (length (cards_bytes (cards_in texts ws))) (length out) → Result (record { answer = 10; place = 0; length = 0 }) out
+  abbrev Cards : List Card
+  Cards = cards_of texts rows
+
+  pub too_long : false ≡ leb (length (cards_bytes Cards)) (length out) → Result (record { answer = 10; place = 0; length = 0 }) out
   too_long e =
       let size : ℕ = length (cards_bytes (cards_in texts ws)) in
-      let t : ltb (length out) size ≡ true = lt-ltb (length out) size (leb-false size (length out) (sym e)) in
+      let f : leb size (length out) ≡ false = sym (e ∙ ap (λ (cs : List Card). leb (length (cards_bytes cs)) (length out)) b) in
+      let t : ltb (length out) size ≡ true = lt-ltb (length out) size (leb-false size (length out) f) in
       (rw t, rw t)
 
-  module _ (e : true ≡ leb (length (cards_bytes (cards_in texts ws))) (length out)) {j : Judged}
-      (q : j ≡ judged_cards texts ws) where
-    room_for : length (cards_bytes (cards_in texts ws)) ≤ length out
-    room_for = leb-true (length (cards_bytes (cards_in texts ws))) (length out) (sym e)
+  module _ (e : true ≡ leb (length (cards_bytes Cards)) (length out)) {j : Judged} (q : j ≡ judged_cards texts rows) where
+    room_for : length (cards_bytes Cards) ≤ length out
+    room_for = leb-true (length (cards_bytes Cards)) (length out) (sym e)
 
-    fits : Whole ≡ write_from formula_answer 0 0 (cards_in texts ws) (cards_bytes (cards_in texts ws))
-    fits = ap (λ (t : Bool). cond t (unwritten 10 0) (write_from formula_answer 0 0 (cards_in texts ws) (cards_bytes (cards_in texts ws))))
-        (le-ltb (length out) (length (cards_bytes (cards_in texts ws))) room_for)
+    fits : Whole ≡ write_from formula_answer 0 0 Cards (cards_bytes Cards)
+    fits =
+        let h : length (cards_bytes (cards_in texts ws)) ≤ length out = subst (λ (cs : List Card). length (cards_bytes cs) ≤ length out) b room_for in
+        ap (λ (t : Bool). cond t (unwritten 10 0) (write_from formula_answer 0 0 (cards_in texts ws) (cards_bytes (cards_in texts ws))))
+        (le-ltb (length out) (length (cards_bytes (cards_in texts ws))) h)
+        ∙ ap (λ (cs : List Card). write_from formula_answer 0 0 cs (cards_bytes cs)) (sym b)
 
-    -- what is put are cards that were given, and fits
-    pub few : 5 * j.cards ≤ length ws
-    few = by (write_from formula_answer 0 0 (cards_in texts ws) (cards_bytes (cards_in texts ws))) q
+    -- what is put: all rows, or none
+    abbrev put_rows : List (List ℕ)
+    put_rows = take j.cards rows
+
+    all_put : j.cards ≡ length rows → put_rows ≡ rows
+    all_put i = ap (λ (n : ℕ). take n rows) i ∙ take-length rows
+
+    none_put : j.cards ≡ 0 → put_rows ≡ []
+    none_put i = ap (λ (n : ℕ). take n rows) i
+
+    pub few : j.cards ≤ length rows
+    few = by (write_from formula_answer 0 0 Cards (cards_bytes Cards)) q
       where
-        by : (w : CardsWritten) → j ≡ judged_in (length ws / 5) w → 5 * j.cards ≤ length ws
+        by : (w : CardsWritten) → j ≡ judged_in (length rows) w → j.cards ≤ length rows
         by (done s) i = omega (arith, ap (λ (x : Judged). x.cards) i)
         by (unwritten a p) i = omega (arith, ap (λ (x : Judged). x.cards) i)
 
-    pub small : length (cards_bytes (first_cards texts j.cards ws)) ≤ length out
-    unfolding cards_in
-    small = by (write_from formula_answer 0 0 (cards_in texts ws) (cards_bytes (cards_in texts ws))) q
+    pub small : length (cards_bytes (cards_of texts put_rows)) ≤ length out
+    small = by (write_from formula_answer 0 0 Cards (cards_bytes Cards)) q
       where
-        size : {n : ℕ} → j.cards ≡ n → length (cards_bytes (first_cards texts j.cards ws)) ≡ length (cards_bytes (first_cards texts n ws))
-        size i = ap (λ (n : ℕ). length (cards_bytes (first_cards texts n ws))) i
+        size : {r : List (List ℕ)} → put_rows ≡ r → length (cards_bytes (cards_of texts put_rows)) ≡ length (cards_bytes (cards_of texts r))
+        size i = ap (λ (r : List (List ℕ)). length (cards_bytes (cards_of texts r))) i
 
-        by : (w : CardsWritten) → j ≡ judged_in (length ws / 5) w → length (cards_bytes (first_cards texts j.cards ws)) ≤ length out
-        by (done s) i = omega (arith, size (ap (λ (x : Judged). x.cards) i), room_for)
-        by (unwritten a p) i = omega (arith, size (ap (λ (x : Judged). x.cards) i))
+        by : (w : CardsWritten) → j ≡ judged_in (length rows) w → length (cards_bytes (cards_of texts put_rows)) ≤ length out
+        by (done s) i = omega (arith, size (all_put (ap (λ (x : Judged). x.cards) i)), room_for)
+        by (unwritten a p) i = omega (arith, size (none_put (ap (λ (x : Judged). x.cards) i)))
 
-    pub judged-so : {new : List ℕ} → new ≡ sets out 0 (cards_bytes (first_cards texts j.cards ws))
+    pub judged-so : {new : List ℕ} → new ≡ sets out 0 (cards_bytes (cards_of texts put_rows))
         → Result (record { answer = j.answer; place = j.place; length = j.length }) new
-    unfolding cards_in
-    judged-so {new} u = by (write_from formula_answer 0 0 (cards_in texts ws) (cards_bytes (cards_in texts ws))) refl q
+    judged-so {new} u = by (write_from formula_answer 0 0 Cards (cards_bytes Cards)) refl q
       where
-        put : {n : ℕ} → j.cards ≡ n → new ≡ sets out 0 (cards_bytes (first_cards texts n ws))
-        put i = u ∙ ap (λ (n : ℕ). sets out 0 (cards_bytes (first_cards texts n ws))) i
+        put : {r : List (List ℕ)} → put_rows ≡ r → new ≡ sets out 0 (cards_bytes (cards_of texts r))
+        put i = u ∙ ap (λ (r : List (List ℕ)). sets out 0 (cards_bytes (cards_of texts r))) i
 
-        words : {w : CardsWritten} → Whole ≡ w → j ≡ judged_in (length ws / 5) w
+        words : {w : CardsWritten} → Whole ≡ w → j ≡ judged_in (length rows) w
             → ◌≡◌ {A = Written} (record { answer = j.answer; place = j.place; length = j.length }) (written_in Whole)
         words {w} f i = ap (λ (x : Judged). record { answer = x.answer; place = x.place; length = x.length }) i ∙ same w ∙ ap written_in (sym f)
           where
             same : (w : CardsWritten) → ◌≡◌ {A = Written} (record {
-              answer = (judged_in (length ws / 5) w).answer;
-              place = (judged_in (length ws / 5) w).place;
-              length = (judged_in (length ws / 5) w).length;
+              answer = (judged_in (length rows) w).answer;
+              place = (judged_in (length rows) w).place;
+              length = (judged_in (length rows) w).length;
             }) (written_in w)
             same (done s) = refl
             same (unwritten a p) = refl
 
-        by : (w : CardsWritten) → write_from formula_answer 0 0 (cards_in texts ws) (cards_bytes (cards_in texts ws)) ≡ w → j ≡ judged_in (length ws / 5) w
+        by : (w : CardsWritten) → write_from formula_answer 0 0 Cards (cards_bytes Cards) ≡ w → j ≡ judged_in (length rows) w
             → Result (record { answer = j.answer; place = j.place; length = j.length }) new
-        by (unwritten a p) g i = (words (fits ∙ g) i, put (ap (λ (x : Judged). x.cards) i) ∙ sym (ap (written_bytes out) (fits ∙ g)))
+        by (unwritten a p) g i = (words (fits ∙ g) i, put (none_put (ap (λ (x : Judged). x.cards) i)) ∙ sym (ap (written_bytes out) (fits ∙ g)))
         by (done s) g i =
-            let y : cards_bytes (cards_in texts ws) ≡ s = (from_is formula_answer 0 0 (cards_in texts ws) (cards_bytes (cards_in texts ws)) s g).same in
-            (words (fits ∙ g) i, put (ap (λ (x : Judged). x.cards) i) ∙ ap (sets out 0) y ∙ sym (ap (written_bytes out) (fits ∙ g)))
+            let y : cards_bytes Cards ≡ s = (from_is formula_answer 0 0 Cards (cards_bytes Cards) s g).same in
+            (words (fits ∙ g) i, put (all_put (ap (λ (x : Judged). x.cards) i)) ∙ ap (sets out 0) y ∙ sym (ap (written_bytes out) (fits ∙ g)))
 
 -- ---- lengths
 pub put_length : {l m : List ℕ} {at b : ℕ} {s : List ℕ} → Puts l at m b s → length m ≡ length l

@@ -1,18 +1,17 @@
 // Writing a file of cards. A refused file leaves the lent buffer as it was, so cards are measured and judged before any is put.
 #![tactic(auto)]
 
-ghost use Rattle.std.specs.Prelude.{◌≡◌, ◌+◌, ◌*◌, ◌≤◌, min, leb, length};
+ghost use Rattle.std.specs.Prelude.{◌≡◌, ◌+◌, ◌≤◌, leb, length, get_or};
 ghost use Rattle.lines.specs.private.Steps.{Puts};
 ghost use Rattle.card_laws.specs.Cards.{card, checked_lines, card_bytes, cards_bytes};
 ghost use Rattle.std.proofs.lemmas.List.Edits.{sets};
 ghost use Rattle.card_laws.specs.Lines.{lacks};
 ghost use Rattle.card_laws.specs.Writing.{written_bytes, card_verdict};
 ghost use Rattle.card_laws.specs.Formulas.{formula_answer};
-ghost use Rattle.card_write.specs.Given.{first_cards, cards_in, writing, written_in};
-ghost use Rattle.card_write.specs.private.Places.{GivenAt, judged_cards};
+ghost use Rattle.card_write.specs.Given.{part, writing, written_in};
+ghost use Rattle.card_write.specs.private.Places.{cards_of, judged_cards};
 
 use card_file::{check, judging};
-use card_laws::Verdict;
 use lines::printing;
 
 // Answer, place, and how many bytes were written.
@@ -23,17 +22,15 @@ pub struct Written {
     pub length: u32,
 }
 
-// A card as the caller gives it: its number, and its target and its expression as the parts t0 to t1 and e0 to e1 of the texts.
+// A card as the caller gives it: its number, its target and its expression.
 #[derive(Clone, Copy)]
-struct Given {
+struct Given<'a> {
     number: u32,
-    t0: usize,
-    t1: usize,
-    e0: usize,
-    e1: usize,
+    target: &'a [u8],
+    expr: &'a [u8],
 }
 
-// Answer and place, how many bytes the cards have, and how many of them are to be put: all, or none.
+// Answer and place, how many bytes the cards have, and how many of them are to be put: all, or none. One call of `put_cards` follows on either way.
 #[derive(Clone, Copy)]
 struct Judged {
     answer: u32,
@@ -45,41 +42,38 @@ struct Judged {
 // A card has its keys, line ends and check besides its number and its texts.
 const CARD_FRAME: usize = 32;
 
-fn least(a: usize, b: usize) -> usize
-    ensures { result ≡ min a b }
+// Bytes beyond the texts are not there.
+fn part(texts: &[u8], at: u32, size: u32) -> &[u8]
+    ensures { result.now ≡ part texts.now at size }
 {
-    if a < b { a } else { b }
+    let rest = &texts[(at as usize).min(texts.len())..];
+    &rest[..(size as usize).min(rest.len())]
 }
 
-// Bytes beyond the texts are not there.
-fn card_at(texts: &[u8], cards: &[u32], k: usize) -> Given
-    requires { 5 * k + 5 ≤ length cards.now }
-    ensures { GivenAt texts.now cards.now k result }
+// The card of five words.
+fn card_of<'a>(texts: &'a [u8], words: &[u32; 5]) -> Given<'a>
+    ensures number { result.number ≡ get_or words.now 0 0 }
+    ensures target { result.target.now ≡ part texts.now (get_or words.now 1 0) (get_or words.now 2 0) }
+    ensures expr { result.expr.now ≡ part texts.now (get_or words.now 3 0) (get_or words.now 4 0) }
 {
-    let i = 5 * k;
-    let t0 = least(cards[i + 1] as usize, texts.len());
-    let e0 = least(cards[i + 3] as usize, texts.len());
+    let [number, target, target_size, expr, expr_size] = *words;
     Given {
-        number: cards[i],
-        t0,
-        t1: t0 + least(cards[i + 2] as usize, texts.len() - t0),
-        e0,
-        e1: e0 + least(cards[i + 4] as usize, texts.len() - e0),
+        number,
+        target: part(texts, target, target_size),
+        expr: part(texts, expr, expr_size),
     }
 }
 
 // Whether the cards' bytes fit: what is left of the room is counted down, so that no size is too large a number.
-fn fits(texts: &[u8], cards: &[u32], room: usize) -> bool
-    ensures { result ≡ leb (length (cards_bytes (cards_in texts.now cards.now))) room }
+fn fits(texts: &[u8], cards: &[[u32; 5]], room: usize) -> bool
+    ensures { result ≡ leb (length (cards_bytes (cards_of texts.now cards.now))) room }
 {
-    let count = cards.len() / 5;
     let mut left = room;
-    let mut k = 0;
-    while k < count {
-        let g = card_at(texts, cards, k);
-        let frame = CARD_FRAME + printing::width_of(g.number as u64);
-        let target = g.t1 - g.t0;
-        let expr = g.e1 - g.e0;
+    for words in cards {
+        let card = card_of(texts, words);
+        let frame = CARD_FRAME + printing::width_of(card.number as u64);
+        let target = card.target.len();
+        let expr = card.expr.len();
         if left < frame {
             return false;
         }
@@ -90,7 +84,6 @@ fn fits(texts: &[u8], cards: &[u32], room: usize) -> bool
             return false;
         }
         left = left - frame - target - expr;
-        k += 1;
     }
     true
 }
@@ -103,46 +96,35 @@ fn is_line(text: &[u8]) -> bool
 }
 
 // "16 .. (in writing, also a byte 10 in a text) .., 18 a card number repeated or falling, in that order; then the formula's own number"
-fn card_verdict(number: u32, target: &[u8], expr: &[u8], last: u32) -> Verdict
+fn card_verdict(number: u32, target: &[u8], expr: &[u8], last: u32) -> Result<(), u32>
     ensures { result ≡ card_verdict formula_answer last (card number target.now expr.now) }
 {
     if !is_line(target) {
-        return Verdict::Refusal(16);
+        return Err(16);
     }
     if !is_line(expr) {
-        return Verdict::Refusal(16);
+        return Err(16);
     }
     if number == 0 {
-        return Verdict::Refusal(16);
+        return Err(16);
     }
     if 64 < number {
-        return Verdict::Refusal(16);
+        return Err(16);
     }
     if number <= last {
-        return Verdict::Refusal(18);
+        return Err(18);
     }
     judging::formula_verdict(target, expr)
 }
 
-fn judge_cards(texts: &[u8], cards: &[u32]) -> Judged
+fn judge_cards(texts: &[u8], cards: &[[u32; 5]]) -> Judged
     ensures { result ≡ judged_cards texts.now cards.now }
 {
-    let count = cards.len() / 5;
     let mut at: usize = 0;
     let mut last: u32 = 0;
-    let mut k = 0;
-    while k < count {
-        let g = card_at(texts, cards, k);
-        let t0 = g.t0;
-        let t1 = g.t1;
-        let e0 = g.e0;
-        let e1 = g.e1;
-        if let Verdict::Refusal(answer) = card_verdict(
-            g.number,
-            &texts[t0..t1],
-            &texts[e0..e1],
-            last,
-        ) {
+    for k in 0..cards.len() {
+        let card = card_of(texts, &cards[k]);
+        if let Err(answer) = card_verdict(card.number, card.target, card.expr, last) {
             return Judged {
                 answer,
                 place: at as u32,
@@ -150,15 +132,15 @@ fn judge_cards(texts: &[u8], cards: &[u32]) -> Judged
                 cards: 0,
             };
         }
-        at = at + CARD_FRAME + printing::width_of(g.number as u64) + (t1 - t0) + (e1 - e0);
-        last = g.number;
-        k += 1;
+        let width = printing::width_of(card.number as u64);
+        at = at + CARD_FRAME + width + card.target.len() + card.expr.len();
+        last = card.number;
     }
     Judged {
         answer: 0,
         place: 0,
         length: at as u32,
-        cards: count,
+        cards: cards.len(),
     }
 }
 
@@ -188,22 +170,14 @@ fn put_card(out: &mut [u8], at: usize, number: u32, target: &[u8], expr: &[u8]) 
     printing::put_all(out, d, b"\n")
 }
 
-// The first of the cards.
-fn put_cards(texts: &[u8], cards: &[u32], count: usize, out: &mut [u8])
-    requires count_in_bounds { 5 * count ≤ length cards.now }
-    requires cards_in_bounds { length (cards_bytes (first_cards texts.now count cards.now)) ≤ length out.old }
-    ensures { out.new ≡ sets out.old 0 (cards_bytes (first_cards texts.now count cards.now)) }
+fn put_cards(texts: &[u8], cards: &[[u32; 5]], out: &mut [u8])
+    requires { length (cards_bytes (cards_of texts.now cards.now)) ≤ length out.old }
+    ensures { out.new ≡ sets out.old 0 (cards_bytes (cards_of texts.now cards.now)) }
 {
     let mut at = 0;
-    let mut k = 0;
-    while k < count {
-        let g = card_at(texts, cards, k);
-        let t0 = g.t0;
-        let t1 = g.t1;
-        let e0 = g.e0;
-        let e1 = g.e1;
-        at = put_card(out, at, g.number, &texts[t0..t1], &texts[e0..e1]);
-        k += 1;
+    for words in cards {
+        let card = card_of(texts, words);
+        at = put_card(out, at, card.number, card.target, card.expr);
     }
 }
 
@@ -212,6 +186,7 @@ pub fn write(texts: &[u8], cards: &[u32], out: &mut [u8]) -> Written
     ensures value { result ≡ written_in (writing texts.now cards.now out.old) }
     ensures out_after { out.new ≡ written_bytes out.old (writing texts.now cards.now out.old) }
 {
+    let (cards, _) = cards.as_chunks::<5>();
     if !fits(texts, cards, out.len()) {
         return Written {
             answer: 10,
@@ -220,7 +195,7 @@ pub fn write(texts: &[u8], cards: &[u32], out: &mut [u8]) -> Written
         };
     }
     let judged = judge_cards(texts, cards);
-    put_cards(texts, cards, judged.cards, out);
+    put_cards(texts, &cards[..judged.cards], out);
     Written {
         answer: judged.answer,
         place: judged.place,

@@ -1,4 +1,5 @@
 -- What an opcode and a word decode to: the one instruction whose number they make, or Unknown.
+use Rattle.std.specs.Prelude.{Option, Some, None}
 use mathlib.Core.Path.{◌≡◌, refl, sym, ap, ◌∙◌, subst}
 use mathlib.Core.Bool.{true, false, not}
 use mathlib.Core.List.{List, [], ◌∷◌, ◌++◌}
@@ -24,7 +25,6 @@ use Rattle.operators.specs.Tables.{unary_ops, binary_ops, unary_number, binary_n
 use Rattle.memory.specs.declared.Bank.{Bank}
 use Rattle.memory.specs.declared.Bank.TheVariants.{X}
 use Rattle.memory.specs.Layout.{layout_of}
-use Rattle.memory.specs.declared.numbers.BankOf.{BankOf}
 use Rattle.memory.specs.Numbers.{banks, bank_numbered, bank_number}
 use Rattle.values.specs.declared.CompareOp.TheVariants.{Eq}
 use Rattle.operators.proofs.Gives.{picked}
@@ -84,13 +84,13 @@ ranges : (o : ℕ) (f : Bank → ℕ → ℕ → Instr) → ((b : Bank) (i n : �
     → ((b : Bank) (i n : ℕ) → code_word (f b i n) ≡ join_word o (join_range (bank_number b) i n)) → Right o (ranging f)
 ranges o f e q w h = by (bank_numbered (range_bank w)) refl
   where
-    by : (x : BankOf) → bank_numbered (range_bank w) ≡ x → Decodes (join_word o w) (over_range f x (range_first w) (range_count w))
-    by (BankOf.Is b) is =
+    by : (x : Option Bank) → bank_numbered (range_bank w) ≡ x → Decodes (join_word o w) (over_range f x (range_first w) (range_count w))
+    by (Some b) is =
         picked (Decodes (join_word o w)) (good_range b (range_first w) (range_count w)) (f b (range_first w) (range_count w)) Unknown
         (λ g. one (e b (range_first w) (range_count w) (rw g tt))
         (q b (range_first w) (range_count w) ∙ ap (join_word o) (range-whole w (bank_number b) (bank-number (range_bank w) b is))))
         none
-    by BankOf.Nothing is = none
+    by None is = none
 
 -- ---- the page
 data Rights : List Row → Type 0 where

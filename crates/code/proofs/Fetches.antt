@@ -1,15 +1,14 @@
--- The eight bytes of an instruction as one number, byte by byte, and as the code joins them.
+-- The eight bytes of an instruction as one number, byte by byte, and of two halves.
 use mathlib.Core.Path.{◌≡◌, refl, ap}
 use mathlib.Core.List.{List, [], ◌∷◌}
 use Prim.Native.Nat.{ℕ, zero, suc, ◌+◌, ◌*◌, ◌/◌, ◌^◌, ◌≤◌, ◌<◌}
-use native.Mathlib.Nat.{add-zero, add-suc, mul_comm, mul_assoc, mul-add, mul-le-mul_left}
-use lib.Pow.{pow-add}
+use native.Mathlib.Nat.{add-zero, add-suc}
 use native.Mathlib.Omega.{arith}
-use lib.Bits.{bit_or, or_shifted_r}
 use lib.Dec.{lit<}
 use lib.ListN.{length, get_or, take, drop}
 use lib.Seq.{drop-cons}
 use borrow.Author.Tests.{lt-ltb, le-ltb}
+use Rattle.std.specs.Int.{w32, from_le_bytes}
 use Rattle.words.specs.Words.{little_endian}
 use Rattle.words.specs.Laws.{Bytes}
 use Rattle.words.proofs.Laws.{word_laws}
@@ -51,26 +50,11 @@ module _ (s : List ℕ) (p : ℕ) where
   unfolding fetched
   fetch-beyond h = rw (le-ltb p (length s / 8) h)
 
--- ---- the bytes joined as the code does it
--- with those that come after k bits
-abbrev joins : ℕ → ℕ → List ℕ → ℕ
-joins k low [] = low
-joins k low (b ∷ bs) = joins (k + 8) (bit_or low (2 ^ k * b)) bs
-
-joined : (k low : ℕ) (bs : List ℕ) → low < 2 ^ k → Bytes bs → joins k low bs ≡ low + 2 ^ k * little_endian bs
-joined k low [] h B = omega arith
-joined k low (b ∷ bs) h B =
-    let next : bit_or low (2 ^ k * b) ≡ low + 2 ^ k * b = rw (mul_comm (2 ^ k) b, or_shifted_r b k low h) (omega arith) in
-    let more : 2 ^ (k + 8) ≡ 2 ^ k * 256 = pow-add 2 k 8 in
-    let most : 2 ^ k * b ≤ 2 ^ k * 255 = mul-le-mul_left (2 ^ k) (omega (arith, B 0)) in
-    let fits : bit_or low (2 ^ k * b) < 2 ^ (k + 8) = rw (next, more) (omega arith) in
-    rw (joined (k + 8) (bit_or low (2 ^ k * b)) bs fits (λ j. B (suc j)), next, more, mul-add, mul_assoc) (omega arith)
-
 module _ (s : List ℕ) where
-  pub four-joined : (b : ℕ) → Bytes s → b + 4 ≤ length s → joins 8 (get_or s b 0) (bytes_at b 1 3 s) ≡ little_endian (take 4 (drop b s))
-  four-joined b B h =
+  pub four-read : (b : ℕ) → b + 4 ≤ length s → from_le_bytes w32 (get_or s b 0 ∷ bytes_at b 1 3 s) ≡ little_endian (take 4 (drop b s))
+  four-read b h =
       let each : take 4 (drop b s) ≡ get_or s b 0 ∷ bytes_at b 1 3 s = rw add-zero at (one_by_one b 0 4 s (omega arith)) in
-      rw each (joined 8 (get_or s b 0) (bytes_at b 1 3 s) (B _) (are-bytes b 1 3 s B))
+      rw each (omega arith)
 
   -- of two halves
   pub fetch-halves : (p : ℕ) → p < length s / 8

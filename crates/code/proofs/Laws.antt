@@ -1,4 +1,5 @@
 -- Bytes and instructions correspond (`EncodeLaws`), and code of bytes decodes to instructions that can be encoded.
+use Rattle.std.specs.Prelude.{Option}
 use mathlib.Core.Path.{◌≡◌, refl, ap, ◌∙◌}
 use mathlib.Core.Logic.{◌≢◌, ◌⊎◌, inl, inr}
 use mathlib.Core.Bool.{Bool, true, false}
@@ -22,14 +23,9 @@ use Rattle.words.specs.Laws.{Bytes}
 use Rattle.words.proofs.Laws.{word_laws}
 use Rattle.memory.specs.declared.Bank.{Bank}
 use Rattle.memory.specs.declared.Bank.TheVariants.{X, C, «V», N, D, R}
-use Rattle.memory.specs.declared.numbers.BankOf.{BankOf}
-use Rattle.operators.specs.declared.tables.UnaryOf.{UnaryOf}
-use Rattle.operators.specs.declared.tables.BinaryOf.{BinaryOf}
 use Rattle.memory.specs.Layout.{layout_of}
 use Rattle.memory.specs.Numbers.{bank_number}
 use Rattle.operators.specs.Tables.{unary_number, binary_number}
-use Rattle.totals.specs.declared.tables.TotalOf.{TotalOf}
-use Rattle.totals.specs.declared.tables.MatchOf.{MatchOf}
 use Rattle.totals.specs.Totals.{good_range}
 use Rattle.totals.specs.Numbers.{total_number, match_number}
 use Rattle.totals.proofs.Laws.{total-laws}
@@ -48,6 +44,10 @@ use Rattle.code.proofs.Page.{load-class, indexed-class, unary-class, binary-clas
 use Rattle.code.proofs.Fetches.{eight-below}
 use Rattle.code.proofs.Parts.{decode-beyond, decode-within}
 use Rattle.code.proofs.Decodes.{Decodes, none, one, number-decodes}
+use Rattle.totals.specs.declared.TotalOp.{TotalOp}
+use Rattle.totals.specs.declared.MatchOp.{MatchOp}
+use Rattle.operators.specs.declared.BinaryOp.{BinaryOp}
+use Rattle.operators.specs.declared.UnaryOp.{UnaryOp}
 
 -- ---- decoding undoes encoding
 -- the number of an opcode and a word has them
@@ -104,15 +104,15 @@ word-decoded _ (load b i h) =
 word-decoded _ (load-indexed b) =
     let few = bank-below b in
     joined-parts (LOAD-INDEXED + bank_number b) 0 (omega arith) ∙ indexed-class (bank_number b) 0 (omega arith)
-    ∙ ap (λ (n : BankOf). of_bank load_indexed n 0) (bank-back b)
+    ∙ ap (λ (n : (Option Bank)). of_bank load_indexed n 0) (bank-back b)
 word-decoded _ (unary o) =
     let few = unary-below o in
     joined-parts (UNARY + unary_number o) 0 (omega arith) ∙ unary-class (unary_number o) 0 (omega arith)
-    ∙ ap (λ (n : UnaryOf). of_unary n 0) (unary-back o)
+    ∙ ap (λ (n : (Option UnaryOp)). of_unary n 0) (unary-back o)
 word-decoded _ (binary o) =
     let few = binary-below o in
     joined-parts (BINARY + binary_number o) 0 (omega arith) ∙ binary-class (binary_number o) 0 (omega arith)
-    ∙ ap (λ (n : BinaryOf). of_binary n 0) (binary-back o)
+    ∙ ap (λ (n : (Option BinaryOp)). of_binary n 0) (binary-back o)
 word-decoded _ (jump d h) = joined-parts JUMP d (lit< tt)
 word-decoded _ (jump-if false d h) = joined-parts JUMP-IF-FALSE d (lit< tt)
 word-decoded _ (jump-if true d h) = joined-parts JUMP-IF-TRUE d (lit< tt)
@@ -122,12 +122,12 @@ word-decoded _ (total o b i n g) =
     let few = total-below o in
     let w = join_range (bank_number b) i n in
     joined-parts (TOTAL + total_number o) w (omega arith) ∙ total-class (total_number o) w (omega arith)
-    ∙ ap (λ (u : TotalOf). of_total u w) (total-back o) ∙ range-decoded (Total o) b i n g
+    ∙ ap (λ (u : (Option TotalOp)). of_total u w) (total-back o) ∙ range-decoded (Total o) b i n g
 word-decoded _ (matching o b i n g) =
     let few = match-below o in
     let w = join_range (bank_number b) i n in
     joined-parts (MATCH + match_number o) w (omega arith) ∙ match-class (match_number o) w (omega arith)
-    ∙ ap (λ (u : MatchOf). of_match u w) (match_back o) ∙ range-decoded (Match o) b i n g
+    ∙ ap (λ (u : (Option MatchOp)). of_match u w) (match_back o) ∙ range-decoded (Match o) b i n g
 
 pub word_below : (i : Instr) → Encodable i → code_word i < 2 ^ 64
 word_below _ (push-int z t) = let low = low_below z in omega arith

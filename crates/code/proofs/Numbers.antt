@@ -1,4 +1,5 @@
 -- The operands and their numbers: each has its own, and the list at a number is the operand with it.
+use Rattle.std.specs.Prelude.{Some, None}
 use mathlib.Core.Path.{◌≡◌, refl, sym, ◌∙◌}
 use mathlib.Core.Bool.{Bool, true, false, cond, false≢true}
 use mathlib.Core.List.{List, [], ◌∷◌, map}
@@ -19,19 +20,14 @@ use Rattle.operators.specs.declared.BinaryOp.{BinaryOp}
 use Rattle.operators.specs.declared.BinaryOp.TheVariants.{Arith, Power, Shift, Compare, Bits, Choice}
 use Rattle.memory.specs.declared.Bank.{Bank}
 use Rattle.memory.specs.declared.Bank.TheVariants.{X, C, «V», N, D, R}
-use Rattle.operators.specs.declared.tables.UnaryOf.TheVariants as UnaryOf
-use Rattle.operators.specs.declared.tables.BinaryOf.TheVariants as BinaryOf
 use Rattle.operators.specs.Tables.{unary_ops, binary_ops, unary_of, binary_of, unary_number, binary_number}
-use Rattle.memory.specs.declared.numbers.BankOf.{BankOf}
 use Rattle.memory.specs.Numbers.{banks, bank_numbered, bank_number}
 use Rattle.totals.specs.declared.TotalOp.{TotalOp}
 use Rattle.totals.specs.declared.MatchOp.{MatchOp}
-use Rattle.totals.specs.declared.tables.TotalOf.TheVariants as TotalOf
-use Rattle.totals.specs.declared.tables.MatchOf.TheVariants as MatchOf
 use Rattle.totals.specs.Numbers.{total_ops, match_ops, total_of, match_of, total_number, match_number}
 
 -- ---- the operand of its number
-pub bank-back : (b : Bank) → bank_numbered (bank_number b) ≡ BankOf.Is b
+pub bank-back : (b : Bank) → bank_numbered (bank_number b) ≡ Some b
 bank-back X = refl
 bank-back C = refl
 bank-back «V» = refl
@@ -39,7 +35,7 @@ bank-back N = refl
 bank-back D = refl
 bank-back R = refl
 
-pub unary-back : (o : UnaryOp) → unary_of (unary_number o) ≡ UnaryOf.Is o
+pub unary-back : (o : UnaryOp) → unary_of (unary_number o) ≡ Some o
 unary-back Neg = refl
 unary-back Complement = refl
 unary-back Not = refl
@@ -49,7 +45,7 @@ unary-back Trunc = refl
 unary-back Round = refl
 unary-back Frac = refl
 
-pub binary-back : (o : BinaryOp) → binary_of (binary_number o) ≡ BinaryOf.Is o
+pub binary-back : (o : BinaryOp) → binary_of (binary_number o) ≡ Some o
 binary-back Power = refl
 binary-back (Arith Mul) = refl
 binary-back (Arith Div) = refl
@@ -71,13 +67,13 @@ binary-back (Bits Or) = refl
 binary-back (Choice Max) = refl
 binary-back (Choice Min) = refl
 
-pub total-back : (o : TotalOp) → total_of (total_number o) ≡ TotalOf.Is o
+pub total-back : (o : TotalOp) → total_of (total_number o) ≡ Some o
 total-back TotalOp.Sum = refl
 total-back TotalOp.Average = refl
 total-back (TotalOp.Choice Max) = refl
 total-back (TotalOp.Choice Min) = refl
 
-pub match_back : (o : MatchOp) → match_of (match_number o) ≡ MatchOf.Is o
+pub match_back : (o : MatchOp) → match_of (match_number o) ≡ Some o
 match_back (MatchOp.Count Eq) = refl
 match_back (MatchOp.Count Ne) = refl
 match_back (MatchOp.Count Ge) = refl
@@ -100,19 +96,19 @@ found_below n m x y z other = by (ltb n m) refl
     by false e q = absurd (false≢true (other q))
 
 pub bank-below : (b : Bank) → bank_number b < 6
-bank-below b = found_below (bank_number b) 6 _ BankOf.Nothing (BankOf.Is b) (λ e. cc) (bank-back b)
+bank-below b = found_below (bank_number b) 6 _ None (Some b) (λ e. cc) (bank-back b)
 
 pub unary-below : (o : UnaryOp) → unary_number o < 8
-unary-below o = found_below (unary_number o) 8 _ UnaryOf.Nothing (UnaryOf.Is o) (λ e. cc) (unary-back o)
+unary-below o = found_below (unary_number o) 8 _ None (Some o) (λ e. cc) (unary-back o)
 
 pub binary-below : (o : BinaryOp) → binary_number o < 20
-binary-below o = found_below (binary_number o) 20 _ BinaryOf.Nothing (BinaryOf.Is o) (λ e. cc) (binary-back o)
+binary-below o = found_below (binary_number o) 20 _ None (Some o) (λ e. cc) (binary-back o)
 
 pub total-below : (o : TotalOp) → total_number o < 4
-total-below o = found_below (total_number o) 4 _ TotalOf.Nothing (TotalOf.Is o) (λ e. cc) (total-back o)
+total-below o = found_below (total_number o) 4 _ None (Some o) (λ e. cc) (total-back o)
 
 pub match-below : (o : MatchOp) → match_number o < 12
-match-below o = found_below (match_number o) 12 _ MatchOf.Nothing (MatchOf.Is o) (λ e. cc) (match_back o)
+match-below o = found_below (match_number o) 12 _ None (Some o) (λ e. cc) (match_back o)
 
 -- ---- the number of the operand at a place
 abbrev pub from : ℕ → ℕ → List ℕ
@@ -145,9 +141,9 @@ pub match-forth : (n : ℕ) → n < 12 → match_number (get_or match_ops n (Mat
 match-forth = number-at match_number match_ops (MatchOp.Count Eq) refl
 
 -- the number of a bank that was found by its number
-pub bank-number : (n : ℕ) (b : Bank) → bank_numbered n ≡ BankOf.Is b → bank_number b ≡ n
+pub bank-number : (n : ℕ) (b : Bank) → bank_numbered n ≡ Some b → bank_number b ≡ n
 bank-number n b = by (ltb n 6) refl
   where
-    by : (t : Bool) → ltb n 6 ≡ t → cond t (BankOf.Is (get_or banks n X)) BankOf.Nothing ≡ BankOf.Is b → bank_number b ≡ n
+    by : (t : Bool) → ltb n 6 ≡ t → cond t (Some (get_or banks n X)) None ≡ Some b → bank_number b ≡ n
     by true e q = let same : get_or banks n X ≡ b = cc in rw same at (bank-forth n (ltb-true n 6 e))
     by false e q = let z : ◌≡◌ {A = Bool} false true = cc in absurd (false≢true z)

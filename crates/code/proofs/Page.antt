@@ -1,4 +1,5 @@
 -- The page by its classes: what an opcode means, found by the number that it adds to the first of its class.
+use Rattle.std.specs.Prelude.{Option, Some, None}
 use mathlib.Core.Path.{◌≡◌, refl, ap, ◌∙◌}
 use mathlib.Core.Logic.{◌≢◌}
 use mathlib.Core.Bool.{Bool, true, false, cond}
@@ -11,17 +12,12 @@ use borrow.Author.Tests.{lt-ltb, le-ltb, eq-eqb, ne_eqb, ltb-true, ltb-false}
 use Rattle.reals.specs.declared.ArithOp.TheVariants.{Add}
 use Rattle.operators.specs.declared.UnaryOp.TheVariants.{Neg}
 use Rattle.operators.specs.declared.BinaryOp.TheVariants.{Arith}
-use Rattle.operators.specs.declared.tables.UnaryOf.{UnaryOf}
-use Rattle.operators.specs.declared.tables.BinaryOf.{BinaryOf}
 use Rattle.operators.specs.Tables.{unary_ops, binary_ops, unary_of, binary_of}
 use Rattle.memory.specs.declared.Bank.TheVariants.{X}
-use Rattle.memory.specs.declared.numbers.BankOf.{BankOf}
 use Rattle.memory.specs.Numbers.{banks, bank_numbered}
 use Rattle.values.specs.declared.CompareOp.TheVariants.{Eq}
 use Rattle.totals.specs.declared.TotalOp.TheVariants as TotalOp
 use Rattle.totals.specs.declared.MatchOp.TheVariants as MatchOp
-use Rattle.totals.specs.declared.tables.TotalOf.{TotalOf}
-use Rattle.totals.specs.declared.tables.MatchOf.{MatchOf}
 use Rattle.totals.specs.Numbers.{total_ops, match_ops, total_of, match_of}
 use Rattle.code.specs.declared.Instr.{Instr}
 use Rattle.code.specs.declared.Instr.TheVariants.{Jump, JumpIf, Unknown}
@@ -30,6 +26,11 @@ use Rattle.code.specs.Instructions.{PUSH-INT, PUSH-REAL, JUMP, JUMP-IF-FALSE, JU
 use Rattle.code.specs.Instructions.{push_int, push_real, load_element, load_indexed, apply_unary, apply_binary, apply_total, apply_match, push_tick, apply_since}
 use Rattle.code.specs.Instructions.{Row, rows, unnumbered, lookup, instruction, opcode_of, word_of, instruction_of}
 use Rattle.code.specs.private.Classes.{class_size, single_class, class_of, of_bank, of_unary, of_binary, of_total, of_match, classed, instr_in}
+use Rattle.totals.specs.declared.TotalOp.{TotalOp}
+use Rattle.totals.specs.declared.MatchOp.{MatchOp}
+use Rattle.operators.specs.declared.BinaryOp.{BinaryOp}
+use Rattle.memory.specs.declared.Bank.{Bank}
+use Rattle.operators.specs.declared.UnaryOp.{UnaryOp}
 
 -- ---- the rows of a list
 module _ {A : Type 0} (f : A → ℕ → Instr) (rest : List Row) (w : ℕ) where
@@ -141,37 +142,37 @@ module _ (k w : ℕ) (h : k < class_size) where
   unfolding instruction
   load-class =
       rows_at load_element indexed_page w X LOAD banks k
-      ∙ among (λ (b : BankOf). of_bank load_element b w) (ltb k 6) (BankOf.Is (get_or banks k X)) BankOf.Nothing _
+      ∙ among (λ (b : (Option Bank)). of_bank load_element b w) (ltb k 6) (Some (get_or banks k X)) None _
       (before-indexed (LOAD + k) w (omega arith) ∙ above-singles (LOAD + k) w (omega arith))
 
   pub indexed-class : instruction (LOAD-INDEXED + k) w ≡ of_bank load_indexed (bank_numbered k) w
   indexed-class =
       past-load (LOAD-INDEXED + k) w (omega arith) ∙ rows_at load_indexed unary_page w X LOAD-INDEXED banks k
-      ∙ among (λ (b : BankOf). of_bank load_indexed b w) (ltb k 6) (BankOf.Is (get_or banks k X)) BankOf.Nothing _
+      ∙ among (λ (b : (Option Bank)). of_bank load_indexed b w) (ltb k 6) (Some (get_or banks k X)) None _
       (before-unary (LOAD-INDEXED + k) w (omega arith) ∙ above-singles (LOAD-INDEXED + k) w (omega arith))
 
   pub unary-class : instruction (UNARY + k) w ≡ of_unary (unary_of k) w
   unary-class =
       past-indexed (UNARY + k) w (omega arith) ∙ rows_at apply_unary binary_page w Neg UNARY unary_ops k
-      ∙ among (λ (u : UnaryOf). of_unary u w) (ltb k 8) (UnaryOf.Is (get_or unary_ops k Neg)) UnaryOf.Nothing _
+      ∙ among (λ (u : (Option UnaryOp)). of_unary u w) (ltb k 8) (Some (get_or unary_ops k Neg)) None _
       (before-binary (UNARY + k) w (omega arith) ∙ above-singles (UNARY + k) w (omega arith))
 
   pub binary-class : instruction (BINARY + k) w ≡ of_binary (binary_of k) w
   binary-class =
       past-unary (BINARY + k) w (omega arith) ∙ rows_at apply_binary total_page w (Arith Add) BINARY binary_ops k
-      ∙ among (λ (u : BinaryOf). of_binary u w) (ltb k 20) (BinaryOf.Is (get_or binary_ops k (Arith Add))) BinaryOf.Nothing _
+      ∙ among (λ (u : (Option BinaryOp)). of_binary u w) (ltb k 20) (Some (get_or binary_ops k (Arith Add))) None _
       (before-total (BINARY + k) w (omega arith) ∙ above-singles (BINARY + k) w (omega arith))
 
   pub total-class : instruction (TOTAL + k) w ≡ of_total (total_of k) w
   total-class =
       past-binary (TOTAL + k) w (omega arith) ∙ rows_at apply_total match_page w TotalOp.Sum TOTAL total_ops k
-      ∙ among (λ (u : TotalOf). of_total u w) (ltb k 4) (TotalOf.Is (get_or total_ops k TotalOp.Sum)) TotalOf.Nothing _
+      ∙ among (λ (u : (Option TotalOp)). of_total u w) (ltb k 4) (Some (get_or total_ops k TotalOp.Sum)) None _
       (before-match (TOTAL + k) w (omega arith) ∙ above-singles (TOTAL + k) w (omega arith))
 
   pub match-class : instruction (MATCH + k) w ≡ of_match (match_of k) w
   match-class =
       past-total (MATCH + k) w (omega arith) ∙ rows_at apply_match unnumbered w (MatchOp.Count Eq) MATCH match_ops k
-      ∙ among (λ (u : MatchOf). of_match u w) (ltb k 12) (MatchOf.Is (get_or match_ops k (MatchOp.Count Eq))) MatchOf.Nothing _
+      ∙ among (λ (u : (Option MatchOp)). of_match u w) (ltb k 12) (Some (get_or match_ops k (MatchOp.Count Eq))) None _
       (above-singles (MATCH + k) w (omega arith))
 
 -- ---- an opcode by its class

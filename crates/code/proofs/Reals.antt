@@ -1,21 +1,17 @@
 -- Which instructions read R: one law for each class of those that read a bank, and one for the others.
+use Rattle.std.specs.Prelude.{Option, Some, None}
 use mathlib.Core.Path.{◌≡◌, refl, sym, ap, ◌∙◌}
 use mathlib.Core.Bool.{Bool, true, false, not, cond}
 use Prim.Native.Nat.{ℕ}
 use lib.Dec.{eqb, ltb}
 use lib.Ieee.{Float, nan, inf, fin, binary32, of_bits}
 use Rattle.values.specs.declared.Kind.{Kind}
-use Rattle.operators.specs.declared.tables.UnaryOf.{UnaryOf}
-use Rattle.operators.specs.declared.tables.BinaryOf.{BinaryOf}
 use Rattle.operators.specs.Tables.{unary_of, binary_of}
 use Rattle.operators.specs.Kinds.{is_int, kind_number}
 use Rattle.memory.specs.declared.Bank.{Bank}
-use Rattle.memory.specs.declared.numbers.BankOf.{BankOf}
 use Rattle.memory.specs.Layout.{layout_of}
 use Rattle.memory.specs.Cells.{bank_kind, real_bank}
 use Rattle.memory.specs.Numbers.{bank_numbered, bank_typed}
-use Rattle.totals.specs.declared.tables.TotalOf.{TotalOf}
-use Rattle.totals.specs.declared.tables.MatchOf.{MatchOf}
 use Rattle.totals.specs.Totals.{good_range}
 use Rattle.totals.specs.Numbers.{total_of, match_of}
 use Rattle.code.specs.declared.Instr.{Instr}
@@ -27,6 +23,10 @@ use Rattle.code.specs.Instructions.{finite_only, load_element, load_indexed, ran
 use Rattle.code.specs.Reals.{reads_real}
 use Rattle.code.specs.private.Classes.{class_of, number_of, of_bank, of_unary, of_binary, of_total, of_match, instr_in}
 use Rattle.code.proofs.Page.{number-class}
+use Rattle.totals.specs.declared.TotalOp.{TotalOp}
+use Rattle.totals.specs.declared.MatchOp.{MatchOp}
+use Rattle.operators.specs.declared.BinaryOp.{BinaryOp}
+use Rattle.operators.specs.declared.UnaryOp.{UnaryOp}
 
 -- what is an instruction reads R just if r
 abbrev pub SaysReal : Bool → Instr → Type 0
@@ -47,22 +47,22 @@ tested : (t : Bool) (i : Instr) {r : Bool} → r ≡ reads_real i → SaysReal r
 tested true i e n = e
 tested false i e n = absurd (n refl)
 
-of-bank : (f : Bank → ℕ → Instr) → ((b : Bank) (w : ℕ) → SaysReal (real_bank b) (f b w)) → (x : BankOf) (w : ℕ) → SaysReal (eqb (bank_typed x) 1) (of_bank f x w)
-of-bank f h (BankOf.Is b) w n = real-kind (bank_kind b) ∙ h b w n
-of-bank f h BankOf.Nothing w n = absurd (n refl)
+of-bank : (f : Bank → ℕ → Instr) → ((b : Bank) (w : ℕ) → SaysReal (real_bank b) (f b w)) → (x : (Option Bank)) (w : ℕ) → SaysReal (eqb (bank_typed x) 1) (of_bank f x w)
+of-bank f h (Some b) w n = real-kind (bank_kind b) ∙ h b w n
+of-bank f h None w n = absurd (n refl)
 
-over-range : (f : Bank → ℕ → ℕ → Instr) → ((b : Bank) (i m : ℕ) → real_bank b ≡ reads_real (f b i m)) → (x : BankOf) (i m : ℕ)
+over-range : (f : Bank → ℕ → ℕ → Instr) → ((b : Bank) (i m : ℕ) → real_bank b ≡ reads_real (f b i m)) → (x : (Option Bank)) (i m : ℕ)
     → SaysReal (eqb (bank_typed x) 1) (over_range f x i m)
-over-range f h (BankOf.Is b) i m n = real-kind (bank_kind b) ∙ tested (good_range b i m) (f b i m) (h b i m) n
-over-range f h BankOf.Nothing i m n = absurd (n refl)
+over-range f h (Some b) i m n = real-kind (bank_kind b) ∙ tested (good_range b i m) (f b i m) (h b i m) n
+over-range f h None i m n = absurd (n refl)
 
-of-total : (o : TotalOf) (w : ℕ) → SaysReal (eqb (bank_typed (bank_numbered (range_bank w))) 1) (of_total o w)
-of-total (TotalOf.Is o) w = over-range (Instr.Total o) (λ b i m. refl) (bank_numbered (range_bank w)) (range_first w) (range_count w)
-of-total TotalOf.Nothing w = λ n. absurd (n refl)
+of-total : (o : (Option TotalOp)) (w : ℕ) → SaysReal (eqb (bank_typed (bank_numbered (range_bank w))) 1) (of_total o w)
+of-total (Some o) w = over-range (Instr.Total o) (λ b i m. refl) (bank_numbered (range_bank w)) (range_first w) (range_count w)
+of-total None w = λ n. absurd (n refl)
 
-of-match : (o : MatchOf) (w : ℕ) → SaysReal (eqb (bank_typed (bank_numbered (range_bank w))) 1) (of_match o w)
-of-match (MatchOf.Is o) w = over-range (Instr.Match o) (λ b i m. refl) (bank_numbered (range_bank w)) (range_first w) (range_count w)
-of-match MatchOf.Nothing w = λ n. absurd (n refl)
+of-match : (o : (Option MatchOp)) (w : ℕ) → SaysReal (eqb (bank_typed (bank_numbered (range_bank w))) 1) (of_match o w)
+of-match (Some o) w = over-range (Instr.Match o) (λ b i m. refl) (bank_numbered (range_bank w)) (range_first w) (range_count w)
+of-match None w = λ n. absurd (n refl)
 
 -- the bank of the number b has the kind k
 module _ (n : ℕ) {b k : ℕ} (t : k ≡ bank_typed (bank_numbered b)) where
@@ -87,13 +87,13 @@ finite-reads nan = refl
 finite-reads (inf s) = refl
 finite-reads (fin s m e) = refl
 
-unary-reads : (o : UnaryOf) (w : ℕ) → SaysReal false (of_unary o w)
-unary-reads (UnaryOf.Is o) w = tested (eqb w 0) (Instr.Unary o) refl
-unary-reads UnaryOf.Nothing w = λ n. refl
+unary-reads : (o : (Option UnaryOp)) (w : ℕ) → SaysReal false (of_unary o w)
+unary-reads (Some o) w = tested (eqb w 0) (Instr.Unary o) refl
+unary-reads None w = λ n. refl
 
-binary-reads : (o : BinaryOf) (w : ℕ) → SaysReal false (of_binary o w)
-binary-reads (BinaryOf.Is o) w = tested (eqb w 0) (Instr.Binary o) refl
-binary-reads BinaryOf.Nothing w = λ n. refl
+binary-reads : (o : (Option BinaryOp)) (w : ℕ) → SaysReal false (of_binary o w)
+binary-reads (Some o) w = tested (eqb w 0) (Instr.Binary o) refl
+binary-reads None w = λ n. refl
 
 pub other-reads : (n : ℕ) (k : Class) → (k ≡ Load → ⊥) → (k ≡ LoadIndexed → ⊥) → (k ≡ Total → ⊥) → (k ≡ Match → ⊥) → SaysReal false (instr_in k n)
 other-reads n PushInt l x t m = λ i. refl

@@ -1,6 +1,6 @@
 -- The instruction set: one row an opcode, and which eight bytes are which instruction (paper 01, "Code and its check": "every one is known (a cell beyond its
 -- bank, or a pushed infinity or NaN, is not)"). docs/INSTRUCTIONS.md is the same page in words.
-use Rattle.std.specs.Prelude.{true, false, cond, List, [], ◌∷◌, ◌++◌, ℕ, zero, suc, ◌+◌, ◌*◌, ◌/◌, ◌%◌, ◌^◌, eqb, ltb, length, take, drop, Float}
+use Rattle.std.specs.Prelude.{true, false, cond, List, [], ◌∷◌, ◌++◌, ℕ, zero, suc, ◌+◌, ◌*◌, ◌/◌, ◌%◌, ◌^◌, eqb, ltb, length, take, drop, Float, Option, Some, None}
 use Rattle.std.specs.Float.Ieee as Ieee
 use Rattle.std.specs.Float.{nan, inf, fin, binary32}
 use Rattle.values.specs.Patterns.{signed_of}
@@ -10,8 +10,6 @@ use Rattle.operators.specs.Tables.{unary_ops, binary_ops}
 use Rattle.words.specs.Words.{little_endian}
 use Rattle.memory.specs.declared.Bank.{Bank}
 use Rattle.memory.specs.Layout.{layout_of}
-use Rattle.memory.specs.declared.numbers.BankOf.{BankOf}
-use Rattle.memory.specs.declared.numbers.BankOf.TheVariants as BankOf
 use Rattle.memory.specs.Numbers.{banks, bank_numbered}
 use Rattle.totals.specs.declared.TotalOp.{TotalOp}
 use Rattle.totals.specs.declared.MatchOp.{MatchOp}
@@ -106,9 +104,9 @@ abbrev pub range_count : ℕ → ℕ
 range_count w = w / 2 ^ 16
 
 -- "In the check, an instruction with such a count or range is not known" (paper 02, Ask 2)
-abbrev pub over_range : (Bank → ℕ → ℕ → Instr) → BankOf → ℕ → ℕ → Instr
-over_range f (BankOf.Is b) i n = cond (good_range b i n) (f b i n) Unknown
-over_range f BankOf.Nothing i n = Unknown
+abbrev pub over_range : (Bank → ℕ → ℕ → Instr) → Option Bank → ℕ → ℕ → Instr
+over_range f (Some b) i n = cond (good_range b i n) (f b i n) Unknown
+over_range f None i n = Unknown
 
 abbrev pub ranging : (Bank → ℕ → ℕ → Instr) → ℕ → Instr
 ranging f w = over_range f (bank_numbered (range_bank w)) (range_first w) (range_count w)

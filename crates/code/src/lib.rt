@@ -96,7 +96,7 @@ pub enum Class {
 pub fn join(opcode: u32, word: u32) -> u64
     ensures { result ≡ join_word opcode word }
 {
-    (opcode as u64) + WORD * (word as u64)
+    u64::from(opcode) + WORD * u64::from(word)
 }
 
 pub fn word_of(n: u64) -> u32
@@ -201,27 +201,22 @@ pub fn reads_real(n: u64) -> bool
     ensures { (instruction_of n ≡ Unknown → ⊥) → result ≡ reads_real (instruction_of n) }
 {
     match class_of(n) {
-        Class::Load => numbers::bank_kind(number_of(n) as u32) == kinds::REAL,
-        Class::LoadIndexed => numbers::bank_kind(number_of(n) as u32) == kinds::REAL,
-        Class::Total => numbers::bank_kind(range_bank(word_of(n)) as u32) == kinds::REAL,
-        Class::Match => numbers::bank_kind(range_bank(word_of(n)) as u32) == kinds::REAL,
+        Class::Load | Class::LoadIndexed => {
+            numbers::bank_kind(u32::from(number_of(n))) == kinds::REAL
+        }
+        Class::Total | Class::Match => {
+            numbers::bank_kind(u32::from(range_bank(word_of(n)))) == kinds::REAL
+        }
         _ => false,
     }
 }
 
-fn wide(b: u8) -> u32
-    ensures { (result ≡ b) × (result < 256) }
-{
-    b as u32
-}
-
-// The number of four bytes. Joined by `|`, from the lowest on, they are one load.
+// The number of four bytes, which are one load.
 fn four(code: &[u8], at: usize) -> u32
     requires { at + 4 ≤ length code.now }
     ensures { result ≡ little_endian (take 4 (drop at code.now)) }
 {
-    let two = wide(code[at]) | 256 * wide(code[at + 1]);
-    two | 65536 * wide(code[at + 2]) | 16777216 * wide(code[at + 3])
+    u32::from_le_bytes([code[at], code[at + 1], code[at + 2], code[at + 3]])
 }
 
 // The eight bytes at a place of the code as one number; 0 where the code does not reach. Joined of two halves, they stay in two

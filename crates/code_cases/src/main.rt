@@ -2,23 +2,61 @@
 // name, what the check says (i, r or 15), how a run ends and the instructions begun. tests/host/expected/codes.rs has what is expected.
 #![tactic(auto)]
 
+ghost use Rattle.std.specs.Prelude.{◌≤◌, length};
+
+use case_lines::Shown;
 use machine::{Ended, Ran};
 use memory::IMAGE_SIZE;
+use std::fmt::{Display, InlineText};
 use std::io;
 use values::Kind;
-use verifier::Verdict;
 
 // The tick of every run: below zero as an integer, and far from the least one.
 const TICK: u32 = 0x8000_0005;
 
-fn number(text: &[u8]) -> usize {
-    let mut n: usize = 0;
-    let mut i = 0;
-    while i < text.len() {
-        n = n % 1000000 * 10 + (text[i] % 16) as usize;
-        i += 1;
+// A line of at most 512 bytes, its end included. A text that has no room is left out: the line then differs from the expected one.
+#[derive(Drop)]
+struct Line {
+    bytes: [u8; 512],
+    length: usize,
+    ghost inside: { length ≤ 512 },
+}
+
+impl Line {
+    fn new() -> Line {
+        Line {
+            bytes: [0; 512],
+            length: 0,
+        }
     }
-    n
+
+    fn put(&mut self, text: &[u8]) {
+        if text.len() <= 512 - self.length {
+            let end = self.length + text.len();
+            self.bytes[self.length..end].copy_from_slice(text);
+            self.length = end;
+        }
+    }
+
+    // A text of at most 24 bytes: its first byte, and then the others.
+    fn put_shown<D: Display + Drop>(&mut self, shown: D) {
+        let text = InlineText::<24>::of(shown);
+        if let [first, others @ ..] = text.as_str().as_bytes() {
+            self.put(&[*first]);
+            self.put(others);
+        }
+    }
+
+    fn write(mut self, rt: &impl Print) -> io::Result<()> {
+        self.put(b"\n");
+        rt.write_all(&self.bytes[..self.length])
+    }
+}
+
+// The value of decimal digits.
+fn number(text: &[u8]) -> usize {
+    text.iter()
+        .fold(0, |n: usize, b| n % 1000000 * 10 + usize::from(*b % 16))
 }
 
 // Every cell that is not named here is 0.
@@ -70,98 +108,54 @@ fn singles(memory: &mut [u8; IMAGE_SIZE]) {
     memory[2115] = 127;
 }
 
-fn put_verdict(line: &mut [u8; 512], at: usize, v: Verdict) -> usize {
+// How the check answers, between spaces.
+fn checked(v: Option<Kind>) -> &'static str {
     match v {
-        Verdict::Accepted(k) => match k {
-            Kind::Int => case_lines::put_all(line, at, b" i "),
-            Kind::Real => case_lines::put_all(line, at, b" r "),
-        },
-        Verdict::Refused => case_lines::put_all(line, at, b" 15 "),
+        Some(Kind::Int) => " i ",
+        Some(Kind::Real) => " r ",
+        None => " 15 ",
     }
 }
 
-fn put_end(line: &mut [u8; 512], at: usize, end: Ended) -> usize {
-    match end {
-        Ended::Done(v) => case_lines::put_value(line, at, v),
-        Ended::Stopped(f) => case_lines::put_fault(line, at, f),
-        Ended::Stuck => case_lines::put(line, at, b'?'),
+fn put_run(line: &mut Line, ran: Ran) {
+    match ran.end {
+        Ended::Done(v) => line.put_shown(Shown(v)),
+        Ended::Stopped(f) => line.put_shown(Shown(f)),
+        Ended::Stuck => line.put(b"?"),
     }
+    line.put_shown(format_args!(" {}", ran.count));
 }
 
-fn tell(rt: &impl Print, name: &[u8], v: Verdict, ran: Ran) -> io::Result<()> {
-    let mut line = [0u8; 512];
-    let named = case_lines::put_all(&mut line, 0, name);
-    let checked = put_verdict(&mut line, named, v);
-    let end = ran.end;
-    let ended = put_end(&mut line, checked, end);
-    let spaced = case_lines::put(&mut line, ended, b' ');
-    let counted = case_lines::put_decimal(&mut line, spaced, ran.count as u64);
-    case_lines::write(rt, &mut line, counted)
-}
-
-// Of more instructions than the machine takes.
-fn tell_verdict(rt: &impl Print, name: &[u8], v: Verdict) -> io::Result<()> {
-    let mut line = [0u8; 512];
-    let named = case_lines::put_all(&mut line, 0, name);
-    let checked = put_verdict(&mut line, named, v);
-    let ended = case_lines::put(&mut line, checked, b'-');
-    case_lines::write(rt, &mut line, ended)
-}
-
-fn try_out(
-    rt: &impl Print,
-    name: &[u8],
-    code: &[u8],
-    n: usize,
-    memory: &[u8; IMAGE_SIZE],
-) -> io::Result<()> {
-    let verdict = verifier::check(code, n);
-    if n <= 2048 {
-        tell(rt, name, verdict, machine::run(code, n, memory, TICK))?;
-    } else {
-        tell_verdict(rt, name, verdict)?;
-    }
-    Ok(())
-}
-
-fn try_first(
-    rt: &impl Print,
-    name: &[u8],
-    code: &[u8; 16448],
-    size: usize,
-    n: usize,
-) -> io::Result<()> {
+// More instructions than the machine takes are not run.
+fn try_out(rt: &impl Print, name: &[u8], n: usize, code: &[u8]) -> io::Result<()> {
     let mut memory = [0u8; IMAGE_SIZE];
     image(&mut memory);
-    let whole: &[u8] = code;
-    if size <= whole.len() {
-        try_out(rt, name, &whole[..size], n, &memory)?;
+    let mut line = Line::new();
+    line.put(name);
+    line.put(checked(verifier::check(code, n)).as_bytes());
+    if n <= 2048 {
+        put_run(&mut line, machine::run(code, n, &memory, TICK));
+    } else {
+        line.put(b"-");
     }
-    Ok(())
+    line.write(rt)
 }
 
 fn one_case(rt: &impl Print, line: &[u8]) -> io::Result<()> {
-    let first = case_lines::find(line, 0, b' ');
-    let start = case_lines::behind(line, first);
-    let second = case_lines::find(line, start, b' ');
-    let n = number(&line[start..second]);
+    let mut parts = line.splitn(3, |b| *b == b' ');
+    let name = parts.next().unwrap_or(b"");
+    let n = number(parts.next().unwrap_or(b""));
+    let digits = parts.next().unwrap_or(b"");
     let mut code = [0u8; 16448];
-    let size = case_lines::bytes_of(&line[case_lines::behind(line, second)..], &mut code);
-    try_first(rt, &line[..first], &code, size, n)
-}
-
-fn every_line(rt: &impl Print, input: &[u8]) -> io::Result<()> {
-    let mut at: usize = 0;
-    while at < input.len() {
-        let end = case_lines::find(input, at, b'\n');
-        one_case(rt, &input[at..end])?;
-        at = end + 1;
-    }
-    Ok(())
+    let size = case_lines::bytes_of(digits, &mut code);
+    try_out(rt, name, n, &code[..size])
 }
 
 fn main(rt: HostRuntime) -> io::Result<()> {
     let mut input = [0u8; 131072];
     let n = inputs::read_full(&mut rt.stdin(), &mut input);
-    every_line(&rt, &input[..n])
+    for line in input[..n].split_inclusive(|b| *b == b'\n') {
+        one_case(&rt, line.strip_suffix(b"\n").unwrap_or(line))?;
+    }
+    Ok(())
 }

@@ -1,4 +1,5 @@
 -- The lines of a listing, put one behind the other, and what the check says of the code. Assumes nothing.
+use Rattle.std.specs.Prelude.{Option, Some, None}
 use mathlib.Core.Path.{◌≡◌, refl, sym, ap, ◌∙◌}
 use mathlib.Core.Bool.{false≢true}
 use mathlib.Core.List.{List, [], ◌++◌, append-nil, append_assoc}
@@ -11,8 +12,6 @@ use lib.Seq.{length-sets}
 use borrow.Author.Tests.{lt-ltb, le-ltb}
 use Rattle.words.specs.Ascii.{ascii}
 use Rattle.memory.specs.declared.Bank.{Bank}
-use Rattle.memory.specs.declared.numbers.BankOf.{BankOf}
-use Rattle.memory.specs.declared.numbers.BankOf.TheVariants.{Is, Nothing}
 use Rattle.memory.specs.Numbers.{bank_numbered, bank_number}
 use Rattle.code.specs.declared.Instr.{Instr}
 use Rattle.code.specs.declared.Instr.TheVariants.{Unknown}
@@ -20,8 +19,6 @@ use Rattle.code.specs.private.Classes.{number_of}
 use Rattle.code.specs.Instructions.{word_of, range_bank, range_first, range_count, fetched, instruction_of, decode_at, decode_from, instructions}
 use Rattle.code.proofs.Parts.{decode-fetched, decode-length, decode-at}
 use Rattle.values.specs.declared.Kind.{Kind}
-use Rattle.verifier.specs.declared.Verdict.{Verdict}
-use Rattle.verifier.specs.declared.Verdict.TheVariants.{Accepted, Refused}
 use Rattle.verifier.specs.Typing.{well_formed}
 use Rattle.verifier.specs.Accepts.{instr_at, Accepts, CorrectVerdict}
 use Rattle.verifier.proofs.Verdicts.{verdict-laws}
@@ -42,36 +39,36 @@ pub range-is : (c d n : List ℕ) → ((ascii " " ++ c) ++ d) ++ n ≡ ascii " "
 range-is c d n = append_assoc (ascii " " ++ c) d n
 
 -- ---- a bank by its number, as the code finds it
-found : {x y : BankOf} {k n : ℕ} → k ≡ n → x ≡ bank_numbered k → x ≡ y → bank_numbered n ≡ y
+found : {x y : (Option Bank)} {k n : ℕ} → k ≡ n → x ≡ bank_numbered k → x ≡ y → bank_numbered n ≡ y
 found a b e = sym (ap bank_numbered a) ∙ (sym b ∙ e)
 
-module _ (w : ℕ) {x : BankOf} {k : ℕ} (a : k ≡ number_of w) (q : x ≡ bank_numbered k) where
-  pub cell-known : {b : Bank} → x ≡ Is b → {v : ℕ} → v ≡ word_of w → ascii "LOAD " ++ cell_name b v ≡ ascii "LOAD " ++ cell_of (bank_numbered (number_of w))
+module _ (w : ℕ) {x : (Option Bank)} {k : ℕ} (a : k ≡ number_of w) (q : x ≡ bank_numbered k) where
+  pub cell-known : {b : Bank} → x ≡ Some b → {v : ℕ} → v ≡ word_of w → ascii "LOAD " ++ cell_name b v ≡ ascii "LOAD " ++ cell_of (bank_numbered (number_of w))
       (word_of w)
   cell-known {b} e r =
-      ap (λ (v : ℕ). ascii "LOAD " ++ cell_name b v) r ∙ sym (ap (λ (y : BankOf). ascii "LOAD " ++ cell_of y (word_of w)) (found a q e))
+      ap (λ (v : ℕ). ascii "LOAD " ++ cell_name b v) r ∙ sym (ap (λ (y : (Option Bank)). ascii "LOAD " ++ cell_of y (word_of w)) (found a q e))
 
-  pub cell-none : x ≡ Nothing → ascii "LOAD " ++ [] ≡ ascii "LOAD " ++ cell_of (bank_numbered (number_of w)) (word_of w)
-  cell-none e = sym (ap (λ (y : BankOf). ascii "LOAD " ++ cell_of y (word_of w)) (found a q e))
+  pub cell-none : x ≡ None → ascii "LOAD " ++ [] ≡ ascii "LOAD " ++ cell_of (bank_numbered (number_of w)) (word_of w)
+  cell-none e = sym (ap (λ (y : (Option Bank)). ascii "LOAD " ++ cell_of y (word_of w)) (found a q e))
 
-  pub letter-known : {b : Bank} → x ≡ Is b → {v : ℕ} → v ≡ bank_number b
+  pub letter-known : {b : Bank} → x ≡ Some b → {v : ℕ} → v ≡ bank_number b
       → ascii "LOAD_INDEXED " ++ row_at v (ascii "X\nC\nV\nN\nD\nR") ≡ ascii "LOAD_INDEXED " ++ letter_of (bank_numbered (number_of w))
   letter-known {b} e r =
       ap (λ (v : ℕ). ascii "LOAD_INDEXED " ++ row_at v (ascii "X\nC\nV\nN\nD\nR")) r ∙ ap (λ (s : List ℕ). ascii "LOAD_INDEXED " ++ s) (letter-row b)
-      ∙ sym (ap (λ (y : BankOf). ascii "LOAD_INDEXED " ++ letter_of y) (found a q e))
+      ∙ sym (ap (λ (y : (Option Bank)). ascii "LOAD_INDEXED " ++ letter_of y) (found a q e))
 
-  pub letter-none : x ≡ Nothing → ascii "LOAD_INDEXED " ++ [] ≡ ascii "LOAD_INDEXED " ++ letter_of (bank_numbered (number_of w))
-  letter-none e = sym (ap (λ (y : BankOf). ascii "LOAD_INDEXED " ++ letter_of y) (found a q e))
+  pub letter-none : x ≡ None → ascii "LOAD_INDEXED " ++ [] ≡ ascii "LOAD_INDEXED " ++ letter_of (bank_numbered (number_of w))
+  letter-none e = sym (ap (λ (y : (Option Bank)). ascii "LOAD_INDEXED " ++ letter_of y) (found a q e))
 
-module _ (w : ℕ) {x : BankOf} {k : ℕ} (a : k ≡ range_bank w) (q : x ≡ bank_numbered k) where
-  pub range-known : {b : Bank} → x ≡ Is b → {i n : ℕ} → i ≡ range_first w → n ≡ range_count w
+module _ (w : ℕ) {x : (Option Bank)} {k : ℕ} (a : k ≡ range_bank w) (q : x ≡ bank_numbered k) where
+  pub range-known : {b : Bank} → x ≡ Some b → {i n : ℕ} → i ≡ range_first w → n ≡ range_count w
       → ((ascii " " ++ cell_name b i) ++ ascii " ") ++ decimal_text n ≡ range_of (bank_numbered (range_bank w)) (range_first w) (range_count w)
   range-known {b} e {i} {n} f g =
       range-is (cell_name b i) (ascii " ") (decimal_text n) ∙ ap (λ (m : ℕ). range_text b i m) g ∙ ap (λ (m : ℕ). range_text b m (range_count w)) f
-      ∙ sym (ap (λ (y : BankOf). range_of y (range_first w) (range_count w)) (found a q e))
+      ∙ sym (ap (λ (y : (Option Bank)). range_of y (range_first w) (range_count w)) (found a q e))
 
-  pub range_none : x ≡ Nothing → [] ≡ range_of (bank_numbered (range_bank w)) (range_first w) (range_count w)
-  range_none e = sym (ap (λ (y : BankOf). range_of y (range_first w) (range_count w)) (found a q e))
+  pub range_none : x ≡ None → [] ≡ range_of (bank_numbered (range_bank w)) (range_first w) (range_count w)
+  range_none e = sym (ap (λ (y : (Option Bank)). range_of y (range_first w) (range_count w)) (found a q e))
 
 pub ranging-is : (table : List ℕ) (w : ℕ) {k v : ℕ} → k ≡ number_of w → v ≡ word_of w
     → row_at k table ++ range_of (bank_numbered (range_bank v)) (range_first v) (range_count v)
@@ -143,7 +140,7 @@ pub known-there : {code : List ℕ} {n place w : ℕ} → KnownCode code n → p
 known-there {code} {n} {place} k h e u = k.known place h (decode-fetched code place ∙ sym (ap instruction_of e) ∙ u)
 
 -- ---- what the check says
-module _ {code : List ℕ} {n : ℕ} {v : Verdict} (c : CorrectVerdict code n v) where
+module _ {code : List ℕ} {n : ℕ} {v : (Option Kind)} (c : CorrectVerdict code n v) where
   all_known : (k : Kind) → Accepts (instructions code n) k → KnownCode code n
   all_known k a =
       record {
@@ -153,7 +150,7 @@ module _ {code : List ℕ} {n : ℕ} {v : Verdict} (c : CorrectVerdict code n v)
             false≢true (sym (ap (well_formed (length (instructions code n) - suc p)) u) ∙ a.each p l);
       }
 
-  pub accepted-known : (k : Kind) → v ≡ Accepted k → KnownCode code n × (n ≤ 2048)
+  pub accepted-known : (k : Kind) → v ≡ Some k → KnownCode code n × (n ≤ 2048)
   accepted-known k e =
       let a = c.sound k e in
       (all_known k a, omega (arith, a.few, decode-length code 0 n))
@@ -163,11 +160,11 @@ module _ {code : List ℕ} {n : ℕ} {v : Verdict} (c : CorrectVerdict code n v)
       ap (verdict_listed (instructions code n)) (verdict-laws.determined code n v c)
       ∙ sym (rw (le-ltb room listing_room h) refl)
 
-  pub good-is : (room : ℕ) (k : Kind) → listing_room ≤ room → v ≡ Accepted k
+  pub good-is : (room : ℕ) (k : Kind) → listing_room ≤ room → v ≡ Some k
       → record { answer = 0; text = lines_from 0 (instructions code n) } ≡ listed room (instructions code n)
   good-is room k h e = sym (ap (verdict_listed (instructions code n)) e) ∙ listed_by room h
 
-  pub bad-is : (room : ℕ) → listing_room ≤ room → v ≡ Refused → record { answer = 15; text = [] } ≡ listed room (instructions code n)
+  pub bad-is : (room : ℕ) → listing_room ≤ room → v ≡ None → record { answer = 15; text = [] } ≡ listed room (instructions code n)
   bad-is room h e = sym (ap (verdict_listed (instructions code n)) e) ∙ listed_by room h
 
 pub short-is : (room : ℕ) (c : List Instr) → room < listing_room → record { answer = 10; text = [] } ≡ listed room c

@@ -1,4 +1,5 @@
 -- What is put by the class of an instruction that is known is the instruction's text. Assumes nothing.
+use Rattle.std.specs.Prelude.{Option, Some, None}
 use mathlib.Core.Path.{◌≡◌, refl, sym, ap, ◌∙◌}
 use mathlib.Core.Bool.{Bool, true, false, not, cond}
 use mathlib.Core.List.{List, [], ◌∷◌, ◌++◌}
@@ -13,19 +14,14 @@ use Rattle.reals.specs.declared.ArithOp.TheVariants.{Add}
 use Rattle.values.specs.declared.CompareOp.TheVariants.{Eq}
 use Rattle.operators.specs.declared.UnaryOp.TheVariants.{Neg}
 use Rattle.operators.specs.declared.BinaryOp.TheVariants.{Arith}
-use Rattle.operators.specs.declared.tables.UnaryOf.TheVariants as UnaryOf
-use Rattle.operators.specs.declared.tables.BinaryOf.TheVariants as BinaryOf
 use Rattle.operators.specs.Tables.{unary_ops, binary_ops, unary_of, binary_of}
 use Rattle.words.specs.Ascii.{ascii}
 use Rattle.memory.specs.declared.Bank.{Bank}
 use Rattle.memory.specs.declared.Bank.TheVariants.{X, C, «V», N, D, R}
-use Rattle.memory.specs.declared.numbers.BankOf.{BankOf}
 use Rattle.memory.specs.Layout.{layout_of}
 use Rattle.memory.specs.Numbers.{bank_numbered, bank_number}
 use Rattle.totals.specs.declared.TotalOp.TheVariants as TotalOp
 use Rattle.totals.specs.declared.MatchOp.TheVariants as MatchOp
-use Rattle.totals.specs.declared.tables.TotalOf.TheVariants as TotalOf
-use Rattle.totals.specs.declared.tables.MatchOf.TheVariants as MatchOf
 use Rattle.totals.specs.Totals.{good_range}
 use Rattle.totals.specs.Numbers.{total_ops, match_ops, total_of, match_of}
 use Rattle.code.specs.declared.Instr.{Instr}
@@ -41,6 +37,8 @@ use Rattle.text_tables.specs.Tables.{row_at}
 use Rattle.code.proofs.Numbers.{unary-forth, binary-forth, total-forth, match-forth}
 use Rattle.code_listing.specs.Listing.{unary_names, binary_names, total_names, match_names, jump_text, instr_text}
 use Rattle.code_listing.specs.private.Parts.{letter_of, cell_of, range_of}
+use Rattle.totals.specs.declared.MatchOp.{MatchOp}
+use Rattle.totals.specs.declared.TotalOp.{TotalOp}
 
 abbrev Known : Instr → Type 0
 Known i = i ≡ Unknown → ⊥
@@ -71,36 +69,36 @@ module _ (p : ℕ) where
       by (inf s) b k = absurd (k refl)
       by (fin s m e) b k = ap (λ (n : ℕ). ascii "PUSH_REAL " ++ cell_text R n) (sym (b tt))
 
-  load-text : (x : BankOf) (v : ℕ) → Known (of_bank load_element x v) → ascii "LOAD " ++ cell_of x v ≡ instr_text p (of_bank load_element x v)
-  load-text (BankOf.Is b) v h = when (ltb v (layout_of b).elements) (Load b v) refl h
-  load-text BankOf.Nothing v h = absurd (h refl)
+  load-text : (x : (Option Bank)) (v : ℕ) → Known (of_bank load_element x v) → ascii "LOAD " ++ cell_of x v ≡ instr_text p (of_bank load_element x v)
+  load-text (Some b) v h = when (ltb v (layout_of b).elements) (Load b v) refl h
+  load-text None v h = absurd (h refl)
 
-  indexed-text : (x : BankOf) (v : ℕ) → Known (of_bank load_indexed x v) → ascii "LOAD_INDEXED " ++ letter_of x ≡ instr_text p (of_bank load_indexed x v)
-  indexed-text (BankOf.Is b) v h = when (eqb v 0) (LoadIndexed b) refl h
-  indexed-text BankOf.Nothing v h = absurd (h refl)
+  indexed-text : (x : (Option Bank)) (v : ℕ) → Known (of_bank load_indexed x v) → ascii "LOAD_INDEXED " ++ letter_of x ≡ instr_text p (of_bank load_indexed x v)
+  indexed-text (Some b) v h = when (eqb v 0) (LoadIndexed b) refl h
+  indexed-text None v h = absurd (h refl)
 
   unary-text : (k v : ℕ) → Known (of_unary (unary_of k) v) → row_at k unary_names ≡ instr_text p (of_unary (unary_of k) v)
   unary-text k v = by (ltb k 8) refl
     where
-      by : (t : Bool) → ltb k 8 ≡ t → Known (of_unary (cond t (UnaryOf.Is (get_or unary_ops k Neg)) UnaryOf.Nothing) v)
-          → row_at k unary_names ≡ instr_text p (of_unary (cond t (UnaryOf.Is (get_or unary_ops k Neg)) UnaryOf.Nothing) v)
+      by : (t : Bool) → ltb k 8 ≡ t → Known (of_unary (cond t (Some (get_or unary_ops k Neg)) None) v)
+          → row_at k unary_names ≡ instr_text p (of_unary (cond t (Some (get_or unary_ops k Neg)) None) v)
       by true e h = when (eqb v 0) (Unary (get_or unary_ops k Neg)) (ap (λ (n : ℕ). row_at n unary_names) (sym (unary-forth k (ltb-true k 8 e)))) h
       by false e h = absurd (h refl)
 
   binary-text : (k v : ℕ) → Known (of_binary (binary_of k) v) → row_at k binary_names ≡ instr_text p (of_binary (binary_of k) v)
   binary-text k v = by (ltb k 20) refl
     where
-      by : (t : Bool) → ltb k 20 ≡ t → Known (of_binary (cond t (BinaryOf.Is (get_or binary_ops k (Arith Add))) BinaryOf.Nothing) v)
-          → row_at k binary_names ≡ instr_text p (of_binary (cond t (BinaryOf.Is (get_or binary_ops k (Arith Add))) BinaryOf.Nothing) v)
+      by : (t : Bool) → ltb k 20 ≡ t → Known (of_binary (cond t (Some (get_or binary_ops k (Arith Add))) None) v)
+          → row_at k binary_names ≡ instr_text p (of_binary (cond t (Some (get_or binary_ops k (Arith Add))) None) v)
       by true e h =
           when (eqb v 0) (Binary (get_or binary_ops k (Arith Add))) (ap (λ (n : ℕ). row_at n binary_names) (sym (binary-forth k (ltb-true k 20 e)))) h
       by false e h = absurd (h refl)
 
   -- over a range: the name, then the range
-  ranging-text : (f : Bank → ℕ → ℕ → Instr) (name : List ℕ) → ((b : Bank) (i n : ℕ) → name ++ range_of (BankOf.Is b) i n ≡ instr_text p (f b i n))
-      → (x : BankOf) (i n : ℕ) → Known (over_range f x i n) → name ++ range_of x i n ≡ instr_text p (over_range f x i n)
-  ranging-text f name e (BankOf.Is b) i n h = when (good_range b i n) (f b i n) (e b i n) h
-  ranging-text f name e BankOf.Nothing i n h = absurd (h refl)
+  ranging-text : (f : Bank → ℕ → ℕ → Instr) (name : List ℕ) → ((b : Bank) (i n : ℕ) → name ++ range_of (Some b) i n ≡ instr_text p (f b i n))
+      → (x : (Option Bank)) (i n : ℕ) → Known (over_range f x i n) → name ++ range_of x i n ≡ instr_text p (over_range f x i n)
+  ranging-text f name e (Some b) i n h = when (good_range b i n) (f b i n) (e b i n) h
+  ranging-text f name e None i n h = absurd (h refl)
 
   abbrev spread : ℕ → List ℕ
   spread v = range_of (bank_numbered (range_bank v)) (range_first v) (range_count v)
@@ -108,33 +106,33 @@ module _ (p : ℕ) where
   total-text : (k v : ℕ) → Known (of_total (total_of k) v) → row_at k total_names ++ spread v ≡ instr_text p (of_total (total_of k) v)
   total-text k v = by (ltb k 4) refl
     where
-      by : (t : Bool) → ltb k 4 ≡ t → Known (of_total (cond t (TotalOf.Is (get_or total_ops k TotalOp.Sum)) TotalOf.Nothing) v)
-          → row_at k total_names ++ spread v ≡ instr_text p (of_total (cond t (TotalOf.Is (get_or total_ops k TotalOp.Sum)) TotalOf.Nothing) v)
+      by : (t : Bool) → ltb k 4 ≡ t → Known (of_total (cond t (Some (get_or total_ops k TotalOp.Sum)) None) v)
+          → row_at k total_names ++ spread v ≡ instr_text p (of_total (cond t (Some (get_or total_ops k TotalOp.Sum)) None) v)
       by true e h =
           ranging-text (Total (get_or total_ops k TotalOp.Sum)) (row_at k total_names)
-          (λ b i n. ap (λ (m : ℕ). row_at m total_names ++ range_of (BankOf.Is b) i n) (sym (total-forth k (ltb-true k 4 e))))
+          (λ b i n. ap (λ (m : ℕ). row_at m total_names ++ range_of (Some b) i n) (sym (total-forth k (ltb-true k 4 e))))
           (bank_numbered (range_bank v)) (range_first v) (range_count v) h
       by false e h = absurd (h refl)
 
   match-text : (k v : ℕ) → Known (of_match (match_of k) v) → row_at k match_names ++ spread v ≡ instr_text p (of_match (match_of k) v)
   match-text k v = by (ltb k 12) refl
     where
-      by : (t : Bool) → ltb k 12 ≡ t → Known (of_match (cond t (MatchOf.Is (get_or match_ops k (MatchOp.Count Eq))) MatchOf.Nothing) v)
-          → row_at k match_names ++ spread v ≡ instr_text p (of_match (cond t (MatchOf.Is (get_or match_ops k (MatchOp.Count Eq))) MatchOf.Nothing) v)
+      by : (t : Bool) → ltb k 12 ≡ t → Known (of_match (cond t (Some (get_or match_ops k (MatchOp.Count Eq))) None) v)
+          → row_at k match_names ++ spread v ≡ instr_text p (of_match (cond t (Some (get_or match_ops k (MatchOp.Count Eq))) None) v)
       by true e h =
           ranging-text (Match (get_or match_ops k (MatchOp.Count Eq))) (row_at k match_names)
-          (λ b i n. ap (λ (m : ℕ). row_at m match_names ++ range_of (BankOf.Is b) i n) (sym (match-forth k (ltb-true k 12 e))))
+          (λ b i n. ap (λ (m : ℕ). row_at m match_names ++ range_of (Some b) i n) (sym (match-forth k (ltb-true k 12 e))))
           (bank_numbered (range_bank v)) (range_first v) (range_count v) h
       by false e h = absurd (h refl)
 
 -- a loaded element is below 1,000
-element-below : (x : BankOf) (v : ℕ) → Known (of_bank load_element x v) → v < 1000
-element-below (BankOf.Is b) v h = by (ltb v (layout_of b).elements) refl h
+element-below : (x : (Option Bank)) (v : ℕ) → Known (of_bank load_element x v) → v < 1000
+element-below (Some b) v h = by (ltb v (layout_of b).elements) refl h
   where
     by : (t : Bool) → ltb v (layout_of b).elements ≡ t → Known (cond t (Load b v) Unknown) → v < 1000
     by true e g = omega (arith, few b, ltb-true v (layout_of b).elements e)
     by false e g = absurd (g refl)
-element-below BankOf.Nothing v h = absurd (h refl)
+element-below None v h = absurd (h refl)
 
 -- ---- of an instruction whose class is c
 module _ (p w : ℕ) {c : Class} (q : c ≡ class_of (opcode_of w)) (known : Known (instruction_of w)) where

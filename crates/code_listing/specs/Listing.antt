@@ -1,5 +1,5 @@
 -- The listing of code: a line an instruction, with its place, its name and what it works on. The names are those of docs/INSTRUCTIONS.md.
-use Rattle.std.specs.Prelude.{true, false, cond, List, [], ◌∷◌, ◌++◌, ℕ, suc, ◌+◌, ltb}
+use Rattle.std.specs.Prelude.{true, false, cond, List, [], ◌∷◌, ◌++◌, ℕ, suc, ◌+◌, ltb, Option, Some, None}
 use Rattle.std.specs.Float.{binary32}
 use Rattle.std.specs.Float.Ieee.{to_bits}
 use Rattle.operators.specs.Tables.{unary_number, binary_number}
@@ -9,11 +9,10 @@ use Rattle.memory.specs.declared.Bank.TheVariants.{R}
 use Rattle.totals.specs.Numbers.{total_number, match_number}
 use Rattle.code.specs.declared.Instr.{Instr}
 use Rattle.code.specs.declared.Instr.TheVariants.{PushInt, PushReal, Load, LoadIndexed, Unary, Binary, Jump, JumpIf, Tick, Since, Total, Match, Unknown}
-use Rattle.verifier.specs.declared.Verdict.{Verdict}
-use Rattle.verifier.specs.declared.Verdict.TheVariants.{Accepted, Refused}
 use Rattle.verifier.specs.Verdicts.{verdict}
 use Rattle.lines.specs.Printing.{decimal_text, signed_text, cell_text, letter_byte, cell_name}
 use Rattle.text_tables.specs.Tables.{row_at}
+use Rattle.values.specs.declared.Kind.{Kind}
 
 -- ---- the names of the numbered operators, a row each
 abbrev pub unary_names : List ℕ
@@ -74,9 +73,9 @@ pub record Listed : Type 0 where
   pub answer : ℕ
   pub text : List ℕ
 
-abbrev pub verdict_listed : List Instr → Verdict → Listed
-verdict_listed c (Accepted k) = record { answer = 0; text = lines_from 0 c }
-verdict_listed c Refused = record { answer = 15; text = [] }
+abbrev pub verdict_listed : List Instr → Option Kind → Listed
+verdict_listed c (Some k) = record { answer = 0; text = lines_from 0 c }
+verdict_listed c None = record { answer = 15; text = [] }
 
 -- in paper 01's order: 10 for a buffer that is too short, then 15 for code that the check does not accept
 abbrev pub listed : ℕ → List Instr → Listed

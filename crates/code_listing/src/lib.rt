@@ -17,9 +17,7 @@ ghost use Rattle.code_listing.specs.private.Parts.{letter_of, cell_of, range_of,
 
 use code::Class;
 use lines::printing;
-use memory::numbers::BankOf;
 use memory::{Bank, numbers};
-use verifier::Verdict;
 
 // What must be lent for the text: 32 bytes a line.
 pub const LEAST_TEXT: usize = 65536;
@@ -45,8 +43,10 @@ SUMIFGT
 SUMIFLE
 SUMIFLT";
 
-const BANKS: [u8; 11] = *b"X\nC\nV\nN\nD\nR";
+// The letters of the banks.
+pub const BANKS: [u8; 11] = *b"X\nC\nV\nN\nD\nR";
 
+// An answer by its number, as C is handed it, and how long the text is.
 #[derive(Clone, Copy)]
 pub struct ListedText {
     pub answer: u32,
@@ -89,8 +89,8 @@ fn put_load(out: &mut [u8], at: usize, w: u64) -> usize
 {
     let next = printing::put_all(out, at, b"LOAD ");
     match numbers::bank_numbered(code::number_of(w)) {
-        BankOf::Is(bank) => printing::put_name(out, next, bank, code::word_of(w)),
-        BankOf::Nothing => next,
+        Some(bank) => printing::put_name(out, next, bank, code::word_of(w)),
+        None => next,
     }
 }
 
@@ -101,13 +101,8 @@ fn put_indexed(out: &mut [u8], at: usize, w: u64) -> usize
 {
     let next = printing::put_all(out, at, b"LOAD_INDEXED ");
     match numbers::bank_numbered(code::number_of(w)) {
-        BankOf::Is(bank) => text_tables::put_row(
-            out,
-            next,
-            &BANKS,
-            numbers::bank_number(bank) as usize,
-        ),
-        BankOf::Nothing => next,
+        Some(bank) => text_tables::put_row(out, next, &BANKS, u8::from(bank) as usize),
+        None => next,
     }
 }
 
@@ -118,13 +113,13 @@ fn put_range(out: &mut [u8], at: usize, word: u32) -> usize
     ensures upper_bound { result ≤ at + 11 }
 {
     match numbers::bank_numbered(code::range_bank(word)) {
-        BankOf::Is(bank) => {
+        Some(bank) => {
             let a = printing::put_all(out, at, b" ");
             let b = printing::put_name(out, a, bank, code::range_first(word));
             let c = printing::put_all(out, b, b" ");
             printing::put_decimal(out, c, code::range_count(word) as u64)
         }
-        BankOf::Nothing => at,
+        None => at,
     }
 }
 
@@ -185,10 +180,8 @@ fn put_lines(out: &mut [u8], code: &[u8], n: usize) -> usize
     ensures upper_bound { result ≤ 32 * n }
 {
     let mut at = 0;
-    let mut place = 0;
-    while place < n {
+    for place in 0..n {
         at = put_line(out, at, place, code::fetch(code, place));
-        place += 1;
     }
     at
 }
@@ -206,11 +199,11 @@ pub fn listing(code: &[u8], n: usize, out: &mut [u8]) -> ListedText
         };
     }
     match verifier::check(code, n) {
-        Verdict::Accepted(_) => ListedText {
+        Some(_) => ListedText {
             answer: 0,
             length: put_lines(out, code, n),
         },
-        Verdict::Refused => ListedText {
+        None => ListedText {
             answer: 15,
             length: 0,
         },

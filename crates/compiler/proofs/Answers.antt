@@ -1,4 +1,5 @@
 -- The order of the answers: 10 for the buffer, 3 for the length, then 4 to 6 for the tokens, then what the table says; and the copy of the draft.
+use Rattle.std.specs.Prelude.{Ok, Err}
 use mathlib.Core.Path.{◌≡◌, refl, sym, ap, subst, ◌∙◌}
 use mathlib.Core.Bool.{Bool, true, false, ◌&&◌, cond}
 use mathlib.Core.List.{List}
@@ -10,7 +11,6 @@ use lib.Seq.{sets}
 use borrow.Author.Tests.{lt-ltb, le-ltb, le-leb, lt-leb, leb-true, ltb-true, ltb-false, ne_eqb}
 use Rattle.tokens.proofs.Tests.{both}
 use Rattle.tokens.specs.Scan.{Scan, tokens, wrong, scan}
-use Rattle.token_table.specs.declared.Filled.TheVariants.{Good, Wrong}
 use Rattle.token_table.specs.private.Table.{word_place, listed, Fills}
 use Rattle.token_table.proofs.Laws.{filled-good, filled-wrong}
 use Rattle.grammar.specs.Tree.{Tree, Diagnostic, clear, at}
@@ -24,24 +24,23 @@ use Rattle.real_tokens.specs.private.Words.{shown}
 use Rattle.tree_code.specs.Code.{code_of}
 use Rattle.draft.specs.private.Draft.{word_bytes, put_code}
 use Rattle.draft.proofs.Putting.{words-put}
-use Rattle.compiler.specs.declared.Coded.{Coded}
-use Rattle.compiler.specs.declared.Coded.TheVariants.{Done, Refused}
-use Rattle.compiler.specs.Compile.{in_room, compiling, compiling_in, coded_answer, coded_bytes}
+use Rattle.compiler.specs.Compile.{Coded, in_room, compiling, compiling_in, coded_answer, coded_bytes}
 use Rattle.compiler.specs.private.Reading.{Judged, fitted_bytes, is_longer}
 use Rattle.compiler.proofs.Bytes.{words-encoded}
 use Rattle.compiler.proofs.Theorems.{compiled}
+use Rattle.token_table.specs.Refusals.{refusal}
 
 -- the answer a, and the buffer made code', are those of the judgement j
 abbrev pub Told : List ℕ → Judgement → Coded → List ℕ → Type 0
 Told code j a code' = (a ≡ coded_answer j) × (code' ≡ coded_bytes code j)
 
 -- ---- a judgement in the draft
-pub turned_down : {j : Judgement} {o o' : List ℕ} {a p : ℕ} → j ≡ refused a p → Judged j o o' (Refused a p)
+pub turned_down : {j : Judgement} {o o' : List ℕ} {a p : ℕ} → j ≡ refused a p → Judged j o o' (Err (refusal a p))
 turned_down q = record { answer = rw q refl; code = λ t e. let z : ◌≡◌ {A = ℕ} 0 1 = cc in absurd (omega arith) }
 
 pub taken-up : {j : Judgement} {o o' : List ℕ} {n : ℕ} (t : Tree) → j ≡ accepted t → n ≡ length (code_of t) → o' ≡ put_code o 0 (code_of t)
-    → Judged j o o' (Done n)
-taken-up {o = o} t q l d = record { answer = rw q (ap Done l); code = λ u e. let one : t ≡ u = cc in d ∙ ap (λ (v : Tree). put_code o 0 (code_of v)) one }
+    → Judged j o o' (Ok n)
+taken-up {o = o} t q l d = record { answer = rw q (ap Ok l); code = λ u e. let one : t ≡ u = cc in d ∙ ap (λ (v : Tree). put_code o 0 (code_of v)) one }
 
 -- ---- a word that was found, or 0
 pub shown-none : {w : ℕ} {e : Diagnostic} → w ≡ 0 → shown w ≡ e → clear ≡ e
@@ -57,18 +56,18 @@ module _ (reals : Bool) (d : ℕ) {s : List ℕ} (h : Sized s) where
   goes_on = rw (le-leb 1 (length s) h.some, le-leb (length s) 1024 h.short) refl
 
   -- no real token was found, or it is not asked for
-  pub all_read : {table o o' : List ℕ} {a : Coded} → Fills (scan s) table Good → clear ≡ token_diagnostic reals (listed table)
+  pub all_read : {table o o' : List ℕ} {a : Coded} → Fills (scan s) table (Ok tt) → clear ≡ token_diagnostic reals (listed table)
       → ((x : List ℕ) → length x ≡ length s → Judged (judge_parse x (parse_from d (listed table))) o o' a)
       → Judged (judge_in reals d s) o o' a
   unfolding judge_scan_in judge_scan
   all_read i n f = rw (goes_on ∙ ap (judge_scan_in reals d s) (filled-good i), sym n) (f s refl)
 
-  pub real-token : {table o o' : List ℕ} {p : ℕ} → Fills (scan s) table Good → real_at p ≡ token_diagnostic reals (listed table)
-      → Judged (judge_in reals d s) o o' (Refused 19 p)
+  pub real-token : {table o o' : List ℕ} {p : ℕ} → Fills (scan s) table (Ok tt) → real_at p ≡ token_diagnostic reals (listed table)
+      → Judged (judge_in reals d s) o o' (Err (refusal 19 p))
   unfolding judge_scan_in
   real-token i n = turned_down (goes_on ∙ ap (judge_scan_in reals d s) (filled-good i) ∙ rw (sym n) refl)
 
-  pub wrong_token : {table o o' : List ℕ} {a p : ℕ} → Fills (scan s) table (Wrong a p) → Judged (judge_in reals d s) o o' (Refused a p)
+  pub wrong_token : {table o o' : List ℕ} {a p : ℕ} → Fills (scan s) table (Err (refusal a p)) → Judged (judge_in reals d s) o o' (Err (refusal a p))
   unfolding judge_scan_in
   wrong_token i = turned_down (goes_on ∙ ap (judge_scan_in reals d s) (filled-wrong i))
 
@@ -95,16 +94,16 @@ accepted-full reals d s t q = by (leb 1 (length s) && leb (length s) 1024) q
 abbrev pub Fitted : ℕ → List ℕ → Judgement → Coded → List ℕ → Type 0
 Fitted most code j a code' = (a ≡ coded_answer j) × (code' ≡ fitted_bytes most code j)
 
-coded-length : {j : Judgement} {n : ℕ} (t : Tree) → Done n ≡ coded_answer j → j ≡ accepted t → n ≡ length (code_of t)
-coded-length t e q = let l : Done _ ≡ coded_answer (accepted t) = e ∙ ap coded_answer q in cc
+coded-length : {j : Judgement} {n : ℕ} (t : Tree) → Ok n ≡ coded_answer j → j ≡ accepted t → n ≡ length (code_of t)
+coded-length t e q = let l : Ok _ ≡ coded_answer (accepted t) = e ∙ ap coded_answer q in cc
 
-not-refused : {j : Judgement} {n a p : ℕ} {A : Type 0} → Done n ≡ coded_answer j → j ≡ refused a p → A
-not-refused {n = n} {a = a} {p = p} e q = let l : Done n ≡ Refused a p = e ∙ ap coded_answer q in let z : ◌≡◌ {A = ℕ} 0 1 = cc in absurd (omega arith)
+not-refused : {j : Judgement} {n a p : ℕ} {A : Type 0} → Ok n ≡ coded_answer j → j ≡ refused a p → A
+not-refused {n = n} {a = a} {p = p} e q = let l : Ok n ≡ Err (refusal a p) = e ∙ ap coded_answer q in let z : ◌≡◌ {A = ℕ} 0 1 = cc in absurd (omega arith)
 
 module _ {j : Judgement} {o o' : List ℕ} where
-  module _ {n most : ℕ} (x : Judged j o o' (Done n)) where
+  module _ {n most : ℕ} (x : Judged j o o' (Ok n)) where
     pub copied : n ≤ most → most ≤ length o → (code : List ℕ) {code' : List ℕ} → code' ≡ sets code 0 (word_bytes (take n o')) → Fitted most code j
-        (Done n) code'
+        (Ok n) code'
     copied few room code {code'} e = (x.answer, go j refl)
       where
         go : (i : Judgement) → j ≡ i → code' ≡ fitted_bytes most code j
@@ -116,25 +115,25 @@ module _ {j : Judgement} {o o' : List ℕ} where
             ∙ ap (sets code 0) (words-encoded (code_of t)))
         go (refused a p) q = not-refused x.answer q
 
-    pub passed_over : most < n → (code : List ℕ) → Fitted most code j (Done n) code
+    pub passed_over : most < n → (code : List ℕ) → Fitted most code j (Ok n) code
     passed_over more code = (x.answer, go j refl)
       where
         go : (i : Judgement) → j ≡ i → code ≡ fitted_bytes most code j
         go (accepted t) q = let m : n ≡ length (code_of t) = coded-length t x.answer q in rw (q, lt-leb (length (code_of t)) most (omega arith)) refl
         go (refused a p) q = not-refused x.answer q
 
-  pub not_written : (most : ℕ) (code : List ℕ) {a p : ℕ} → Judged j o o' (Refused a p) → Fitted most code j (Refused a p) code
+  pub not_written : (most : ℕ) (code : List ℕ) {a p : ℕ} → Judged j o o' (Err (refusal a p)) → Fitted most code j (Err (refusal a p)) code
   not_written most code {a} {p} x = (x.answer, go j refl)
     where
       go : (i : Judgement) → j ≡ i → code ≡ fitted_bytes most code j
-      go (accepted t) q = let l : Refused a p ≡ coded_answer (accepted t) = x.answer ∙ ap coded_answer q in let z : ◌≡◌ {A = ℕ} 0 1 = cc in absurd
+      go (accepted t) q = let l : Err (refusal a p) ≡ coded_answer (accepted t) = x.answer ∙ ap coded_answer q in let z : ◌≡◌ {A = ℕ} 0 1 = cc in absurd
           (omega arith)
       go (refused b r) q = rw q refl
 
 -- ---- an answer of at most so many instructions has its code in the buffer, any other has changed nothing
 module _ (j : Judgement) (most : ℕ) (code code' : List ℕ) where
   pub kept : (a : Coded) → is_longer a most ≡ false → Fitted most code j a code' → Told code j a code'
-  kept (Done n) few (e, w) = (e, go j refl)
+  kept (Ok n) few (e, w) = (e, go j refl)
     where
       go : (i : Judgement) → j ≡ i → code' ≡ coded_bytes code j
       go (accepted t) q =
@@ -142,14 +141,14 @@ module _ (j : Judgement) (most : ℕ) (code code' : List ℕ) where
           let l : length (code_of t) ≤ most = omega (arith, ltb-false most n few) in
           w ∙ rw (q, le-leb (length (code_of t)) most l) refl
       go (refused a p) q = not-refused e q
-  kept (Refused a p) few (e, w) = (e, go j refl)
+  kept (Err r) few (e, w) = (e, go j refl)
     where
       go : (i : Judgement) → j ≡ i → code' ≡ coded_bytes code j
-      go (accepted t) q = let l : Refused a p ≡ coded_answer (accepted t) = e ∙ ap coded_answer q in let z : ◌≡◌ {A = ℕ} 0 1 = cc in absurd (omega arith)
-      go (refused b r) q = w ∙ rw q refl
+      go (accepted t) q = let l : Err r ≡ coded_answer (accepted t) = e ∙ ap coded_answer q in let z : ◌≡◌ {A = ℕ} 0 1 = cc in absurd (omega arith)
+      go (refused b p) q = w ∙ rw q refl
 
   pub unchanged : (a : Coded) → is_longer a most ≡ true → Fitted most code j a code' → code' ≡ code
-  unchanged (Done n) more (e, w) = go j refl
+  unchanged (Ok n) more (e, w) = go j refl
     where
       go : (i : Judgement) → j ≡ i → code' ≡ code
       go (accepted t) q =
@@ -157,7 +156,7 @@ module _ (j : Judgement) (most : ℕ) (code code' : List ℕ) where
           let l : most < length (code_of t) = omega (arith, ltb-true most n more) in
           w ∙ rw (q, lt-leb (length (code_of t)) most l) refl
       go (refused a p) q = not-refused e q
-  unchanged (Refused a p) more t = let z : ◌≡◌ {A = ℕ} 0 1 = cc in absurd (omega arith)
+  unchanged (Err r) more t = let z : ◌≡◌ {A = ℕ} 0 1 = cc in absurd (omega arith)
 
 -- ---- a formula has at most two instructions a byte
 pub all-fits : (reals : Bool) (d : ℕ) (s code code' : List ℕ) (a : Coded) → Sized s → Fitted 2048 code (judge_in reals d s) a code'
@@ -183,7 +182,7 @@ module _ (s : List ℕ) where
 
 -- ---- the buffer
 module _ (reals : Bool) (d : ℕ) (s code : List ℕ) where
-  pub small : length code < 16384 → Told code (compiling_in reals d (length code) s) (Refused 10 0) code
+  pub small : length code < 16384 → Told code (compiling_in reals d (length code) s) (Err (refusal 10 0)) code
   small h = rw (lt-ltb (length code) 16384 h) (refl, refl)
 
   -- a buffer that is large enough
@@ -191,8 +190,8 @@ module _ (reals : Bool) (d : ℕ) (s code : List ℕ) where
     pub enough : (a : Coded) (code' : List ℕ) → Told code (judge_in reals d s) a code' → Told code (compiling_in reals d (length code) s) a code'
     enough a code' t = rw (le-ltb (length code) 16384 h) t
 
-    pub too_long : judge_in reals d s ≡ refused 3 0 → Told code (compiling_in reals d (length code) s) (Refused 3 0) code
-    too_long q = enough (Refused 3 0) code (rw q (refl, refl))
+    pub too_long : judge_in reals d s ≡ refused 3 0 → Told code (compiling_in reals d (length code) s) (Err (refusal 3 0)) code
+    too_long q = enough (Err (refusal 3 0)) code (rw q (refl, refl))
 
 -- with reals
 pub told-full : (s code : List ℕ) {a : Coded} {code' : List ℕ} → Told code (compiling_in true 0 (length code) s) a code'

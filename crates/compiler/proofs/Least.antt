@@ -1,4 +1,5 @@
 -- A lexeme takes at least the bytes of its token, if it takes a byte at all.
+use Rattle.std.specs.Prelude.{Option, Result, Some, None, Ok, Err}
 use mathlib.Core.Path.{◌≡◌, refl, ap, subst}
 use mathlib.Core.Bool.{Bool, true, false, cond}
 use mathlib.Core.List.{List, [], ◌∷◌}
@@ -7,16 +8,10 @@ use native.Mathlib.Omega.{arith}
 use lib.Dec.{eqb}
 use lib.ListN.{length, take, drop, length-take}
 use Rattle.values.specs.declared.Value.{Value}
-use Rattle.memory.specs.declared.names.Letter.{Letter as BankLetter}
-use Rattle.memory.specs.declared.names.Letter.TheVariants as L
-use Rattle.memory.specs.declared.names.Named.{Named}
-use Rattle.memory.specs.declared.names.Named.TheVariants as A
 use Rattle.memory.specs.Names.{is_digit, letter_bank, named_rule}
 use Rattle.tokens.specs.declared.Function.{Function}
 use Rattle.tokens.specs.declared.Token.{Token}
 use Rattle.tokens.specs.declared.Token.TheVariants.{Number}
-use Rattle.tokens.specs.declared.Scanned.{Scanned}
-use Rattle.tokens.specs.declared.Scanned.TheVariants.{Good, Bad}
 use Rattle.tokens.specs.Bytes.{is_letter, is_word, run_len}
 use Rattle.tokens.specs.Symbols.{equal_bytes, symbol_count, longest}
 use Rattle.tokens.specs.Numerals.{numeral_of, numeral_len}
@@ -26,11 +21,12 @@ use Rattle.tokens.proofs.Laws.{found}
 use Rattle.tokens.proofs.numerals.Values.{NumberOrRefused, number, refused, number-or-refused}
 use Rattle.tokens.proofs.Same.{equal}
 use Rattle.tree_code.specs.Demand.{bytes_of_token}
+use Rattle.memory.specs.declared.Bank.{Bank}
 
 -- n bytes, if they are any, have room for what they are judged to be
-data Room (n : ℕ) : Scanned → Type 0 where
-  good : {t : Token} → (0 < n → bytes_of_token t ≤ n) → Room n (Good t)
-  bad : {a : ℕ} → Room n (Bad a)
+data Room (n : ℕ) : Result Token ℕ → Type 0 where
+  good : {t : Token} → (0 < n → bytes_of_token t ≤ n) → Room n (Ok t)
+  bad : {a : ℕ} → Room n (Err a)
 
 -- what holds of each choice holds of the one that a test makes
 when : {A : Type 0} (P : A → Type 0) (b : Bool) {x y : A} → (b ≡ true → P x) → P y → P (cond b x y)
@@ -38,14 +34,14 @@ when P true f g = f refl
 when P false f g = g
 
 module _ (n : ℕ) where
-  either : (b : Bool) {x y : Scanned} → Room n x → Room n y → Room n (cond b x y)
+  either : (b : Bool) {x y : (Result Token ℕ)} → Room n x → Room n y → Room n (cond b x y)
   either b f g = when (Room n) b (λ e. f) g
 
   -- ---- numerals
-  a-number : {v : Value} → Room n (Good (Number v))
+  a-number : {v : Value} → Room n (Ok (Number v))
   a-number = good (λ h. h)
 
-  of-numeral : {r : Scanned} → NumberOrRefused r → Room n r
+  of-numeral : {r : (Result Token ℕ)} → NumberOrRefused r → Room n r
   of-numeral (number v) = a-number
   of-numeral (refused a l h) = bad
 
@@ -53,13 +49,13 @@ module _ (n : ℕ) where
   a-numeral cs = of-numeral (number-or-refused cs)
 
   -- ---- words
-  a-letter : (l : BankLetter) → Room n (letter_word l)
-  a-letter (L.Of b) = good (λ h. h)
-  a-letter L.Other = bad
+  a-letter : (l : Option Bank) → Room n (letter_word l)
+  a-letter (Some b) = good (λ h. h)
+  a-letter None = bad
 
-  a-cell : 2 ≤ n → (c : Named) → Room n (cell_word c)
-  a-cell l (A.Cell b i) = good (λ h. l)
-  a-cell l A.Other = bad
+  a-cell : 2 ≤ n → (c : (Option (Bank × ℕ))) → Room n (cell_word c)
+  a-cell l (Some (b, i)) = good (λ h. l)
+  a-cell l None = bad
 
   other : (cs : List ℕ) → length cs ≤ n → Room n (other_word cs)
   unfolding other_word
@@ -67,7 +63,7 @@ module _ (n : ℕ) where
   other (c ∷ []) l = a-letter (letter_bank c)
   other (c ∷ d ∷ cs) l = a-cell (omega arith) (named_rule (c ∷ d ∷ cs))
 
-  a-name : (fs : List Function) (cs : List ℕ) {o : Scanned} → length cs ≤ n → Room n o → Room n (function_named fs cs o)
+  a-name : (fs : List Function) (cs : List ℕ) {o : (Result Token ℕ)} → length cs ≤ n → Room n o → Room n (function_named fs cs o)
   a-name [] cs l r = r
   a-name (f ∷ fs) cs l r = when (Room n) (equal_bytes (name_of f) cs) (λ e. good (λ h. omega (arith, ap length (equal (name_of f) cs e)))) (a-name fs cs l r)
 
@@ -81,11 +77,11 @@ data Takes : Lexeme → Type 0 where
   wrong : {a p : ℕ} → Takes (Wrong a p)
   end : Takes End
 
-judged : (p n : ℕ) {r : Scanned} → Room n r → Takes (lexeme p n r)
+judged : (p n : ℕ) {r : (Result Token ℕ)} → Room n r → Takes (lexeme p n r)
 judged p n (good {t = t} h) = token t p (p + n) (λ l. omega (arith, h (omega arith)))
 judged p n bad = wrong
 
-run : (test : ℕ → Bool) (f : List ℕ → Scanned) → ((n : ℕ) (cs : List ℕ) → length cs ≤ n → Room n (f cs))
+run : (test : ℕ → Bool) (f : List ℕ → (Result Token ℕ)) → ((n : ℕ) (cs : List ℕ) → length cs ≤ n → Room n (f cs))
     → (cs : List ℕ) (p : ℕ) → Takes (run_lexeme test f cs p)
 run test f room cs p =
     let n = run_len test cs in

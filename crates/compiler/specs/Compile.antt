@@ -1,7 +1,7 @@
 -- What compiling does (paper 01): "compiling, with a code buffer under 16,384 bytes" is 10, before the text is looked at; "1 to 10 .. change nothing";
 -- "Compile alone returns .. the number of instructions"; "code bytes past the last instruction keep what they held". proofs/Theorems.antt proves
 -- `CompileTheorems`.
-use Rattle.std.specs.Prelude.{◌≡◌, Bool, cond, List, [], ◌∷◌, ◌++◌, ℕ, ◌≤◌, ltb, length}
+use Rattle.std.specs.Prelude.{◌≡◌, Bool, cond, List, [], ◌∷◌, ◌++◌, ℕ, ◌≤◌, ltb, length, Result, Ok, Err}
 use Rattle.std.proofs.lemmas.List.Edits.{sets}
 use Rattle.grammar.specs.Tree.{Tree}
 use Rattle.text.specs.Judge.{Judgement, accepted, refused, judge_from}
@@ -9,10 +9,10 @@ use Rattle.profile_text.specs.Judge.{judge_in}
 use Rattle.code.specs.declared.Instr.{Instr}
 use Rattle.code.specs.Encode.{encode}
 use Rattle.code.specs.Instructions.{instructions}
-use Rattle.compiler.specs.declared.Coded.{Coded}
-use Rattle.compiler.specs.declared.Coded.TheVariants.{Done, Refused}
 use Rattle.tree_code.specs.Code.{code_of}
 use Rattle.tree_code.specs.Demand.{Compiled}
+use Rattle.token_table.specs.declared.Refusal.{Refusal}
+pub use Rattle.token_table.specs.Refusals.{refusal}
 
 -- the bytes of some instructions
 unfoldable pub encode_all : List Instr → List ℕ
@@ -35,9 +35,13 @@ compiling_in reals d room s = in_room room (judge_in reals d s)
 abbrev pub compiling : ℕ → List ℕ → Judgement
 compiling room s = compiling_from 0 room s
 
+-- how many instructions the code has, or the answer and place that refuse the text
+abbrev pub Coded : Type 0
+Coded = Result ℕ Refusal
+
 abbrev pub coded_answer : Judgement → Coded
-coded_answer (accepted t) = Done (length (code_of t))
-coded_answer (refused a p) = Refused a p
+coded_answer (accepted t) = Ok (length (code_of t))
+coded_answer (refused a p) = Err (refusal a p)
 
 -- the buffer afterwards, every byte
 abbrev pub coded_bytes : List ℕ → Judgement → List ℕ

@@ -14,11 +14,10 @@ ghost use Rattle.draft.specs.private.Words.{Signs, is_alone};
 ghost use Rattle.draft.specs.private.Draft.{Unaries};
 ghost use Rattle.compiler.specs.private.Reading.{Fits, ReaderAgrees, primary_of, then_symbol, call_of, Arguing, Branches, Judged};
 
-use crate::Coded;
 use draft::diagnostics::CLEAR;
 use draft::{ahead, diagnostics, results};
 use grammar::functions;
-use token_table::classes;
+use token_table::{Refusal, classes};
 use tokens::symbols;
 
 mod ranges;
@@ -36,9 +35,7 @@ fn signed(table: &[u64], draft: &mut [u64], at: usize, first: usize, inner: u64)
     ensures { Unaries table.now first draft.old (read_of inner) at draft.new (read_of result) }
 {
     let mut read = inner;
-    let mut i = first;
-    while at < i {
-        i -= 1;
+    for i in (at..first).rev() {
         read = draft::prefixed(draft, token_table::word_at(table, i), read);
     }
     read
@@ -291,15 +288,11 @@ fn branches(table: &[u64], draft: &mut [u64], condition: u64, room: u8) -> u64
 fn room_behind(opened: u8) -> u8
     ensures { result ≡ most_open - opened }
 {
-    if opened < MOST_OPEN {
-        MOST_OPEN - opened
-    } else {
-        0
-    }
+    MOST_OPEN.saturating_sub(opened)
 }
 
 // The whole table, of a text of `size` bytes behind so many open brackets: an expression, and nothing after it.
-pub fn formula(table: &[u64], draft: &mut [u64], size: usize, opened: u8) -> Coded
+pub fn formula(table: &[u64], draft: &mut [u64], size: usize, opened: u8) -> Result<usize, Refusal>
     requires { Fits table.now 0 0 }
     ensures { (s : List ℕ) → length s ≡ size → Judged (judge_parse s (parse_from opened (listed table.now))) draft.old
         draft.new result }
@@ -307,18 +300,24 @@ pub fn formula(table: &[u64], draft: &mut [u64], size: usize, opened: u8) -> Cod
     let whole = expression(table, draft, 0, 0, room_behind(opened), LOOSEST);
     let at = results::next_of(whole);
     if !results::is_done(whole) {
-        return Coded::Refused(results::refusal_of(whole), ahead::place_at(table, at, size));
+        return Err(Refusal {
+            answer: results::refusal_of(whole),
+            place: ahead::place_at(table, at, size),
+        });
     }
     let w = token_table::word_at(table, at);
     if token_table::class_of(w) != classes::NONE {
-        return Coded::Refused(7, token_table::place_of(w));
+        return Err(Refusal {
+            answer: 7,
+            place: token_table::place_of(w),
+        });
     }
     let wrong = results::wrong_of(whole);
     if wrong < CLEAR {
-        return Coded::Refused(
-            diagnostics::answer_part(wrong),
-            diagnostics::place_part(wrong),
-        );
+        return Err(Refusal {
+            answer: diagnostics::answer_part(wrong),
+            place: diagnostics::place_part(wrong),
+        });
     }
-    Coded::Done(results::end_of(whole))
+    Ok(results::end_of(whole))
 }

@@ -1,4 +1,5 @@
 -- What follows a value: each way is what the definitions say.
+use Rattle.std.specs.Prelude.{Result, ⊤}
 use mathlib.Core.Path.{◌≡◌, ap, ◌∙◌}
 use mathlib.Core.Bool.{Bool, true, false, cond}
 use mathlib.Core.List.{List}
@@ -6,9 +7,9 @@ use Prim.Native.Nat.{ℕ, ◌+◌, ◌≤◌}
 use native.Mathlib.Nat.{add-zero}
 use native.Mathlib.Omega.{arith}
 use Rattle.values.specs.declared.Value.{Value}
+use Rattle.values.specs.declared.Fault.{Fault as FaultName}
 use Rattle.values.specs.declared.Fault.TheVariants.{OutOfRange}
 use Rattle.memory.specs.declared.Bank.{Bank}
-use Rattle.memory.specs.declared.store.Stored.{Stored}
 use Rattle.memory.specs.Store.{is_finite, with_flag, store_answer, store_image}
 use Rattle.machine.specs.declared.Ran.{Ran}
 use Rattle.machine.specs.Profile.{runs_in}
@@ -34,7 +35,7 @@ few-index none q = let z : ◌≡◌ {A = ℕ} 0 1 = cc in absurd (omega arith)
 few-index {k = k} (some {k = j} h) q = let z : j ≡ k = cc in omega arith
 
 -- the answer after a store
-pub stores : (m : List ℕ) (b : Bank) (i : ℕ) (v : Value) (n : ℕ) {s : Stored} {r : Answer} {m' : List ℕ}
+pub stores : (m : List ℕ) (b : Bank) (i : ℕ) (v : Value) (n : ℕ) {s : (Result ⊤ FaultName)} {r : Answer} {m' : List ℕ}
     → (s ≡ store_answer m b i v) × (m' ≡ store_image m b i v) → r ≡ after_store v n b i s → (r ≡ stored_answer m b i v n) × (m' ≡ store_image m b i v)
 stores m b i v n w a = (a ∙ ap (after_store v n b i) w.0, w.1)
 

@@ -1,6 +1,6 @@
 -- Where the value of a run, or a given one, goes, and what is answered and left in memory then. What is lent a memory is stated for an image of any layout;
 -- contracts speak of the packed one.
-use Rattle.std.specs.Prelude.{Bool, true, cond, List, [], ℕ, ◌+◌, eqb, length}
+use Rattle.std.specs.Prelude.{Bool, true, cond, List, [], ℕ, ◌+◌, eqb, length, Result, Ok, Err, ⊤}
 use Rattle.std.specs.Float.Ieee as Ieee
 use Rattle.std.specs.Float.{binary32}
 use Rattle.values.specs.declared.Value.{Value}
@@ -8,11 +8,7 @@ use Rattle.values.specs.declared.Value.TheVariants.{Int, Real}
 use Rattle.values.specs.declared.Fault.{Fault as FaultName}
 use Rattle.values.specs.declared.Fault.TheVariants.{OutOfRange}
 use Rattle.values.specs.Patterns.{low_bits, signed_of}
-use Rattle.operators.specs.declared.Position.{Position}
-use Rattle.operators.specs.declared.Position.TheVariants as Position
 use Rattle.memory.specs.declared.Bank.{Bank}
-use Rattle.memory.specs.declared.store.Stored.{Stored}
-use Rattle.memory.specs.declared.store.Stored.TheVariants as Stored
 use Rattle.memory.specs.Layout.{ImageLayout, packed}
 use Rattle.memory.specs.Cells.{position_rule}
 use Rattle.memory.specs.Store.{is_finite, with_flag_in, store_in, store_answer_in}
@@ -38,9 +34,9 @@ pub data Destination : Type 0 where
   lost : Destination
 
 -- the element of the bank that a value names, by the rule of a formula's own indexes
-abbrev pub at_element : Bank → Position → Destination
-at_element b (Position.At i) = cell b i
-at_element b (Position.Stopped f) = fault f
+abbrev pub at_element : Bank → Result ℕ FaultName → Destination
+at_element b (Ok i) = cell b i
+at_element b (Err f) = fault f
 
 abbrev pub reached : Bank → Ended → Destination
 reached b (Ended.Done v) = at_element b (position_rule b v)
@@ -59,9 +55,9 @@ pub record Arrival : Type 0 where
   pub count : ℕ
 
 -- "0 returns the value before the store"; "where it faults (13), the count is of all instructions executed"
-abbrev pub after_store : Value → ℕ → Bank → ℕ → Stored → Answer
-after_store v n b i Stored.Done = Done v n b i
-after_store v n b i (Stored.Stopped f) = Fault f n
+abbrev pub after_store : Value → ℕ → Bank → ℕ → Result ⊤ FaultName → Answer
+after_store v n b i (Ok _) = Done v n b i
+after_store v n b i (Err f) = Fault f n
 
 -- "the index code, checked like the other; a plain cell has none"
 abbrev pub index_passes : List ℕ → Element → Bool

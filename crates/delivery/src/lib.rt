@@ -11,9 +11,7 @@ ghost use Rattle.delivery.specs.Profile.{arrival_for, index_passes_for, unstorab
 ghost use Rattle.delivery.specs.private.Bounds.{most_begun, Few, FiniteEnd, Storable, StorableEnd};
 
 use machine::{Ended, Ran};
-use memory::store::Stored;
 use memory::{Bank, cells};
-use operators::Position;
 use targets::Element;
 use values::{Fault, Value};
 
@@ -34,12 +32,12 @@ pub fn flagged(memory: &mut [u8], f: Fault, count: usize) -> Answer
 }
 
 // The answer after a store. Each way calls the store itself: a function around both would give the whole answer back through memory.
-pub fn after_store(s: Stored, v: Value, count: usize, bank: Bank, element: u32) -> Answer
+pub fn after_store(s: Result<(), Fault>, v: Value, count: usize, bank: Bank, element: u32) -> Answer
     ensures { result ≡ after_store v count bank element s }
 {
     match s {
-        Stored::Done => Answer::Done(v, count, bank, element),
-        Stored::Stopped(f) => Answer::Fault(f, count),
+        Ok(()) => Answer::Done(v, count, bank, element),
+        Err(f) => Answer::Fault(f, count),
     }
 }
 
@@ -51,11 +49,11 @@ fn arrived(memory: &mut [u8], bank: Bank, end: Ended, v: Value, count: usize, re
 {
     match end {
         Ended::Done(index) => match cells::position_in(bank, index, reals) {
-            Position::At(i) => {
+            Ok(i) => {
                 let s = memory::store::store_in(memory, bank, i, v, reals);
                 after_store(s, v, count, bank, i)
             }
-            Position::Stopped(f) => flagged(memory, f, count),
+            Err(f) => flagged(memory, f, count),
         },
         Ended::Stopped(f) => flagged(memory, f, count),
         Ended::Stuck => Answer::Refused(15, 0),

@@ -15,11 +15,7 @@ pub fn is_leaf(w: u64) -> bool
     ensures { result ≡ is_leaf w }
 {
     let class = token_table::class_of(w);
-    if class == classes::NONE {
-        false
-    } else {
-        class < classes::LETTER
-    }
+    class != classes::NONE && class < classes::LETTER
 }
 
 fn is_symbol(w: u64, n: u8) -> bool
@@ -73,7 +69,7 @@ pub fn is_alone(table: &[u64], at: usize, g: u8) -> bool
         return false;
     }
     let behind = group_in(token_table::word_at(table, at + 1));
-    if behind == 0 { true } else { g <= behind }
+    behind == 0 || g <= behind
 }
 
 // The place of a token, or the text's size behind the last.
@@ -93,9 +89,10 @@ pub fn signs_end(table: &[u64], at: usize) -> usize
     requires { at ≤ length table.now }
     ensures { Signs table.now at result }
 {
-    let mut end = at;
-    while sign_of(token_table::word_at(table, end)) < NO_SIGN {
-        end += 1;
+    for i in at..table.len() {
+        if NO_SIGN <= sign_of(table[i]) {
+            return i;
+        }
     }
-    end
+    table.len()
 }

@@ -17,7 +17,7 @@ pub fn earlier(a: u64, b: u64) -> u64
     ensures result_value { diagnosed result ≡ earlier (diagnosed a) (diagnosed b) }
     ensures upper_bound { result < 536870912 }
 {
-    if a < b { a } else { b }
+    a.min(b)
 }
 
 // An answer at a token's place, unless all is well.

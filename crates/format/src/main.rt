@@ -3,18 +3,11 @@
 #![tactic(auto)]
 
 use program::stream;
-use program::stream::Receipt;
 use std::io;
 
 fn main(rt: HostRuntime) -> io::Result<()> {
-    let mut memory = program::blank_image();
-    let mut target = program::blank_text();
-    let mut text = program::blank_text();
-    match stream::receive_case(&mut rt.stdin(), &mut memory, &mut target, &mut text) {
-        Receipt::All(n) => {
-            let b = n.text;
-            format_reply::tell(&rt, &text[..b])
-        }
-        Receipt::Unread => rt.write_all(b"error=read\n"),
+    match stream::receive_case(&mut rt.stdin()) {
+        Some(case) => format_reply::tell(&rt, case.text.bytes()),
+        None => rt.write_all(b"error=read\n"),
     }
 }

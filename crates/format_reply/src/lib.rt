@@ -5,12 +5,12 @@ use operations::Answer;
 use program::reply;
 use std::io;
 
-// The first n bytes.
+// The first n bytes; nothing where there are not so many.
 fn print(rt: &impl Print, bytes: &[u8], n: usize) -> io::Result<()> {
-    if n <= bytes.len() {
-        rt.write_all(&bytes[..n])?;
+    match bytes.get(..n) {
+        Some(first) => rt.write_all(first),
+        None => Ok(()),
     }
-    Ok(())
 }
 
 fn report(rt: &impl Print, answer: Answer) -> io::Result<()> {
@@ -29,9 +29,8 @@ pub fn tell(rt: &impl Print, text: &[u8]) -> io::Result<()> {
     let mut saved = [0u8; 1024];
     let answer = formatter::format(text, &mut saved);
     report(rt, answer)?;
-    match answer {
-        Answer::Done(_, n, _, _) => show(rt, &saved, n),
-        Answer::Fault(_, _) => Ok(()),
-        Answer::Refused(_, _) => Ok(()),
+    if let Answer::Done(_, n, _, _) = answer {
+        show(rt, &saved, n)?;
     }
+    Ok(())
 }

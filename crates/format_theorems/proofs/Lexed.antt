@@ -1,5 +1,6 @@
 -- Bytes made of spellings, symbols and single blanks: they scan to their tokens, their levels are those of the tokens, and at the tokens' places stand the
 -- spellings.
+use Rattle.std.specs.Prelude.{Ok}
 use mathlib.Core.Path.{◌≡◌, refl, sym, ap, subst, ◌∙◌}
 use mathlib.Core.Bool.{Bool, true, false, ◌||◌}
 use mathlib.Core.List.{List, [], ◌∷◌, ◌++◌}
@@ -14,7 +15,6 @@ use borrow.Author.Tests.{eqb-true}
 use Rattle.words.specs.Ascii.{byte}
 use Rattle.tokens.specs.declared.Token.{Token}
 use Rattle.tokens.specs.declared.Token.TheVariants.{Number, Cell, Letter, Name, Symbol}
-use Rattle.tokens.specs.declared.Scanned.TheVariants.{Good}
 use Rattle.tokens.specs.Bytes.{is_word, is_run, all}
 use Rattle.tokens.specs.Symbols.{symbol_count, symbol_bytes}
 use Rattle.tokens.specs.Numerals.{non_empty, is_sign, decimal_digits}
@@ -63,7 +63,7 @@ pub data Lexed : ℕ → List ℕ → List Tok → List (List ℕ) → Type 0 wh
       → Lexed (p + length w) r z ys → Lexed p (w ++ r) (tok x p ∷ z) (kept x w ++ ys)
 
 -- ---- the scan
-token-first : {p : ℕ} {t : Token} {w r : List ℕ} {z : Scan} → LongestLexeme w r (Good t) → Scans (p + length w) r z → Scans p (w ++ r) (cons_token (tok t p) z)
+token-first : {p : ℕ} {t : Token} {w r : List ℕ} {z : Scan} → LongestLexeme w r (Ok t) → Scans (p + length w) r z → Scans p (w ++ r) (cons_token (tok t p) z)
 token-first {p} {t} {w} {r} {z} l h =
     subst (λ (k : ℕ). Scans (k + length w) r z → Scans p (w ++ r) (cons_token (tok t k) z)) (add-zero p) (λ g. token [] w r refl refl l g) h
 

@@ -1,4 +1,5 @@
 -- Words and numerals: a spelling that stands in one text stands before any bytes that do not go on with it, and `lexeme` finds it.
+use Rattle.std.specs.Prelude.{Result, Ok}
 use mathlib.Core.Path.{◌≡◌, refl, sym, ap, subst, ◌∙◌}
 use mathlib.Core.Bool.{Bool, true, false, ◌||◌}
 use mathlib.Core.List.{List, ◌∷◌, ◌++◌}
@@ -14,8 +15,6 @@ use Rattle.memory.specs.Names.{is_digit}
 use Rattle.memory.proofs.names.Decimals.{digit-range}
 use Rattle.tokens.specs.declared.Token.{Token}
 use Rattle.tokens.specs.declared.Token.TheVariants.{Number, Cell, Letter, Name, Symbol}
-use Rattle.tokens.specs.declared.Scanned.{Scanned}
-use Rattle.tokens.specs.declared.Scanned.TheVariants.{Good}
 use Rattle.tokens.specs.Bytes.{is_letter, is_space, is_word, is_run, run_len, all}
 use Rattle.tokens.specs.Numerals.{is_sign, numeral_of}
 use Rattle.tokens.specs.Words.{word_token}
@@ -45,16 +44,16 @@ is_no_symbol (Symbol n) = false
 
 -- the bytes w are the token x wherever nothing goes on with them
 pub data Spells (x : Token) : List ℕ → Type 0 where
-  as-word : {w : List ℕ} → Starts is_letter w → all is_word w ≡ true → word_token w ≡ Good x → Spells x w
-  as-run : {w : List ℕ} → Starts is_digit w → all is_run w ≡ true → numeral_of w ≡ Good x → Spells x w
-  as-signed : (m : List ℕ) (c : ℕ) (v : List ℕ) → Mantissa m → is_sign c ≡ true → all is_run v ≡ true → numeral_of (m ++ (byte "E" ∷ c ∷ v)) ≡ Good x
+  as-word : {w : List ℕ} → Starts is_letter w → all is_word w ≡ true → word_token w ≡ Ok x → Spells x w
+  as-run : {w : List ℕ} → Starts is_digit w → all is_run w ≡ true → numeral_of w ≡ Ok x → Spells x w
+  as-signed : (m : List ℕ) (c : ℕ) (v : List ℕ) → Mantissa m → is_sign c ≡ true → all is_run v ≡ true → numeral_of (m ++ (byte "E" ∷ c ∷ v)) ≡ Ok x
       → Spells x (m ++ (byte "E" ∷ c ∷ v))
 
-of-run : {x : Token} {w r : List ℕ} → NumeralRun w r → numeral_of w ≡ Good x → Spells x w
+of-run : {x : Token} {w r : List ℕ} → NumeralRun w r → numeral_of w ≡ Ok x → Spells x w
 of-run (plain h m) e = as-run h.starts h.every e
 of-run (past_sign m c v h s a t) e = as-signed m c v h s a e
 
-pub spells : {x : Token} {w r : List ℕ} {j : Scanned} → LongestLexeme w r j → j ≡ Good x → is_no_symbol x ≡ true → Spells x w
+pub spells : {x : Token} {w r : List ℕ} {j : (Result Token ℕ)} → LongestLexeme w r j → j ≡ Ok x → is_no_symbol x ≡ true → Spells x w
 spells (word h) e n = as-word h.starts h.every e
 spells (numeral h) e n = of-run h e
 spells {x} (symbol m q h) e n = let s : x ≡ Symbol m = cc in no (ap is_no_symbol (sym s) ∙ n)
@@ -72,15 +71,15 @@ word-stops : {r : List ℕ} → Stops continues r → Stops is_word r
 word-stops nothing = nothing
 word-stops (other {c = c} e) = other (split-or (is_word c) (eqb c (byte ".")) (split-or (is_run c) (is_sign c) e).0).0
 
-judged-as : {w r : List ℕ} {j k : Scanned} → j ≡ k → LongestLexeme w r j → LongestLexeme w r k
+judged-as : {w r : List ℕ} {j k : (Result Token ℕ)} → j ≡ k → LongestLexeme w r j → LongestLexeme w r k
 judged-as {w} {r} e h = subst (LongestLexeme w r) e h
 
-pub spelled-before : {x : Token} {w : List ℕ} (r : List ℕ) → Spells x w → Stops continues r → LongestLexeme w r (Good x)
+pub spelled-before : {x : Token} {w : List ℕ} (r : List ℕ) → Spells x w → Stops continues r → LongestLexeme w r (Ok x)
 spelled-before r (as-word s a e) t = judged-as e (word (record { starts = s; every = a; stops = word-stops t }))
 spelled-before r (as-run s a e) t = judged-as e (numeral (plain (record { starts = s; every = a; stops = run-stops t }) (λ m h q. sign-stops t)))
 spelled-before r (as-signed m c v h s a e) t = judged-as e (numeral (past_sign m c v h s a (run-stops t)))
 
-pub spelling : {x : Token} {w : List ℕ} → Spells x w → Spelling w (Good x)
+pub spelling : {x : Token} {w : List ℕ} → Spells x w → Spelling w (Ok x)
 spelling (as-word {w = w} s a e) = subst (Spelling w) e (word-spelling w)
 spelling (as-run {w = w} s a e) = subst (Spelling w) e (numeral-spelling w)
 spelling (as-signed m c v h s a e) = subst (Spelling (m ++ (byte "E" ∷ c ∷ v))) e (numeral-spelling (m ++ (byte "E" ∷ c ∷ v)))
@@ -102,7 +101,7 @@ numeral-lexeme w r p h =
     ∙ ap (λ (n : ℕ). Scan.lexeme p n (numeral_of (take n (w ++ r)))) (run_len_lem h)
     ∙ ap (λ (v : List ℕ). Scan.lexeme p (length w) (numeral_of v)) (take-append_seam w r)
 
-lexeme-of : {w r : List ℕ} {j : Scanned} {x : Token} → LongestLexeme w r j → j ≡ Good x → is_no_symbol x ≡ true → (p : ℕ)
+lexeme-of : {w r : List ℕ} {j : (Result Token ℕ)} {x : Token} → LongestLexeme w r j → j ≡ Ok x → is_no_symbol x ≡ true → (p : ℕ)
     → lexeme_of (w ++ r) p ≡ Found x p (p + length w)
 lexeme-of {w} {r} (word h) e n p = word-lexeme w r p h ∙ ap (Scan.lexeme p (length w)) e
 lexeme-of {w} {r} (numeral h) e n p = numeral-lexeme w r p h ∙ ap (Scan.lexeme p (length w)) e
@@ -118,13 +117,13 @@ front-digit : (w r : List ℕ) → Starts is_digit w → run_len is_space (w ++ 
 front-digit [] r x' = elim x' [ ]
 front-digit (c ∷ cs) r (first d) = rw (no-space c (omega (arith, digit-range c d)))
 
-front : {w r : List ℕ} {j : Scanned} {x : Token} → LongestLexeme w r j → j ≡ Good x → is_no_symbol x ≡ true → run_len is_space (w ++ r) ≡ 0
+front : {w r : List ℕ} {j : (Result Token ℕ)} {x : Token} → LongestLexeme w r j → j ≡ Ok x → is_no_symbol x ≡ true → run_len is_space (w ++ r) ≡ 0
 front {w} {r} (word h) e n = front-letter w r h.starts
 front {w} {r} (numeral h) e n = front-digit w r (run-starts h)
 front {x = x} (symbol m q h) e n = let s : x ≡ Symbol m = cc in no (ap is_no_symbol (sym s) ∙ n)
 front (stray c q s l d k) e n = let z : ◌≡◌ {A = ℕ} 0 1 = cc in absurd (omega arith)
 
-pub lexeme-is : (s : List ℕ) (p : ℕ) (w r : List ℕ) {x : Token} → LongestLexeme w r (Good x) → is_no_symbol x ≡ true → drop p s ≡ w ++ r → lexeme s p ≡ w
+pub lexeme-is : (s : List ℕ) (p : ℕ) (w r : List ℕ) {x : Token} → LongestLexeme w r (Ok x) → is_no_symbol x ≡ true → drop p s ≡ w ++ r → lexeme s p ≡ w
 unfolding lexeme
 lexeme-is s p w r {x} h n q =
     let b : blanks s p ≡ 0 = ap (run_len is_space) q ∙ front h refl n in

@@ -23,26 +23,23 @@ pub fn put_all(out: &mut [u8], n: usize, bytes: &[u8]) -> usize
     ensures by_index { (o : List ℕ) → Holds o out.old n → Holds (o ++ bytes.now) out.new result }
 {
     let mut end = n;
-    let mut k: usize = 0;
-    while k < bytes.len() {
-        end = put(out, end, bytes[k]);
-        k += 1;
+    for b in bytes {
+        end = put(out, end, *b);
     }
     end
 }
 
-// Everything from `start` up to n one place further, behind an opening parenthesis.
+// Everything from `start` up to n one place further, behind an opening parenthesis. Not by `copy_within`, which calls memmove: the archives for C want
+// memset and memcpy alone.
 fn shift(out: &mut [u8], start: usize, n: usize)
     requires { n < length out.old }
     ensures { (o x : List ℕ) → take n out.old ≡ o ++ x → start ≡ length o → take (n + 1) out.new ≡ o ++ (byte "(" ∷ x) }
 {
     let mut carried = b'(';
-    let mut i = start;
-    while i < n {
+    for i in start..n {
         let b = out[i];
         out[i] = carried;
         carried = b;
-        i += 1;
     }
     out[n] = carried;
 }

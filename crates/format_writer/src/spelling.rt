@@ -1,14 +1,13 @@
 // Where the token that stands at a place ends.
 ghost use Rattle.std.specs.Prelude.{◌≡◌, ◌+◌, ◌≤◌, ◌<◌, length, drop};
 ghost use Rattle.memory.specs.Names.{is_digit};
-ghost use Rattle.tokens.specs.Bytes.{is_run, run_len};
+ghost use Rattle.tokens.specs.Bytes.{is_word, is_run, run_len};
 ghost use Rattle.tokens.specs.Numerals.{is_sign, behind_part, opens_exponent, tail_len, numeral_len};
 ghost use Rattle.tokens.specs.Symbols.{symbol_count, symbol_bytes};
 ghost use Rattle.format_writer.specs.private.Spelling.{StandsAt};
 
 use memory::names;
 use tokens::bytes;
-use tokens::bytes::ByteClass;
 
 // The end of a dot and digits; the position itself where there are none.
 fn part_end(text: &[u8], at: usize) -> usize
@@ -42,15 +41,31 @@ fn opens_exponent(text: &[u8], at: usize) -> bool
     is_sign(bytes::byte_at(text, at + 1))
 }
 
+// The end of the longest run of letters, digits and dots.
+fn run_end(text: &[u8], at: usize) -> usize
+    requires { at ≤ length text.now }
+    ensures { (result ≡ at + run_len is_run (drop at text.now)) × (result ≤ length text.now) }
+{
+    bytes::run_end(text, at, bytes::is_run)
+}
+
+// The end of the longest run of letters and digits.
+fn word_end(text: &[u8], at: usize) -> usize
+    requires { at ≤ length text.now }
+    ensures { (result ≡ at + run_len is_word (drop at text.now)) × (result ≤ length text.now) }
+{
+    bytes::run_end(text, at, bytes::is_word)
+}
+
 // The end of what follows a mantissa: a run goes on past the sign of an exponent.
 fn tail_end(text: &[u8], at: usize) -> usize
     requires { at ≤ length text.now }
     ensures { (result ≡ at + tail_len (drop at text.now)) × (result ≤ length text.now) }
 {
     if opens_exponent(text, at) {
-        return bytes::run_end(text, at + 2, ByteClass::Numeral);
+        return run_end(text, at + 2);
     }
-    bytes::run_end(text, at, ByteClass::Numeral)
+    run_end(text, at)
 }
 
 fn numeral_end(text: &[u8], at: usize) -> usize
@@ -71,8 +86,7 @@ fn symbol_length(n: u8) -> u8
     requires { n < symbol_count }
     ensures { result ≡ length (symbol_bytes n) }
 {
-    let i = n as usize;
-    SIZES[i]
+    SIZES[n as usize]
 }
 
 // Of the token at a place, which is the symbol n if it is one.
@@ -85,7 +99,7 @@ pub fn token_end(text: &[u8], at: usize, n: u8) -> usize
         return numeral_end(text, at);
     }
     if bytes::is_letter(b) {
-        return bytes::run_end(text, at, ByteClass::Word);
+        return word_end(text, at);
     }
     at + (symbol_length(n) as usize)
 }

@@ -1,27 +1,24 @@
 -- Binary operators: what was written so far, climbed on from here, is what the whole expression says.
 use mathlib.Core.Path.{◌≡◌, refl, sym, ap, subst, ◌∙◌}
-use mathlib.Core.Bool.{Bool, true, false, cond}
-use mathlib.Core.List.{List, [], ◌∷◌, ◌++◌, append_assoc}
-use Prim.Native.Nat.{ℕ, zero, suc, ◌+◌, ◌-◌, ◌≤◌, ◌<◌}
+use mathlib.Core.Bool.{Bool, false}
+use mathlib.Core.List.{List, [], ◌∷◌}
+use Prim.Native.Nat.{ℕ, zero, suc, ◌-◌, ◌≤◌, ◌<◌}
 use native.Mathlib.Omega.{arith}
 use lib.Dec.{ltb, eqb}
 use lib.ListN.{get_or}
 use borrow.Author.Tests.{le-leb, eqb-true, eqb-false, ltb-true, ltb-false}
 use Rattle.operators.specs.declared.BinaryOp.TheVariants.{Power}
 use Rattle.operators.specs.Tables.{binary_ops}
-use Rattle.words.specs.Ascii.{ascii}
-use Rattle.tokens.specs.declared.Token.{Token}
-use Rattle.tokens.specs.declared.Token.TheVariants.{Number, Cell, Letter, Name, Symbol}
-use Rattle.tokens.specs.Symbols.{symbol_bytes}
+use Rattle.tokens.specs.declared.Token.TheVariants.{Symbol}
 use Rattle.tokens.specs.Scan.{Tok}
 use Rattle.grammar.specs.Tree.{Tree, binary, logic}
 use Rattle.grammar.specs.Grammar.{tok}
-use Rattle.grammar.specs.Symbols.{group, groups, group_number, infix_tree}
-use Rattle.grammar.specs.Parse.{Result, ok, starved, and_then, symbol_number, binds, expression, operand, climb}
+use Rattle.grammar.specs.Symbols.{group_number, infix_tree}
+use Rattle.grammar.specs.Parse.{ok, and_then, binds, expression, operand, climb}
 use Rattle.format_laws.specs.Formatted.{lexeme, Notation, symbol, binary_notation, logic_symbol, notation_group, infix_text, binary_text, top, formatted}
-use Rattle.formatter.specs.private.Walk.{Says, says, SaysExpression, SaysOperand}
+use Rattle.formatter.specs.private.Walk.{says, SaysExpression, SaysOperand}
 use Rattle.tokens.proofs.Tests.{by-test}
-use Rattle.formatter.proofs.Inversion.{Through, through, ok-tree}
+use Rattle.formatter.proofs.Inversion.{through, ok-tree}
 
 -- ---- the text of a binary operator
 pub record Infixed (s : List ℕ) (n p : ℕ) (t u : Tree) : Type 0 where

@@ -1,13 +1,11 @@
 -- The loop over binary operators: what was written so far, climbed on from here, is what the whole expression says.
 use mathlib.Core.Path.{◌≡◌, refl, sym, ap, subst, ◌∙◌}
-use mathlib.Core.Bool.{Bool, true, false, ◌&&◌, and-false}
+use mathlib.Core.Bool.{false, and-false}
 use mathlib.Core.List.{List, [], ◌∷◌, ◌++◌, append_assoc}
 use Prim.Native.Nat.{ℕ, ◌+◌, ◌-◌, ◌≤◌, ◌<◌}
 use native.Mathlib.Omega.{arith}
-use lib.Dec.{eqb, leb}
 use lib.ListN.{length}
 use borrow.Author.Tests.{lt-leb}
-use Rattle.tokens.proofs.Tests.{no}
 use Rattle.words.specs.Ascii.{ascii}
 use Rattle.tokens.specs.declared.Token.{Token}
 use Rattle.tokens.specs.declared.Token.TheVariants.{Number, Cell, Letter, Name, Symbol}
@@ -17,14 +15,13 @@ use Rattle.token_table.specs.private.Table.{word_operand, word_place, word_at, t
 use Rattle.grammar.specs.Tree.{Tree}
 use Rattle.grammar.specs.Grammar.{tok}
 use Rattle.grammar.specs.Symbols.{group as token_group, group_number, infix_tree}
-use Rattle.grammar.specs.Parse.{binds}
 use Rattle.draft.specs.private.Words.{group_in}
 use Rattle.draft.proofs.Marks.{few-groups}
 use Rattle.format_laws.specs.Formatted.{lexeme, parenthesized, is_infix, is_other_infix, infix_text, top, formatted}
-use Rattle.format_writer.specs.private.Scratch.{Holds, Counted, StartsBehind}
+use Rattle.format_writer.specs.private.Scratch.{Counted}
 use Rattle.format_writer.specs.private.Spelling.{StandsAt}
 use Rattle.format_writer.proofs.Holding.{starts-behind}
-use Rattle.formatter.specs.private.Walk.{Position, Typed, says, SaysExpression, SaysOperand, Some, Writes, Formats}
+use Rattle.formatter.specs.private.Walk.{Position, SaysExpression, SaysOperand, Some, Formats}
 use Rattle.formatter.proofs.Words.{group-head, head_group}
 use Rattle.formatter.proofs.Spelt.{symbol-spelt}
 use Rattle.formatter.proofs.Climbing.{infixed, Climbs, Started, started, head_binds, stopped, Operated, operated}

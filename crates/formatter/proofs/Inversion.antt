@@ -1,6 +1,6 @@
 -- What a parser's success says of its steps.
 use mathlib.Core.Path.{◌≡◌, refl, sym, ap, ◌∙◌}
-use mathlib.Core.Bool.{Bool, true, false}
+use mathlib.Core.Bool.{true, false}
 use mathlib.Core.List.{List, [], ◌∷◌}
 use Prim.Native.Nat.{ℕ, zero, suc}
 use native.Mathlib.Omega.{arith}
@@ -14,7 +14,7 @@ use Rattle.tokens.specs.Scan.{Tok}
 use Rattle.grammar.specs.Tree.{Tree}
 use Rattle.grammar.specs.Grammar.{tok}
 use Rattle.grammar.specs.Symbols.{is_symbol, comma, close_paren}
-use Rattle.grammar.specs.Parse.{Result, ok, bad, deep, starved, and_then, expect, expect_cell, expect_count, expect_range, enter}
+use Rattle.grammar.specs.Parse.{Result, ok, bad, deep, starved, and_then, expect, expect_count, expect_range, enter}
 use Rattle.tokens.proofs.Tests.{by-test}
 use Rattle.formatter.proofs.Words.{is-symbol}
 

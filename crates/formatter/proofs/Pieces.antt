@@ -2,7 +2,7 @@
 use mathlib.Core.Path.{◌≡◌, refl, sym, ap, subst, ◌∙◌}
 use mathlib.Core.Bool.{Bool, true, false, or-true, or-false}
 use mathlib.Core.List.{List, [], ◌∷◌, ◌++◌, append_assoc, append-nil}
-use Prim.Native.Nat.{ℕ, suc, ◌+◌, ◌-◌, ◌≤◌, ◌<◌}
+use Prim.Native.Nat.{ℕ, ◌+◌, ◌-◌, ◌≤◌, ◌<◌}
 use native.Mathlib.Omega.{arith}
 use lib.ListN.{length, take, drop}
 use borrow.Author.Tests.{eq-eqb, ne_eqb}
@@ -19,7 +19,7 @@ use Rattle.format_laws.specs.Formatted.{lexeme, parenthesized, is_infix, is_othe
 use Rattle.format_writer.specs.private.Scratch.{Holds, Counted, StartsBehind}
 use Rattle.format_writer.specs.private.Spelling.{StandsAt}
 use Rattle.format_writer.proofs.Holding.{starts-behind, nothing_yet}
-use Rattle.formatter.specs.private.Walk.{Typed, Position, Says, says, SaysExpression, SaysOperand, SaysPrimary, SaysList, Some, Writes, Formats}
+use Rattle.formatter.specs.private.Walk.{Typed, Position, says, SaysExpression, SaysOperand, SaysPrimary, SaysList, Some, Writes, Formats}
 use Rattle.formatter.specs.private.Walk.{none, more, WritesSigns}
 use Rattle.formatter.proofs.Spelt.{symbol-spelt, lexeme-is}
 use Rattle.formatter.proofs.Primaries.{PrimaryOf, leaf, headed, grouped, primary-of}

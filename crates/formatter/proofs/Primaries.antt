@@ -1,12 +1,11 @@
 -- What a primary says, by its first token: itself; a name or a bank letter with a list behind it; or what parentheses enclose.
 use mathlib.Core.Path.{◌≡◌, refl, sym, ap, subst, ◌∙◌}
-use mathlib.Core.List.{List, [], ◌∷◌, ◌++◌, append_assoc, append-nil}
+use mathlib.Core.List.{List, [], ◌∷◌, ◌++◌, append_assoc}
 use Prim.Native.Nat.{ℕ, zero, suc, ◌<◌}
 use native.Mathlib.Omega.{arith}
 use lib.Dec.{lit<}
 use lib.IntN.{ℤ}
 use Rattle.words.specs.Ascii.{ascii}
-use Rattle.values.specs.declared.Value.{Value}
 use Rattle.values.specs.declared.Value.TheVariants.{Int, Real}
 use Rattle.values.specs.declared.ChoiceOp.TheVariants as Choose
 use Rattle.operators.specs.declared.UnaryOp.{UnaryOp}
@@ -24,19 +23,19 @@ use Rattle.tokens.specs.Symbols.{symbol_bytes}
 use Rattle.tokens.specs.Words.{name_of}
 use Rattle.tokens.specs.Scan.{Tok}
 use Rattle.token_table.proofs.Laws.{token_class}
-use Rattle.lines.specs.Printing.{letter_byte, cell_name}
+use Rattle.lines.specs.Printing.{cell_name}
 use Rattle.grammar.specs.Tree.{Tree, literal, cell, indexed, tick, total, matching}
 use Rattle.grammar.specs.Grammar.{tok}
 use Rattle.grammar.specs.Symbols.{group_number, loosest, open_paren, close_paren, open_index, close_index, comma, Callee, of_one, of_two, of_choice}
-use Rattle.grammar.specs.Symbols.{of_since, form_of, more_arguments, Arguments, one, more, argument, call_tree}
-use Rattle.grammar.specs.Parse.{Result, ok, bad, deep, starved, and_then, expect, expect_range, enter, call_body, expression, operand, primary, bracket}
-use Rattle.grammar.specs.Parse.{arguments, climb}
+use Rattle.grammar.specs.Symbols.{of_since, form_of, more_arguments, Arguments, one, more, call_tree}
+use Rattle.grammar.specs.Parse.{ok, and_then, expect, expect_range, call_body, expression, primary, bracket}
+use Rattle.grammar.specs.Parse.{arguments}
 use Rattle.format_laws.specs.Formatted.{lexeme, function, unary_notation, binary_notation, separated, call_text, top, formatted}
 use Rattle.format_writer.specs.private.Spelling.{Stands}
-use Rattle.formatter.specs.private.Walk.{Typed, some, Says, says, SaysExpression, SaysPrimary, SaysItems, last, more as more_of, SaysList}
-use Rattle.formatter.specs.private.Walk.{empty, items, primary_of}
+use Rattle.formatter.specs.private.Walk.{Typed, some, says, SaysExpression, SaysPrimary, SaysItems, last, more as more_of, SaysList}
+use Rattle.formatter.specs.private.Walk.{empty, items}
 use Rattle.formatter.proofs.Inversion.{through, met, entered, ranged}
-use Rattle.formatter.proofs.Spelt.{symbol-spelt, name-spelt, cell-spelt, letter-spelt}
+use Rattle.formatter.proofs.Spelt.{name-spelt, cell-spelt, letter-spelt}
 
 pub data PrimaryOf (s : List ℕ) (x : Tok) (xs : List Tok) (y : List ℕ) (g : ℕ) (r : List Tok) : Type 0 where
   leaf : token_class x.token < 4 → y ≡ lexeme s x.place → g ≡ 0 → xs ≡ r → PrimaryOf s x xs y g r

@@ -1,11 +1,10 @@
 -- A token at a position of the table: what is typed there, and what comes behind it.
 use mathlib.Core.Path.{◌≡◌, refl, sym, ap, subst, ◌∙◌}
 use mathlib.Core.Bool.{Bool, true, false, cond}
-use mathlib.Core.List.{List, [], ◌∷◌, ◌++◌, append_assoc, append-nil}
-use Prim.Native.Nat.{ℕ, zero, suc, ◌+◌, ◌-◌, ◌≤◌, ◌<◌}
+use mathlib.Core.List.{List, [], ◌∷◌, ◌++◌, append_assoc}
+use Prim.Native.Nat.{ℕ, zero, suc, ◌+◌, ◌≤◌, ◌<◌}
 use native.Mathlib.Omega.{arith}
 use lib.ListN.{length}
-use Rattle.words.specs.Ascii.{ascii}
 use Rattle.operators.specs.declared.UnaryOp.{UnaryOp}
 use Rattle.operators.specs.declared.UnaryOp.TheVariants as U
 use Rattle.tokens.specs.declared.Token.{Token}
@@ -17,13 +16,13 @@ use Rattle.token_table.proofs.Laws.{token_class, token_operand}
 use Rattle.grammar.specs.Tree.{unary}
 use Rattle.grammar.specs.Grammar.{tok}
 use Rattle.grammar.specs.Symbols.{minus, tilde, bang, prefix_symbol, prefix_of, is, none, is_symbol}
-use Rattle.grammar.specs.Parse.{Result, ok, bad, starved, and_then, operand, primary}
-use Rattle.draft.specs.private.Words.{is_mark, prefix_number}
-use Rattle.format_laws.specs.Formatted.{lexeme, symbol, unary_notation, unary_text, parenthesized, is_infix, prefix_text, top, formatted}
+use Rattle.grammar.specs.Parse.{ok, and_then, operand, primary}
+use Rattle.draft.specs.private.Words.{prefix_number}
+use Rattle.format_laws.specs.Formatted.{lexeme, symbol, unary_notation, parenthesized, is_infix, top, formatted}
 use Rattle.format_writer.specs.private.Spelling.{Stands, StandsAt}
-use Rattle.formatter.specs.private.Walk.{Typed, none as untyped, some, Position, Says, says, SaysOperand, SaysPrimary, primary_of, Some}
+use Rattle.formatter.specs.private.Walk.{Typed, some, Position, says, SaysOperand, SaysPrimary, Some}
 use Rattle.formatter.specs.private.Walk.{SignsText, none as no-signs, more}
-use Rattle.formatter.proofs.Words.{Word, word-of, behind, class-is, operand-is, place_is, mark-head, is-symbol}
+use Rattle.formatter.proofs.Words.{word-of, behind, class-is, operand-is, place_is, mark-head, is-symbol}
 use Rattle.formatter.proofs.Inversion.{through, ok-tree}
 use Rattle.formatter.proofs.Spelt.{stands_at, symbol-spelt}
 

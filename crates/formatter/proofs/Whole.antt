@@ -1,7 +1,8 @@
 -- An accepted text: its table of tokens, and the answer.
+use Rattle.std.specs.Prelude.{Ok, Err}
 use mathlib.Core.Path.{◌≡◌, refl, sym, ap, subst, ◌∙◌}
 use mathlib.Core.Bool.{Bool, true, false, ◌&&◌, cond}
-use mathlib.Core.List.{List, [], ◌∷◌, ◌++◌}
+use mathlib.Core.List.{List, [], ◌∷◌}
 use Prim.Native.Nat.{ℕ, ◌+◌, ◌-◌, ◌≤◌, ◌<◌}
 use native.Mathlib.Omega.{arith}
 use lib.Dec.{leb, ltb}
@@ -15,7 +16,6 @@ use Rattle.tokens.specs.Theorems.{Stops, nothing, other}
 use Rattle.tokens.proofs.Laws.{found, rest, at-found, at-wrong, at-end}
 use Rattle.tokens.proofs.Runs.{run-stops}
 use Rattle.tokens.proofs.Tests.{both}
-use Rattle.token_table.specs.declared.Filled.TheVariants as Filled
 use Rattle.token_table.specs.private.Table.{listed, tokens_from, Fills, TokenWords}
 use Rattle.token_table.proofs.Laws.{filled-good, filled-wrong}
 use Rattle.grammar.specs.Tree.{Tree, Diagnostic, clear, at, diagnostic_of}
@@ -24,17 +24,15 @@ use Rattle.grammar.specs.Symbols.{loosest}
 use Rattle.grammar.specs.Parse.{Result, ok, bad, deep, starved, most_open, fuel, expression, parse_from}
 use Rattle.text.specs.Judge.{Judgement, accepted, refused, judge_tree, judge_parse, judge_scan, judge_from, judge}
 use Rattle.profile_text.proofs.Judging.{same-tokens}
-use Rattle.compiler.specs.declared.Coded.{Coded}
-use Rattle.compiler.specs.declared.Coded.TheVariants as Coded
 use Rattle.compiler.specs.Compile.{coded_answer}
 use Rattle.delivery.specs.declared.Answer.{Answer}
-use Rattle.delivery.specs.declared.Answer.TheVariants as Answer
 use Rattle.operations.specs.Operations.{done_with}
 use Rattle.format_laws.specs.Formatted.{formatted, top, levels}
-use Rattle.format_laws.specs.Format.{text_limit, Formatting, of_text, formatting, answer_of, buffer_after, format_answer, format_buffer}
+use Rattle.format_laws.specs.Format.{text_limit, of_text, formatting, answer_of, buffer_after, format_answer, format_buffer}
 use Rattle.format_writer.specs.private.Scratch.{Holds, kept, lost}
 use Rattle.format_writer.specs.private.Spelling.{Stands}
 use Rattle.formatter.specs.private.Walk.{Typed, none, some, Position, says, SaysExpression, Some, Accepted}
+use Rattle.compiler.specs.Compile.{refusal}
 
 -- ---- what the judgement says
 tree_of : (u : Tree) (d : Diagnostic) {t : Tree} → judge_tree u d ≡ accepted t → u ≡ t
@@ -111,7 +109,7 @@ typed s i (x ∷ w) q = by (lexeme_at s i) refl (λ e. typed s e w)
     by End m ih = ended (at-end s i m)
 
 -- ---- a table that was filled
-module _ (s table : List ℕ) (f : Fills (scan s) table Filled.Good) where
+module _ (s table : List ℕ) (f : Fills (scan s) table (Ok tt)) where
   pub whole-position : TokenWords table → Position s table 0
   whole-position w = record { words = w; typed = typed s 0 (listed table) (filled-good f) }
 
@@ -125,7 +123,7 @@ module _ (s table : List ℕ) (f : Fills (scan s) table Filled.Good) where
   pub whole-some : Accepted s → Some (SaysExpression loosest s (tokens_from table 0))
   whole-some a = record { text = formatted s a.tree; group = top a.tree; left = []; is = whole_says a.is }
 
-pub no-wrong : (s table : List ℕ) {a p : ℕ} → Accepted s → Fills (scan s) table (Filled.Wrong a p) → ⊥
+pub no-wrong : (s table : List ℕ) {a p : ℕ} → Accepted s → Fills (scan s) table (Err (refusal a p)) → ⊥
 no-wrong s table k f = let h = (judged s k.is).1 in let q = sym h.is ∙ filled-wrong f in let z : ◌≡◌ {A = ℕ} 0 1 = cc in omega arith
 
 pub from_nothing : (buf : List ℕ) → Holds [] buf 0
@@ -166,19 +164,23 @@ pub part-short : (scratch : List ℕ) (n : ℕ) → length scratch ≡ text_limi
 part-short scratch n l h = let z = length-take-le n scratch (omega (arith, l)) in omega (arith, z)
 
 -- ---- the answer of the operation
-accepted-of : (j : Judgement) {n : ℕ} → Coded.Done n ≡ coded_answer j → (t : Tree) × (j ≡ accepted t)
+accepted-of : (j : Judgement) {n : ℕ} → Ok n ≡ coded_answer j → (t : Tree) × (j ≡ accepted t)
 accepted-of (accepted t) e = (t, refl)
 accepted-of (refused a p) e = let z : ◌≡◌ {A = ℕ} 0 1 = cc in absurd (omega arith)
 
-pub accepted-text : (s : List ℕ) {n : ℕ} → Coded.Done n ≡ coded_answer (judge s) → Accepted s
+pub accepted-text : (s : List ℕ) {n : ℕ} → Ok n ≡ coded_answer (judge s) → Accepted s
 accepted-text s e = let (t, q) = accepted-of (judge s) e in record { tree = t; is = q }
 
-refused-of : (j : Judgement) {a p : ℕ} → Coded.Refused a p ≡ coded_answer j → j ≡ refused a p
+refused-of : (j : Judgement) {a p : ℕ} → Err (refusal a p) ≡ coded_answer j → j ≡ refused a p
 refused-of (accepted t) e = let z : ◌≡◌ {A = ℕ} 0 1 = cc in absurd (omega arith)
-refused-of (refused b q) e = cc
+refused-of (refused b q) {a} {p} e =
+    let one : refusal a p ≡ refusal b q = cc in
+    let x : a ≡ b = ap (λ r. r.answer) one in
+    let y : p ≡ q = ap (λ r. r.place) one in
+    cc
 
 module _ (s out : List ℕ) where
-  pub refused-answer : {a p : ℕ} → Coded.Refused a p ≡ coded_answer (judge s) → (Answer.Refused a p ≡ format_answer s out) × (out ≡ format_buffer s out)
+  pub refused-answer : {a p : ℕ} → Err (refusal a p) ≡ coded_answer (judge s) → (Answer.Refused a p ≡ format_answer s out) × (out ≡ format_buffer s out)
   unfolding formatting
   refused-answer e = let q = refused-of (judge s) e in (rw q, rw q)
 

@@ -2,7 +2,7 @@
 use mathlib.Core.Path.{◌≡◌, refl, sym, ap, subst, ◌∙◌}
 use mathlib.Core.Bool.{Bool, true, false}
 use mathlib.Core.List.{List, [], ◌∷◌}
-use Prim.Native.Nat.{ℕ, zero, suc, ◌+◌, ◌*◌, ◌<◌}
+use Prim.Native.Nat.{ℕ, ◌+◌, ◌*◌, ◌<◌}
 use native.Mathlib.Omega.{arith}
 use lib.ListN.{length}
 use borrow.Author.Tests.{eqb-true, ne_eqb}
@@ -11,7 +11,7 @@ use native.Mathlib.Numerals.{add-one}
 use Rattle.tokens.specs.declared.Token.{Token}
 use Rattle.tokens.specs.declared.Token.TheVariants.{Number, Cell, Letter, Name, Symbol}
 use Rattle.tokens.specs.Scan.{Tok}
-use Rattle.token_table.specs.private.Table.{Entry, Is, End, pack_token, word_class, word_operand, word_place, entry_of, entry_at, word_at}
+use Rattle.token_table.specs.private.Table.{Is, End, pack_token, word_class, word_operand, word_place, entry_of, entry_at, word_at}
 use Rattle.token_table.specs.private.Table.{tokens_from, Sound, TokenWord, blank, token, TokenWords}
 use Rattle.token_table.proofs.Laws.{token_class, token_operand, class-packed, operand-packed, place-packed, unpacked, blank-end, from_is, from-head, from-none}
 use Rattle.grammar.specs.Symbols.{group, is_symbol}

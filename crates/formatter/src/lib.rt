@@ -1,8 +1,7 @@
 // A formula's text as it is saved: written out from its tree, with parentheses where operators are mixed.
 #![tactic(auto)]
 
-ghost use Rattle.std.specs.Prelude.{◌≡◌, ◌||◌, List, ℕ, ◌≤◌, ◌<◌, max, eqb, length};
-ghost use Rattle.words.specs.Ascii.{byte};
+ghost use Rattle.std.specs.Prelude.{◌≡◌, List, ℕ, ◌≤◌, ◌<◌, length};
 ghost use Rattle.token_table.specs.private.Table.{TokenWords};
 ghost use Rattle.grammar.specs.Tree.{Tree};
 ghost use Rattle.text.specs.Judge.{accepted, judge};
@@ -11,11 +10,9 @@ ghost use Rattle.format_laws.specs.Format.{text_limit, of_text, answer_of, buffe
 ghost use Rattle.format_writer.specs.private.Scratch.{Holds, Counted};
 ghost use Rattle.formatter.specs.private.Walk.{Accepted};
 
-use compiler::Coded;
 use lines::printing;
 use memory::Bank;
 use operations::Answer;
-use token_table::Filled;
 use values::Value;
 
 mod walk;
@@ -27,36 +24,16 @@ const LONGEST: usize = 1024;
 
 const MOST_OPEN: usize = 8;
 
-fn is_opener(b: u8) -> bool
-    ensures { result ≡ (eqb b (byte "(") || eqb b (byte "[")) }
-{
-    b == b'(' || b == b'['
-}
-
-fn is_closer(b: u8) -> bool
-    ensures { result ≡ (eqb b (byte ")") || eqb b (byte "]")) }
-{
-    b == b')' || b == b']'
-}
-
 // How many brackets are open behind a byte.
 fn open_behind(depth: usize, b: u8) -> usize
     requires { depth < 65536 }
     ensures { result ≡ open_behind depth b }
 {
-    if is_opener(b) {
-        return depth + 1;
+    match b {
+        b'(' | b'[' => depth + 1,
+        b')' | b']' => depth.saturating_sub(1),
+        _ => depth,
     }
-    if !is_closer(b) {
-        return depth;
-    }
-    if depth == 0 { 0 } else { depth - 1 }
-}
-
-fn larger(a: usize, b: usize) -> usize
-    ensures { result ≡ max a b }
-{
-    if a < b { b } else { a }
 }
 
 // The most brackets open at once.
@@ -66,13 +43,11 @@ fn levels(text: &[u8]) -> usize
 {
     let mut most: usize = 0;
     let mut depth: usize = 0;
-    let mut i: usize = 0;
-    while i < text.len() {
-        most = larger(most, depth);
-        depth = open_behind(depth, text[i]);
-        i += 1;
+    for b in text {
+        depth = open_behind(depth, *b);
+        most = most.max(depth);
     }
-    larger(most, depth)
+    most
 }
 
 // The text of an accepted formula, written with a table lent for its tokens: its length.
@@ -83,9 +58,20 @@ fn write(text: &[u8], table: &mut [u64], out: &mut [u8]) -> usize
     ensures holds { (t : Tree) → judge text.now ≡ accepted t → Holds (formatted text.now t) out.new result }
 {
     match token_table::fill(text, table) {
-        Filled::Good => walk::formula(text, table, out),
-        Filled::Wrong(_, _) => 0,
+        Ok(()) => walk::formula(text, table, out),
+        Err(_) => 0,
     }
+}
+
+// The same of a text below N bytes, with a table of so many words.
+fn write_within<const N: usize>(text: &[u8], out: &mut [u8]) -> usize
+    requires accepted { Accepted text.now }
+    requires text_len_bound { (length text.now < N) × (N ≤ 1025) }
+    ensures counted { Counted result out.old }
+    ensures holds { (t : Tree) → judge text.now ≡ accepted t → Holds (formatted text.now t) out.new result }
+{
+    let mut table = [0u64; N];
+    write(text, &mut table, out)
 }
 
 // Most formulas are short: a small table is quicker to clear.
@@ -95,11 +81,9 @@ fn written(text: &[u8], out: &mut [u8]) -> usize
     ensures holds { (t : Tree) → judge text.now ≡ accepted t → Holds (formatted text.now t) out.new result }
 {
     if text.len() < 64 {
-        let mut table = [0u64; 64];
-        return write(text, &mut table, out);
+        return write_within::<64>(text, out);
     }
-    let mut table = [0u64; 1025];
-    write(text, &mut table, out)
+    write_within::<1025>(text, out)
 }
 
 // The answer for a text whose first n bytes are in the scratch.
@@ -124,8 +108,8 @@ pub fn format(text: &[u8], out: &mut [u8]) -> Answer
     ensures out_after { out.new ≡ format_buffer text.now out.old }
 {
     match compiler::judge(text) {
-        Coded::Refused(a, p) => Answer::Refused(a, p),
-        Coded::Done(_) => {
+        Err(refusal) => Answer::Refused(refusal.answer, refusal.place),
+        Ok(_) => {
             if out.len() < LEAST_OUT {
                 return Answer::Refused(10, 0);
             }

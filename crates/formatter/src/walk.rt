@@ -43,10 +43,8 @@ fn signs(text: &[u8], table: &[u64], out: &mut [u8], at: usize, first: usize, n:
     ensures { WritesSigns text.now table.now at first out.old out.new n result }
 {
     let mut end = n;
-    let mut i = at;
-    while i < first {
+    for i in at..first {
         end = token(text, out, end, token_table::word_at(table, i));
-        i += 1;
     }
     end
 }

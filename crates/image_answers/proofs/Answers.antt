@@ -9,7 +9,6 @@ use borrow.Author.Tests.{eq-eqb}
 use Rattle.values.specs.declared.Value.{Value}
 use Rattle.values.specs.declared.Fault.TheVariants.{OutOfRange}
 use Rattle.memory.specs.declared.Bank.{Bank}
-use Rattle.memory.specs.declared.store.Stored.{Stored}
 use Rattle.memory.specs.Layout.{image_size, packed}
 use Rattle.memory.specs.Store.{is_finite, with_flag_in}
 use Rattle.memory.specs.Environment.{Environment, memory_in}

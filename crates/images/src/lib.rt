@@ -20,7 +20,7 @@ const BITS: usize = 16;
 fn truth(byte: u8) -> u8
     ensures { result ≡ truth_of byte }
 {
-    if byte == 0 { 0 } else { 1 }
+    u8::from(byte != 0)
 }
 
 // The byte of eight bits, the first lowest.
@@ -29,9 +29,7 @@ fn byte_of(old: &[u8], at: usize) -> u8
     ensures { result ≡ byte_of old.now at 8 }
 {
     let mut byte: u8 = 0;
-    let mut k: usize = 8;
-    while k > 0 {
-        k -= 1;
+    for k in (0..8).rev() {
         byte = byte * 2 + truth(old[at + k]);
     }
     byte
@@ -41,10 +39,8 @@ fn pack_bits(old: &[u8], image: &mut [u8])
     requires { (length old.now ≡ old_size) × (length image.old ≡ image_size) }
     ensures { image.new ≡ row (λ k. byte_of old.now (8 * k) 8) 0 16 ++ drop 16 image.old }
 {
-    let mut k: usize = 0;
-    while k < BITS {
+    for k in 0..BITS {
         image[k] = byte_of(old, 8 * k);
-        k += 1;
     }
 }
 
@@ -52,27 +48,23 @@ fn unpack_bits(image: &[u8], old: &mut [u8])
     requires { (length image.now ≡ image_size) × (length old.old ≡ old_size) }
     ensures { old.new ≡ row (λ i. bit (get_or image.now (i / 8) 0) (i % 8)) 0 128 ++ drop 128 old.old }
 {
-    let mut i: usize = 0;
-    while i < OLD_BITS {
+    for i in 0..OLD_BITS {
         old[i] = words::bit(image[i / 8], i % 8);
-        i += 1;
     }
 }
 
-// What stands in one image from a place on, into the other from its own place on: as many bytes.
+// What stands in one image from a place on, into the other from its own place on: as many bytes. Not by `copy_from_slice`, which calls memmove: the
+// archives for C want memset and memcpy alone.
 fn copy_rest(from: &[u8], at: usize, to: &mut [u8], place: usize)
     requires { (at ≤ length from.now) × (length from.now + place ≡ length to.old + at) }
     ensures { to.new ≡ take place to.old ++ drop at from.now }
 {
-    let n = from.len() - at;
-    let mut k: usize = 0;
-    while k < n {
+    for k in 0..from.len() - at {
         to[place + k] = from[at + k];
-        k += 1;
     }
 }
 
-// Either conversion answers 0, or 1 where one of the two has the wrong size, and then nothing is written.
+// Either conversion answers 0, or 1 where one of the two has the wrong size, and then nothing is written: the numbers of the C interface.
 pub fn pack(old: &[u8], image: &mut [u8]) -> u32
     ensures { (result ≡ conversion_answer old.now image.old)
         × (image.new ≡ packed_into old.now image.old) }

@@ -1,4 +1,5 @@
 -- What is printed of a cell is what is read, bank by bank. Assumes nothing.
+use Rattle.std.specs.Prelude.{Some}
 use mathlib.Core.Path.{◌≡◌, refl, sym, ap, subst, ◌∙◌}
 use mathlib.Core.Bool.{Bool, true, false, ◌&&◌, not, cond}
 use mathlib.Core.List.{List, [], ◌∷◌}
@@ -13,7 +14,6 @@ use Rattle.memory.specs.declared.Bank.TheVariants.{X, C, «V», N, D, R}
 use Rattle.memory.specs.Names.{is_digit, all_digits, no_leading_zero, decimal_value, number_below}
 use Rattle.memory.specs.Cells.{bit_of}
 use Rattle.memory.proofs.names.Decimals.{digit-range}
-use Rattle.lines.specs.declared.forms.Form.TheVariants.{Pattern}
 use Rattle.lines.specs.Forms.{natural_form, negative_form, signed_form, cell_pattern}
 use Rattle.lines.specs.Printing.{decimal_text, signed_text, cell_text}
 use Rattle.lines.specs.private.Steps.{half_text}
@@ -25,7 +25,7 @@ use Rattle.lines.proofs.forms.Hexadecimals as Hexadecimals
 use Rattle.lines.proofs.printing.Signs.{half-text}
 
 -- ---- a number without a sign
-natural-back : (m n : ℕ) → n < m → natural_form m (decimal_text n) ≡ Pattern n
+natural-back : (m n : ℕ) → n < m → natural_form m (decimal_text n) ≡ Some n
 natural-back m n h =
     let t = text n in rw (t.plainly, t.digits, t.value, lt-ltb n m h)
 
@@ -44,7 +44,7 @@ number_read m cs n t e =
 pub number-text : (m : ℕ) (cs : List ℕ) → number_below m cs ≡ true → cs ≡ decimal_text (decimal_value cs)
 number-text m cs t = (number_read m cs (decimal_value cs) t refl).same_text
 
-natural-only : (m : ℕ) (cs : List ℕ) (n : ℕ) → natural_form m cs ≡ Pattern n → Read m cs n
+natural-only : (m : ℕ) (cs : List ℕ) (n : ℕ) → natural_form m cs ≡ Some n → Read m cs n
 natural-only m cs n e =
     let h = picked (number_below m cs) (decimal_value cs) n (sym e) in number_read m cs n h.0 h.1
 
@@ -54,10 +54,10 @@ bit-text zero h = refl
 bit-text (suc zero) h = refl
 bit-text (suc (suc n)) h = absurd (omega arith)
 
-bit-back : (n : ℕ) → n < 2 → natural_form 2 (signed_text (bit_of n)) ≡ Pattern n
+bit-back : (n : ℕ) → n < 2 → natural_form 2 (signed_text (bit_of n)) ≡ Some n
 bit-back n h = rw (← bit-text n h) (natural-back 2 n h)
 
-bit-only : (cs : List ℕ) (n : ℕ) → natural_form 2 cs ≡ Pattern n → cs ≡ signed_text (bit_of n)
+bit-only : (cs : List ℕ) (n : ℕ) → natural_form 2 cs ≡ Some n → cs ≡ signed_text (bit_of n)
 bit-only cs n e =
     let r = natural-only 2 cs n e in r.same_text ∙ bit-text n r.below
 
@@ -69,10 +69,10 @@ no_sign half (c ∷ cs) p d =
     rw (ne_eqb c 45 (λ e. omega (arith, r)))
 
 module _ (half n : ℕ) (h : n < 2 * half) where
-  signed_back : signed_form half (half_text half n) ≡ Pattern n
+  signed_back : signed_form half (half_text half n) ≡ Some n
   signed_back = by (ltb n half) refl
     where
-      by : (t : Bool) → ltb n half ≡ t → signed_form half (cond t (decimal_text n) (45 ∷ decimal_text (2 * half - n))) ≡ Pattern n
+      by : (t : Bool) → ltb n half ≡ t → signed_form half (cond t (decimal_text n) (45 ∷ decimal_text (2 * half - n))) ≡ Some n
       by true e =
           let t = text n in
           no_sign half (decimal_text n) t.plainly t.digits ∙ natural-back half n (ltb-true n half e)
@@ -87,13 +87,13 @@ record Signed (half : ℕ) (cs : List ℕ) (n : ℕ) : Type 0 where
   same_text : cs ≡ half_text half n
 
 module _ (half : ℕ) where
-  positive : (cs : List ℕ) (n : ℕ) → natural_form half cs ≡ Pattern n → Signed half cs n
+  positive : (cs : List ℕ) (n : ℕ) → natural_form half cs ≡ Some n → Signed half cs n
   positive cs n e =
       let r = natural-only half cs n e in
       let b = r.below in
       record { below = omega arith; same_text = r.same_text ∙ rw (lt-ltb n half b) }
 
-  minus : (cs : List ℕ) (n : ℕ) → negative_form half cs ≡ Pattern n → Signed half (45 ∷ cs) n
+  minus : (cs : List ℕ) (n : ℕ) → negative_form half cs ≡ Some n → Signed half (45 ∷ cs) n
   minus cs n e =
       let h = picked (number_below (suc half) cs && not (eqb (decimal_value cs) 0)) (2 * half - decimal_value cs) n (sym e) in
       let g = both (number_below (suc half) cs) (not (eqb (decimal_value cs) 0)) h.0 in
@@ -106,24 +106,24 @@ module _ (half : ℕ) where
         same_text = ap (λ (l : List ℕ). 45 ∷ l) r.same_text ∙ rw (le-ltb n half (omega (arith, h.1)), back);
       }
 
-  signed-only : (cs : List ℕ) (n : ℕ) → signed_form half cs ≡ Pattern n → Signed half cs n
+  signed-only : (cs : List ℕ) (n : ℕ) → signed_form half cs ≡ Some n → Signed half cs n
   signed-only [] n e = absurd (let z : ◌≡◌ {A = ℕ} 0 1 = cc in omega arith)
   signed-only (c ∷ cs) n e = by (eqb c 45) refl e
     where
-      by : (t : Bool) → eqb c 45 ≡ t → cond t (negative_form half cs) (natural_form half (c ∷ cs)) ≡ Pattern n → Signed half (c ∷ cs) n
+      by : (t : Bool) → eqb c 45 ≡ t → cond t (negative_form half cs) (natural_form half (c ∷ cs)) ≡ Some n → Signed half (c ∷ cs) n
       by true f g = subst (λ (x : ℕ). Signed half (x ∷ cs) n) (sym (eqb-true c 45 f)) (minus cs n g)
       by false f g = positive (c ∷ cs) n g
 
 -- ---- at a width of k bits
 module _ (k : ℕ) (p : 0 < k) where
-  wide_back : (n : ℕ) → n < 2 ^ k → n < 2 * 2 ^ (k - 1) → signed_form (2 ^ (k - 1)) (signed_text (signed_of k n)) ≡ Pattern n
+  wide_back : (n : ℕ) → n < 2 ^ k → n < 2 * 2 ^ (k - 1) → signed_form (2 ^ (k - 1)) (signed_text (signed_of k n)) ≡ Some n
   wide_back n h g = rw (← half-text k n p h) (signed_back (2 ^ (k - 1)) n g)
 
-  wide-only : 2 * 2 ^ (k - 1) ≡ 2 ^ k → (cs : List ℕ) (n : ℕ) → signed_form (2 ^ (k - 1)) cs ≡ Pattern n → cs ≡ signed_text (signed_of k n)
+  wide-only : 2 * 2 ^ (k - 1) ≡ 2 ^ k → (cs : List ℕ) (n : ℕ) → signed_form (2 ^ (k - 1)) cs ≡ Some n → cs ≡ signed_text (signed_of k n)
   wide-only d cs n e =
       let r = signed-only (2 ^ (k - 1)) cs n e in r.same_text ∙ half-text k n p (rw d at r.below)
 
-back : (b : Bank) (n : ℕ) → n < patterns b → cell_pattern b (cell_text b n) ≡ Pattern n
+back : (b : Bank) (n : ℕ) → n < patterns b → cell_pattern b (cell_text b n) ≡ Some n
 back X n h = bit-back n h
 back C n h = bit-back n h
 back «V» n h = natural-back 65536 n h
@@ -131,7 +131,7 @@ back N n h = wide_back 16 (lit< tt) n h h
 back D n h = wide_back 32 (lit< tt) n h h
 back R n h = pattern-back n h
 
-only : (b : Bank) (cs : List ℕ) (n : ℕ) → (b ≡ R → ⊥) → cell_pattern b cs ≡ Pattern n → cs ≡ cell_text b n
+only : (b : Bank) (cs : List ℕ) (n : ℕ) → (b ≡ R → ⊥) → cell_pattern b cs ≡ Some n → cs ≡ cell_text b n
 only X cs n r e = bit-only cs n e
 only C cs n r e = bit-only cs n e
 only «V» cs n r e = (natural-only 65536 cs n e).same_text
@@ -139,7 +139,7 @@ only N cs n r e = wide-only 16 (lit< tt) refl cs n e
 only D cs n r e = wide-only 32 (lit< tt) refl cs n e
 only R cs n r e = absurd (r refl)
 
-below : (b : Bank) (cs : List ℕ) (n : ℕ) → cell_pattern b cs ≡ Pattern n → n < patterns b
+below : (b : Bank) (cs : List ℕ) (n : ℕ) → cell_pattern b cs ≡ Some n → n < patterns b
 below X cs n e = (natural-only 2 cs n e).below
 below C cs n e = (natural-only 2 cs n e).below
 below «V» cs n e = (natural-only 65536 cs n e).below

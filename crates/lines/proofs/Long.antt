@@ -1,4 +1,5 @@
 -- A text that is too long to be a number, a cell's name or a cell's value. Assumes nothing.
+use Rattle.std.specs.Prelude.{Option, Some, None}
 use mathlib.Core.Path.{◌≡◌, refl, sym, ap, ◌∙◌}
 use mathlib.Core.Bool.{Bool, true, false, ◌&&◌, cond}
 use mathlib.Core.List.{List, [], ◌∷◌}
@@ -10,14 +11,10 @@ use borrow.Author.Tests.{ltb-true, ltb-false, ne_eqb}
 use Rattle.words.proofs.Tests.{both}
 use Rattle.memory.specs.declared.Bank.{Bank}
 use Rattle.memory.specs.declared.Bank.TheVariants.{X, C, «V», N, D, R}
-use Rattle.memory.specs.declared.names.Letter.{Letter}
-use Rattle.memory.specs.declared.names.Letter.TheVariants as L
-use Rattle.memory.specs.declared.names.Named.TheVariants.{Cell, Other}
 use Rattle.memory.specs.Layout.{layout_of}
 use Rattle.memory.specs.Names.{letter_bank, no_leading_zero, all_digits, decimal_value, number_below, cell_after_letter, named_rule, target_rule}
 use Rattle.tokens.specs.Bytes.{all, is_hex}
 use Rattle.tokens.specs.Numerals.{hex_from, is_hex_run}
-use Rattle.lines.specs.declared.forms.Form.TheVariants as Form
 use Rattle.lines.specs.Forms.{natural_form, signed_form, hex_form, cell_pattern}
 use Rattle.lines.specs.Printing.{width_of}
 use Rattle.lines.proofs.Decimals.{text_of}
@@ -49,45 +46,45 @@ few N = omega arith
 few D = omega arith
 few R = omega arith
 
-no_element : (cs : List ℕ) (l : Letter) → 3 < length cs → cell_after_letter cs l ≡ Other
-no_element cs (L.Of b) h = rw (no_number 2 (layout_of b).elements cs (few b) h)
-no_element cs L.Other h = refl
+no_element : (cs : List ℕ) (l : Option Bank) → 3 < length cs → cell_after_letter cs l ≡ None
+no_element cs (Some b) h = rw (no_number 2 (layout_of b).elements cs (few b) h)
+no_element cs None h = refl
 
-pub no_name : (w : List ℕ) → 4 < length w → named_rule w ≡ Other
+pub no_name : (w : List ℕ) → 4 < length w → named_rule w ≡ None
 unfolding named_rule
 no_name [] h = absurd (omega arith)
 no_name (c ∷ cs) h = no_element cs (letter_bank c) (omega arith)
 
-pub short-name : (w : List ℕ) {b : Bank} {i : ℕ} → named_rule w ≡ Cell b i → length w ≤ 4
+pub short-name : (w : List ℕ) {b : Bank} {i : ℕ} → named_rule w ≡ Some (b, i) → length w ≤ 4
 short-name w {b} {i} e = by (ltb 4 (length w)) refl
   where
     by : (t : Bool) → ltb 4 (length w) ≡ t → length w ≤ 4
-    by true f = absurd (let o : named_rule w ≡ Other = no_name w (ltb-true 4 (length w) f) in let z : ◌≡◌ {A = ℕ} 0 1 = cc in omega arith)
+    by true f = absurd (let o : named_rule w ≡ None = no_name w (ltb-true 4 (length w) f) in let z : ◌≡◌ {A = ℕ} 0 1 = cc in omega arith)
     by false f = ltb-false 4 (length w) f
 
-pub no_target_lem : (w : List ℕ) → 4 < length w → target_rule w ≡ Other
+pub no_target_lem : (w : List ℕ) → 4 < length w → target_rule w ≡ None
 no_target_lem w h = rw (no_name w h)
 
 -- ---- a value has at most eleven
-natural : (n : ℕ) (cs : List ℕ) → n ≤ 10000000000 → 10 < length cs → natural_form n cs ≡ Form.Other
+natural : (n : ℕ) (cs : List ℕ) → n ≤ 10000000000 → 10 < length cs → natural_form n cs ≡ None
 natural n cs h l = rw (no_number 9 n cs h l)
 
-signed : (half : ℕ) (cs : List ℕ) → suc half ≤ 10000000000 → 11 < length cs → signed_form half cs ≡ Form.Other
+signed : (half : ℕ) (cs : List ℕ) → suc half ≤ 10000000000 → 11 < length cs → signed_form half cs ≡ None
 signed half [] h l = refl
 signed half (c ∷ cs) h l = rw (no_number 9 (suc half) cs h (omega arith), no_number 9 half (c ∷ cs) (omega arith) (omega arith)) (by (eqb c 45))
   where
-    by : (t : Bool) → cond t Form.Other Form.Other ≡ Form.Other
+    by : (t : Bool) → cond {A = Option ℕ} t None None ≡ None
     by true = refl
     by false = refl
 
-hexadecimal : (cs : List ℕ) → 11 < length cs → hex_form cs ≡ Form.Other
+hexadecimal : (cs : List ℕ) → 11 < length cs → hex_form cs ≡ None
 hexadecimal cs l = rw (ne_eqb (length cs) 10 (λ e. omega arith)) (by (is_hex_run cs))
   where
-    by : (t : Bool) → cond ((t && false) && all is_hex (drop 2 cs)) (Form.Pattern (hex_from 0 (drop 2 cs))) Form.Other ≡ Form.Other
+    by : (t : Bool) → cond ((t && false) && all is_hex (drop 2 cs)) (Some (hex_from 0 (drop 2 cs))) None ≡ None
     by true = refl
     by false = refl
 
-pub no_value : (b : Bank) (cs : List ℕ) → 11 < length cs → cell_pattern b cs ≡ Form.Other
+pub no_value : (b : Bank) (cs : List ℕ) → 11 < length cs → cell_pattern b cs ≡ None
 no_value X cs l = natural 2 cs (omega arith) (omega arith)
 no_value C cs l = natural 2 cs (omega arith) (omega arith)
 no_value «V» cs l = natural 65536 cs (omega arith) (omega arith)

@@ -1,4 +1,5 @@
 -- Eight hexadecimal digits of a pattern are read back as the pattern. Assumes nothing.
+use Rattle.std.specs.Prelude.{Some}
 use mathlib.Core.Path.{◌≡◌, refl, ◌∙◌}
 use mathlib.Core.Bool.{Bool, true, false, cond, and-false}
 use mathlib.Core.List.{List, [], ◌∷◌, ◌++◌}
@@ -11,7 +12,6 @@ use borrow.Author.Tests.{ltb-true, ltb-false, le-leb, lt-leb}
 use Rattle.words.proofs.Tests.{both}
 use Rattle.tokens.specs.Bytes.{all, is_hex}
 use Rattle.tokens.specs.Numerals.{hex_digit, hex_from}
-use Rattle.lines.specs.declared.forms.Form.TheVariants.{Pattern}
 use Rattle.lines.specs.Forms.{hex_form}
 use Rattle.lines.specs.Printing.{numeral_byte, low_digits}
 use Rattle.lines.proofs.printing.Digits.{digits_last, length_digits}
@@ -50,9 +50,9 @@ digits (suc k) n h =
       rw (digits_last 16 k n) (from_last 0 (low_digits 16 k (n / 16)) (numeral_byte (n % 16)) ∙ rw (rest.1, b.1) whole),
     )
 
-eight : (cs : List ℕ) (n : ℕ) → length cs ≡ 8 → all is_hex cs ≡ true → hex_from 0 cs ≡ n → hex_form (48 ∷ 120 ∷ cs) ≡ Pattern n
+eight : (cs : List ℕ) (n : ℕ) → length cs ≡ 8 → all is_hex cs ≡ true → hex_from 0 cs ≡ n → hex_form (48 ∷ 120 ∷ cs) ≡ Some n
 eight cs n l d e = rw (l, d, e)
 
-pub pattern-back : (n : ℕ) → n < 4294967296 → hex_form (48 ∷ 120 ∷ low_digits 16 8 n) ≡ Pattern n
+pub pattern-back : (n : ℕ) → n < 4294967296 → hex_form (48 ∷ 120 ∷ low_digits 16 8 n) ≡ Some n
 pattern-back n h =
     let d = digits 8 n h in eight (low_digits 16 8 n) n (length_digits 16 8 n) d.0 d.1

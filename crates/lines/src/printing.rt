@@ -7,16 +7,15 @@ ghost use Rattle.lines.specs.private.Steps.{Puts, half_text};
 
 use memory::Bank;
 
+// Not by `copy_from_slice`, which calls memmove: the archives for C want memset and memcpy alone.
 pub fn put_all(out: &mut [u8], at: usize, text: &[u8]) -> usize
     requires { at + length text.now ≤ length out.old }
     ensures { Puts out.old at out.new result text.now }
 {
-    let mut k = 0;
-    while k < text.len() {
+    for k in 0..text.len() {
         out[at + k] = text[k];
-        k += 1;
     }
-    at + k
+    at + text.len()
 }
 
 fn digit(d: u64) -> u8
@@ -24,9 +23,9 @@ fn digit(d: u64) -> u8
     ensures { result ≡ numeral_byte d }
 {
     if d < 10 {
-        48 + (d as u8)
+        b'0' + (d as u8)
     } else {
-        55 + (d as u8)
+        b'A' - 10 + (d as u8)
     }
 }
 
@@ -37,9 +36,7 @@ fn spell(out: &mut [u8], at: usize, k: usize, base: u64, n: u64) -> usize
     ensures { Puts out.old at out.new result (low_digits base k n) }
 {
     let mut rest = n;
-    let mut i = k;
-    while 0 < i {
-        i -= 1;
+    for i in (0..k).rev() {
         out[at + i] = digit(rest % base);
         rest = rest / base;
     }
@@ -50,13 +47,10 @@ fn spell(out: &mut [u8], at: usize, k: usize, base: u64, n: u64) -> usize
 pub fn width_of(n: u64) -> usize
     ensures { result ≡ width_of n }
 {
-    let mut rest = n;
-    let mut k = 1;
-    while 10 <= rest {
-        rest = rest / 10;
-        k += 1;
+    match n.checked_ilog10() {
+        Some(tens) => tens as usize + 1,
+        None => 1,
     }
-    k
 }
 
 pub fn put_decimal(out: &mut [u8], at: usize, n: u64) -> usize

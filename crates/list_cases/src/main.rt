@@ -4,7 +4,8 @@
 // tests/host/expected/lists.rs has what is expected.
 #![tactic(auto)]
 
-use run_list::Answers;
+ghost use Rattle.std.specs.Prelude.{◌≤◌};
+
 use std::io;
 
 const END: u8 = b';';
@@ -15,171 +16,165 @@ const CODE_BYTES: usize = 16384;
 
 const TICK: u32 = 7;
 
-fn push(words: &mut [u32; 168], n: usize, w: usize) -> usize {
-    let room: &mut [u32] = words;
-    if n < room.len() {
-        room[n] = (w % 4294967296) as u32;
-        return n + 1;
+// The words of a table: as many as it has room for.
+#[derive(Drop)]
+struct Table {
+    words: [u32; 168],
+    count: usize,
+    ghost inside: { count ≤ 168 },
+}
+
+impl Table {
+    fn push(&mut self, word: usize) {
+        if self.count < 168 {
+            self.words[self.count] = (word % 4294967296) as u32;
+            self.count += 1;
+        }
     }
-    n
+
+    fn push_part(&mut self, from: usize, length: usize) {
+        self.push(from);
+        self.push(length);
+    }
 }
 
 // Where each piece of a line begins, and how long it is.
-fn table_of(line: &[u8], words: &mut [u32; 168]) -> usize {
-    let mut n: usize = 0;
-    let mut at: usize = 0;
-    while at < line.len() {
-        let end = case_lines::find(line, at, END);
-        let k = push(words, n, at);
-        n = push(words, k, end - at);
-        at = end + 1;
+fn table_of(line: &[u8]) -> Table {
+    let mut table = Table {
+        words: [0; 168],
+        count: 0,
+    };
+    let mut from = 0;
+    for (i, b) in line.iter().enumerate() {
+        if *b == END {
+            table.push_part(from, i - from);
+            from = i + 1;
+        }
     }
-    n
-}
-
-fn long(n: u32) -> u64 {
-    n as u64
-}
-
-fn put_answers(line: &mut [u8; 512], at: usize, answers: &[u32; 40]) -> usize {
-    let mut end = at;
-    for i in 0usize..40 {
-        end = case_lines::put_number(line, end, long(answers[i]));
+    if from < line.len() {
+        table.push_part(from, line.len() - from);
     }
-    end
+    table
 }
 
-fn run_on(
-    rt: &impl Print,
-    words: &[u32],
-    texts: &[u8],
-    memory: &mut [u8],
-    code: &mut [u8],
-    index_code: &mut [u8],
-) -> io::Result<()> {
-    let result: Answers = run_list::run_list(words, texts, memory, code, index_code, TICK);
-    let answers = result.answers;
-    let mut line = [0u8; 512];
-    let named = case_lines::put_decimal(&mut line, 0, long(result.answer));
-    let told = put_answers(&mut line, named, &answers);
-    let a = case_lines::put_number(&mut line, told, case_lines::sum_of(memory));
-    let b = case_lines::put_number(&mut line, a, case_lines::sum_of(code));
-    let end = case_lines::put_number(&mut line, b, case_lines::sum_of(index_code));
-    case_lines::write(rt, &mut line, end)
+// What a list is run on.
+#[derive(Drop)]
+struct Buffers<'a> {
+    memory: &'a mut [u8],
+    code: &'a mut [u8],
+    index_code: &'a mut [u8],
+}
+
+fn run_on(rt: &impl Print, words: &[u32], texts: &[u8], on: &mut Buffers<'_>) -> io::Result<()> {
+    let ran = run_list::run_list(words, texts, on.memory, on.code, on.index_code, TICK);
+    print!(rt; "{}", ran.answer)?;
+    for answer in ran.answers {
+        print!(rt; " {answer}")?;
+    }
+    for sum in [
+        case_lines::sum_of(on.memory),
+        case_lines::sum_of(on.code),
+        case_lines::sum_of(on.index_code),
+    ] {
+        print!(rt; " {sum}")?;
+    }
+    println!(rt; "")
 }
 
 fn run_words(rt: &impl Print, words: &[u32], texts: &[u8]) -> io::Result<()> {
-    let mut memory = [0u8; memory::IMAGE_SIZE];
-    let mut code = [SENTINEL; CODE_BYTES];
-    let mut index_code = [SENTINEL; CODE_BYTES];
-    run_on(rt, words, texts, &mut memory, &mut code, &mut index_code)
+    let mut buffers = Buffers {
+        memory: &mut [0; memory::IMAGE_SIZE],
+        code: &mut [SENTINEL; CODE_BYTES],
+        index_code: &mut [SENTINEL; CODE_BYTES],
+    };
+    run_on(rt, words, texts, &mut buffers)
 }
 
-// At most so many words of a table.
-fn run_part(
-    rt: &impl Print,
-    words: &[u32; 168],
-    n: usize,
-    most: usize,
-    line: &[u8],
-) -> io::Result<()> {
-    let given: &[u32] = words;
-    if n <= given.len() {
-        if most < n {
-            run_words(rt, &given[0..most], line)?;
-        } else {
-            run_words(rt, &given[0..n], line)?;
-        }
-    }
-    Ok(())
-}
-
+// At most so many words of a line's table.
 fn run_line(rt: &impl Print, line: &[u8], most: usize) -> io::Result<()> {
-    let mut words = [0u32; 168];
-    let n = table_of(line, &mut words);
-    run_part(rt, &words, n, most, line)
-}
-
-fn every_line(rt: &impl Print, input: &[u8]) -> io::Result<()> {
-    let mut at: usize = 0;
-    while at < input.len() {
-        let end = case_lines::find(input, at, b'\n');
-        run_line(rt, &input[at..end], 168)?;
-        at = end + 1;
-    }
-    Ok(())
+    let table = table_of(line);
+    run_words(rt, &table.words[..table.count.min(most)], line)
 }
 
 // As many formulas as there may be, with words behind them, and one more.
-fn first_line(rt: &impl Print, input: &[u8]) -> io::Result<()> {
-    let end = case_lines::find(input, 0, b'\n');
-    run_line(rt, &input[0..end], 159)?;
-    run_line(rt, &input[0..end], 160)?;
-    run_line(rt, &input[0..end], 161)?;
-    run_line(rt, &input[0..end], 163)?;
-    run_line(rt, &input[0..end], 164)?;
-    run_line(rt, &input[0..end], 165)
+fn first_line(rt: &impl Print, line: &[u8]) -> io::Result<()> {
+    for most in [159, 160, 161, 163, 164, 165] {
+        run_line(rt, line, most)?;
+    }
+    Ok(())
 }
 
 const TEXTS: [u8; 12] = *b"D0V0 + 1D[7]";
 
+// Tables with places beyond the texts, of fewer words than their formulas take, and one that is good.
+const TABLES: [&[u32]; 11] = [
+    &[0, 2, 2, 6],
+    &[8, 4, 2, 2],
+    &[8, 4294967295, 2, 6],
+    &[0, 2, 11, 4294967295],
+    &[0, 2, 12, 1],
+    &[12, 1, 2, 6],
+    &[4294967295, 4294967295, 4294967295, 4294967295],
+    &[0, 2, 4294967295, 1, 0, 2, 2, 6],
+    &[0, 2, 2, 6, 0, 2, 2],
+    &[0, 2, 2],
+    &GOOD,
+];
+
+const GOOD: [u32; 8] = [0, 2, 2, 6, 8, 4, 2, 2];
+
 fn tables(rt: &impl Print) -> io::Result<()> {
-    run_words(rt, &[0, 2, 2, 6], &TEXTS)?;
-    run_words(rt, &[8, 4, 2, 2], &TEXTS)?;
-    run_words(rt, &[8, 4294967295, 2, 6], &TEXTS)?;
-    run_words(rt, &[0, 2, 11, 4294967295], &TEXTS)?;
-    run_words(rt, &[0, 2, 12, 1], &TEXTS)?;
-    run_words(rt, &[12, 1, 2, 6], &TEXTS)?;
-    run_words(
-        rt,
-        &[4294967295, 4294967295, 4294967295, 4294967295],
-        &TEXTS,
-    )?;
-    run_words(rt, &[0, 2, 4294967295, 1, 0, 2, 2, 6], &TEXTS)?;
-    run_words(rt, &[0, 2, 2, 6, 0, 2, 2], &TEXTS)?;
-    run_words(rt, &[0, 2, 2], &TEXTS)?;
-    run_words(rt, &[0, 2, 2, 6, 8, 4, 2, 2], &TEXTS)
+    for words in TABLES {
+        run_words(rt, words, &TEXTS)?;
+    }
+    Ok(())
 }
 
-fn on_other_sizes(
-    rt: &impl Print,
-    memory: &mut [u8],
-    code: &mut [u8],
-    index_code: &mut [u8],
-) -> io::Result<()> {
-    run_on(
-        rt,
-        &[0, 2, 2, 6, 8, 4, 2, 2],
-        &TEXTS,
-        memory,
-        code,
-        index_code,
-    )
-}
-
+// Memories a byte too short and a byte too long.
 fn memories(rt: &impl Print) -> io::Result<()> {
     let mut code = [SENTINEL; CODE_BYTES];
     let mut index_code = [SENTINEL; CODE_BYTES];
-    let mut short = [0u8; memory::IMAGE_SIZE - 1];
-    let mut long = [0u8; memory::IMAGE_SIZE + 1];
-    on_other_sizes(rt, &mut short, &mut code, &mut index_code)?;
-    on_other_sizes(rt, &mut long, &mut code, &mut index_code)
+    let mut short = Buffers {
+        memory: &mut [0; memory::IMAGE_SIZE - 1],
+        code: &mut code,
+        index_code: &mut index_code,
+    };
+    run_on(rt, &GOOD, &TEXTS, &mut short)?;
+    let mut long = Buffers {
+        memory: &mut [0; memory::IMAGE_SIZE + 1],
+        code: &mut code,
+        index_code: &mut index_code,
+    };
+    run_on(rt, &GOOD, &TEXTS, &mut long)
 }
 
-fn buffers(rt: &impl Print) -> io::Result<()> {
+// Each buffer for code a byte too short.
+fn short_codes(rt: &impl Print) -> io::Result<()> {
     let mut memory = [0u8; memory::IMAGE_SIZE];
     let mut short = [SENTINEL; CODE_BYTES - 1];
     let mut code = [SENTINEL; CODE_BYTES];
-    on_other_sizes(rt, &mut memory, &mut short, &mut code)?;
-    on_other_sizes(rt, &mut memory, &mut code, &mut short)
+    let mut first = Buffers {
+        memory: &mut memory,
+        code: &mut short,
+        index_code: &mut code,
+    };
+    run_on(rt, &GOOD, &TEXTS, &mut first)?;
+    let mut second = Buffers {
+        memory: &mut memory,
+        code: &mut code,
+        index_code: &mut short,
+    };
+    run_on(rt, &GOOD, &TEXTS, &mut second)
 }
 
 fn main(rt: HostRuntime) -> io::Result<()> {
     let mut input = [0u8; 8192];
     let n = inputs::read_full(&mut rt.stdin(), &mut input);
-    every_line(&rt, &input[..n])?;
-    first_line(&rt, &input[..n])?;
+    for line in input[..n].split_inclusive(|b| *b == b'\n') {
+        run_line(&rt, line.strip_suffix(b"\n").unwrap_or(line), 168)?;
+    }
+    first_line(&rt, input[..n].split(|b| *b == b'\n').next().unwrap_or(b""))?;
     tables(&rt)?;
     memories(&rt)?;
-    buffers(&rt)
+    short_codes(&rt)
 }

@@ -1,5 +1,6 @@
 -- A request has one effect: a value goes to a cell that is written, or a flag is set, or nothing. It depends on the cells that are read alone, and effects of
 -- independent requests commute, by the laws of the memory.
+use Rattle.std.specs.Prelude.{Result, Ok, Err}
 use mathlib.Core.Path.{◌≡◌, refl, sym, ap, subst, ◌∙◌}
 use mathlib.Core.Logic.{inl, inr}
 use mathlib.Core.Bool.{Bool, true, false, ◌&&◌, cond}
@@ -15,8 +16,6 @@ use Rattle.values.specs.declared.Fault.{Fault}
 use Rattle.values.specs.declared.Fault.TheVariants.{OutOfRange, IndexError}
 use Rattle.values.specs.declared.Outcome.{Outcome}
 use Rattle.values.specs.declared.Outcome.TheVariants as Outcome
-use Rattle.operators.specs.declared.Position.{Position}
-use Rattle.operators.specs.declared.Position.TheVariants as Position
 use Rattle.memory.specs.declared.Bank.{Bank}
 use Rattle.memory.specs.declared.Bank.TheVariants.{X, C, «V», N, D, R}
 use Rattle.memory.specs.Numbers.{bank_number, banks}
@@ -114,9 +113,9 @@ pub data Into (f : Cells) : Effect → Type 0 where
 bank-reached : (c : Bank) (x : Ended) (b : Bank) (i : ℕ) → reached c x ≡ cell b i → same_bank c b ≡ true
 bank-reached c (Ended.Done v) b i e = by (position_rule c v) e
   where
-    by : (p : Position) → at_element c p ≡ cell b i → same_bank c b ≡ true
-    by (Position.At j) e = let q : c ≡ b = cc in rw q (bank-same b)
-    by (Position.Stopped f) e = let z : ◌≡◌ {A = ℕ} 0 1 = cc in absurd (omega arith)
+    by : (p : (Result ℕ Fault)) → at_element c p ≡ cell b i → same_bank c b ≡ true
+    by (Ok j) e = let q : c ≡ b = cc in rw q (bank-same b)
+    by (Err f) e = let z : ◌≡◌ {A = ℕ} 0 1 = cc in absurd (omega arith)
 bank-reached c (Ended.Stopped f) b i e = let z : ◌≡◌ {A = ℕ} 0 1 = cc in absurd (omega arith)
 bank-reached c Ended.Stuck b i e = let z : ◌≡◌ {A = ℕ} 0 1 = cc in absurd (omega arith)
 

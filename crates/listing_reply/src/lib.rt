@@ -3,33 +3,25 @@
 
 ghost use Rattle.std.specs.Prelude.{◌≡◌, ◌+◌, ◌≤◌, length};
 ghost use Rattle.lines.specs.private.Steps.{Puts};
-ghost use Rattle.compiler.specs.Compile.{compiling};
 ghost use Rattle.listing_reply.specs.Reply.{refusal_text, listing_text};
-ghost use Rattle.listing_reply.specs.private.Parts.{code_text, index_part, judged_text};
+ghost use Rattle.listing_reply.specs.private.Parts.{code_text, index_part};
 
+use code_listing::BANKS;
 use lines::printing;
-use memory::{Bank, numbers};
-use operations::{Answer, Report};
-use program::{reply, stream};
+use memory::Bank;
+use operations::Report;
+use program::{codes, reply, stream};
 
 pub mod respond;
 
 // Two listings and the line between them.
 pub const MOST_BYTES: usize = 131080;
 
-const BANKS: [u8; 11] = *b"X\nC\nV\nN\nD\nR";
-
 // Room for every reply. The ensures gives only the length: the list of zeros would be written out in every step of a proof.
 pub fn blank_reply() -> [u8; MOST_BYTES]
     ensures { 131080 ≡ length result }
 {
-    [0; MOST_BYTES]
-}
-
-fn blank_listing() -> [u8; code_listing::LEAST_TEXT]
-    ensures { 65536 ≡ length result }
-{
-    [0; code_listing::LEAST_TEXT]
+    program::zeros()
 }
 
 fn put_code(out: &mut [u8], at: usize, code: &[u8], n: usize) -> usize
@@ -37,7 +29,7 @@ fn put_code(out: &mut [u8], at: usize, code: &[u8], n: usize) -> usize
     ensures puts { Puts out.old at out.new result (code_text code.now n) }
     ensures upper_bound { result ≤ at + 65536 }
 {
-    let mut text = blank_listing();
+    let mut text: [u8; code_listing::LEAST_TEXT] = program::zeros();
     let listed = code_listing::listing(code, n, &mut text);
     let length = listed.length;
     printing::put_all(out, at, &text[..length])
@@ -52,7 +44,7 @@ fn put_index(out: &mut [u8], at: usize, index: &[u8], k: usize, bank: Bank) -> u
         return at;
     }
     let a = printing::put_all(out, at, b"index=");
-    let b = text_tables::put_row(out, a, &BANKS, numbers::bank_number(bank) as usize);
+    let b = text_tables::put_row(out, a, &BANKS, u8::from(bank) as usize);
     let c = printing::put_all(out, b, b"\n");
     put_code(out, c, index, k)
 }
@@ -69,34 +61,18 @@ fn put_refusal(out: &mut [u8], report: Report) -> usize
     printing::put_all(out, c, b"\n")
 }
 
-// The target is good, and its index has k instructions in a bank.
-fn reply_to_text(text: &[u8], index: &[u8], k: usize, bank: Bank, out: &mut [u8]) -> usize
-    requires { 131080 ≤ length out.old }
-    ensures puts { Puts out.old 0 out.new result (judged_text index.now k bank (compiling 16384 text.now)) }
-    ensures upper_bound { result ≤ 131080 }
-{
-    let mut code = stream::blank_code();
-    let answer = operations::compile(text, &mut code);
-    match answer {
-        Answer::Done(_, n, _, _) => {
-            let at = put_code(out, 0, &code, n);
-            put_index(out, at, index, k, bank)
-        }
-        Answer::Fault(_, _) => put_refusal(out, operations::reported(answer)),
-        Answer::Refused(_, _) => put_refusal(out, operations::reported(answer)),
-    }
-}
-
 pub fn reply(target: &[u8], text: &[u8], out: &mut [u8]) -> usize
     requires { 131080 ≤ length out.old }
     ensures puts { Puts out.old 0 out.new result (listing_text target.now text.now) }
     ensures upper_bound { result ≤ 131080 }
 {
+    let mut code = stream::blank_code();
     let mut index = stream::blank_code();
-    let answer = operations::compile_target(target, &mut index);
-    match answer {
-        Answer::Done(_, k, bank, _) => reply_to_text(text, &index, k, bank, out),
-        Answer::Fault(_, _) => put_refusal(out, operations::reported(answer)),
-        Answer::Refused(_, _) => put_refusal(out, operations::reported(answer)),
+    match codes::compile_both(target, text, &mut code, &mut index) {
+        Ok(n) => {
+            let at = put_code(out, 0, &code, n.code);
+            put_index(out, at, &index, n.index, n.bank)
+        }
+        Err(answer) => put_refusal(out, operations::reported(answer)),
     }
 }

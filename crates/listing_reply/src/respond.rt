@@ -4,7 +4,6 @@ ghost use Rattle.listing_reply.specs.private.Prints.{Prints};
 
 use lines::printing;
 use program::stream;
-use program::stream::Receipt;
 use std::io::Read;
 
 // If a read fails, the one line `error=read` says so.
@@ -13,15 +12,8 @@ pub fn respond_from<R: Read>(input: &mut R, out: &mut [u8]) -> usize
     ensures prints { Prints out.old result out.new }
     ensures upper_bound { result ≤ 131080 }
 {
-    let mut memory = program::blank_image();
-    let mut target = program::blank_text();
-    let mut text = program::blank_text();
-    match stream::receive_case(input, &mut memory, &mut target, &mut text) {
-        Receipt::All(n) => {
-            let a = n.target;
-            let b = n.text;
-            crate::reply(&target[..a], &text[..b], out)
-        }
-        Receipt::Unread => printing::put_all(out, 0, b"error=read\n"),
+    match stream::receive_case(input) {
+        Some(case) => crate::reply(case.target.bytes(), case.text.bytes(), out),
+        None => printing::put_all(out, 0, b"error=read\n"),
     }
 }

@@ -7,32 +7,21 @@ use std::io;
 // One digit; a tie between two singles, and twice it; and the most nines of a mantissa.
 const MANTISSAS: [u32; 5] = [1, 9, 16777217, 33554434, 999999999];
 
-// A space, and the pattern at a scale.
-fn put_pattern(line: &mut [u8; 512], at: usize, n: u32, scale: i32) -> usize {
-    let end = case_lines::put(line, at, b' ');
-    case_lines::put_hex(line, end, literals::pattern(n, scale))
-}
-
 fn scales(rt: &impl Print, n: u32) -> io::Result<()> {
-    let mut line = [0u8; 512];
-    let mut end = case_lines::put_decimal(&mut line, 0, n as u64);
-    for k in 0usize..49 {
-        end = put_pattern(&mut line, end, n, (k as i32) - 28);
+    print!(rt; "{n}")?;
+    for scale in -28..=20 {
+        print!(rt; " {:08X}", literals::pattern(n, scale))?;
     }
-    case_lines::write(rt, &mut line, end)
-}
-
-fn outside(rt: &impl Print) -> io::Result<()> {
-    let mut line = [0u8; 512];
-    let mut end = case_lines::put_decimal(&mut line, 0, 1);
-    end = put_pattern(&mut line, end, 1, -29);
-    end = put_pattern(&mut line, end, 1, 21);
-    case_lines::write(rt, &mut line, end)
+    println!(rt; "")
 }
 
 fn main(rt: HostRuntime) -> io::Result<()> {
-    for n in 0usize..5 {
-        scales(&rt, MANTISSAS[n])?;
+    for n in MANTISSAS {
+        scales(&rt, n)?;
     }
-    outside(&rt)
+    println!(rt;
+        "1 {:08X} {:08X}",
+        literals::pattern(1, -29),
+        literals::pattern(1, 21)
+    )
 }

@@ -1,5 +1,5 @@
 -- The powers of ten, and a decimal as a mixed number: over two of them, or over 2 ^ 29 twice.
-use mathlib.Core.Path.{◌≡◌, sym, ap, subst, ◌∙◌}
+use mathlib.Core.Path.{◌≡◌, sym, ap, ◌∙◌}
 use mathlib.Core.Bool.{false}
 use mathlib.Core.List.{List, [], ◌∷◌}
 use Prim.Native.Nat.{ℕ, zero, suc, ◌+◌, ◌-◌, ◌*◌, ◌/◌, ◌^◌, ◌≤◌, ◌<◌}
@@ -12,9 +12,9 @@ use lib.Ieee.{binary32, round}
 use lib.Ieee.Scale.{round_same}
 use lib.ListN.{length, get_or}
 use borrow.Author.Rules.{rules}
-use Rattle.literals.specs.declared.Mixed.{Mixed}
+use Rattle.literals.specs.declared.mixed.Mixed.{Mixed}
 use Rattle.literals.specs.private.MixedNumbers.{numerator, Represents}
-use Rattle.literals.proofs.MixedNumbers.{whole-lt}
+use Rattle.literals.proofs.MixedNumbers.{whole-lt, based}
 
 -- ---- a table of the powers from 10 ^ j on: one test over the whole of it
 abbrev Powers : ℕ → List ℕ → Type 0
@@ -41,9 +41,6 @@ ten-le : (k j : ℕ) → k ≤ j → 10 ^ k ≤ 10 ^ j
 ten-le k j h = pow-le-pow_right {n = 10} (lit≤ tt) h
 
 -- ---- n / 10 ^ d, doubled 31 times
-pub over : {q p n : ℕ} {x : Mixed} → p ≡ q → Represents q 1 n x → Represents p 1 n x
-over {n = n} {x = x} P r = subst (λ (b : ℕ). Represents b 1 n x) (sym P) r
-
 pub short-le : (d : ℕ) {p : ℕ} → p ≡ 10 ^ d → d < 3 → p ≤ 2 ^ 47
 short-le d P D = rw P (le_trans (ten-le d 2 (omega arith)) (lit≤ tt))
 
@@ -52,8 +49,8 @@ short-fits d {p} {n} P r N =
     let below : n * 2 ^ 31 < 2 ^ 48 = omega (arith, N) in
     whole-lt r (2 ^ 48) (lt_of_lt_of_le below (mul-le-mul_left {m = 1} (2 ^ 48) (rw (mul-one p, P) (ten-pos d))))
 
-pub short-is : (d p n : ℕ) → p ≡ 10 ^ d → round binary32 false (n * 2 ^ 0) (p * 1) ≡ round binary32 false n (10 ^ d)
-short-is d p n P = rw (mul-one n, mul-one p, P)
+pub short-is : (d n : ℕ) → round binary32 false (n * 2 ^ 0) (10 ^ d * 1) ≡ round binary32 false n (10 ^ d)
+short-is d n = rw (mul-one n, mul-one (10 ^ d))
 
 -- the power of an exponent from those of two halves of it
 halves : (e : ℕ) → 10 ^ (e / 2) * 10 ^ (e - e / 2) ≡ 10 ^ e
@@ -84,8 +81,8 @@ abbrev Whole : ℕ → Mixed → Type 0
 Whole n x = Represents (2 ^ 29) (2 ^ 29) n x
 
 -- what a product represents, by what its factor does
-pub times : (f : ℕ) {b a n : ℕ} {x y : Mixed} → Represents b a n x → Represents b a (numerator b a x * f) y → Represents b a (n * f) y
-times f r s = rw (← r.is) at s
+pub times : (f : ℕ) {b a n : ℕ} {x y : Mixed} → Represents b a n x → Represents x.b x.a (numerator x.b x.a x * f) y → Represents b a (n * f) y
+times f r s = rw (← r.is) at (based f r s)
 
 module _ {n e f g : ℕ} (N : n < 2 ^ 32) (E : e ≤ 20) (F : f ≡ 10 ^ (e / 2)) (G : g ≡ 10 ^ (e - e / 2)) where
   pub first-le : f ≤ 10 ^ 10

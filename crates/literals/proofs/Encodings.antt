@@ -11,7 +11,7 @@ use lib.Dec.{lit<, lit≤}
 use lib.Pow.{pow-add, pow_pos, pow_mono, pow-lt}
 use lib.Ieee.{binary32, round, to_bits}
 use lib.Ieee.Nearest.{closest}
-use Rattle.literals.specs.declared.Mixed.{Mixed}
+use Rattle.literals.specs.declared.mixed.Mixed.{Mixed}
 use Rattle.literals.specs.private.MixedNumbers.{Normalized, TiesToEven}
 use Rattle.literals.proofs.MixedNumbers.{parts, left_lt}
 use Rattle.literals.proofs.Halves.{kept}

@@ -1,4 +1,5 @@
 -- What a line of the log can say: a cell of its bank and a pattern that it can be given, a tick of 32 bits, a card's number. Assumes nothing.
+use Rattle.std.specs.Prelude.{Option, Some, None}
 use mathlib.Core.Path.{◌≡◌, refl}
 use mathlib.Core.Bool.{Bool, true, false, cond}
 use mathlib.Core.List.{List}
@@ -9,14 +10,10 @@ use lib.ListN.{length}
 use Rattle.words.specs.Ascii.{ascii}
 use Rattle.memory.specs.declared.Bank.{Bank}
 use Rattle.memory.specs.declared.Bank.TheVariants.{R}
-use Rattle.memory.specs.declared.names.Named.{Named}
-use Rattle.memory.specs.declared.names.Named.TheVariants as Named
 use Rattle.memory.specs.Layout.{layout_of}
 use Rattle.memory.specs.Laws.{Bits, is_x, is_c, Holdable}
 use Rattle.memory.specs.Names.{decimal_value, number_below, named_rule}
 use Rattle.tokens.specs.Symbols.{equal_bytes}
-use Rattle.lines.specs.declared.forms.Form.{Form}
-use Rattle.lines.specs.declared.forms.Form.TheVariants.{Pattern, Other}
 use Rattle.lines.specs.Lines.{key_length, key_of, value_of}
 use Rattle.lines.specs.Forms.{hex_form, cell_pattern}
 use Rattle.lines.specs.Printing.{cell_text}
@@ -45,9 +42,9 @@ within-cond : (x : Bool) {a b : LogEntry} → Within a → Within b → Within (
 within-cond true h k = h
 within-cond false h k = k
 
-within-tick : (v : List ℕ) (f : Form) → hex_form v ≡ f → Within (tick_entry f)
-within-tick v (Pattern n) e = of-tick (form-laws.below R v n e)
-within-tick v Other e = of-bad
+within-tick : (v : List ℕ) (f : Option ℕ) → hex_form v ≡ f → Within (tick_entry f)
+within-tick v (Some n) e = of-tick (form-laws.below R v n e)
+within-tick v None e = of-bad
 
 within-run : (k : ℕ) → k ≤ most_cards → Within (run_entry k)
 within-run zero h = of-bad
@@ -61,13 +58,13 @@ most v = by (number_below 65 v) refl
     by true e = omega (arith, below 65 v e)
     by false e = omega arith
 
-within-change : (b : Bank) (i : ℕ) (v : List ℕ) (f : Form) → i < (layout_of b).elements → cell_pattern b v ≡ f → Within (change_entry b i v f)
-within-change b i v (Pattern n) h e = within-cond (equal_bytes v (cell_text b n)) (of-change h (form-laws.below b v n e)) of-bad
-within-change b i v Other h e = of-bad
+within-change : (b : Bank) (i : ℕ) (v : List ℕ) (f : Option ℕ) → i < (layout_of b).elements → cell_pattern b v ≡ f → Within (change_entry b i v f)
+within-change b i v (Some n) h e = within-cond (equal_bytes v (cell_text b n)) (of-change h (form-laws.below b v n e)) of-bad
+within-change b i v None h e = of-bad
 
-within-cell : (key v : List ℕ) (x : Named) → named_rule key ≡ x → Within (cell_entry v x)
-within-cell key v (Named.Cell b i) e = within-change b i v (cell_pattern b v) (element-below key e) refl
-within-cell key v Named.Other e = of-bad
+within-cell : (key v : List ℕ) (x : (Option (Bank × ℕ))) → named_rule key ≡ x → Within (cell_entry v x)
+within-cell key v (Some (b, i)) e = within-change b i v (cell_pattern b v) (element-below key e) refl
+within-cell key v None e = of-bad
 
 pub text-within : (l : List ℕ) → Within (text_entry l)
 text-within l =

@@ -1,4 +1,5 @@
 -- What is printed lies in the bytes lent: no line prints more than 64. Assumes nothing.
+use Rattle.std.specs.Prelude.{Result, Ok, Err}
 use mathlib.Core.Path.{◌≡◌, refl, sym, ap, subst, ◌∙◌}
 use mathlib.Core.Bool.{Bool, true, false, cond}
 use mathlib.Core.List.{List, [], ◌∷◌, ◌++◌}
@@ -15,9 +16,6 @@ use Rattle.values.specs.declared.Fault.TheVariants.{OutOfRange, IndexError}
 use Rattle.values.specs.Patterns.{signed_of}
 use Rattle.memory.specs.declared.Bank.{Bank}
 use Rattle.memory.specs.declared.Bank.TheVariants.{X, C, «V», N, D, R}
-use Rattle.memory.specs.declared.store.Encoded.{Encoded}
-use Rattle.memory.specs.declared.store.Encoded.TheVariants as Encoded
-use Rattle.memory.specs.declared.store.Stored.TheVariants as Stored
 use Rattle.memory.specs.Layout.{image_size, layout_of, packed, has_cell}
 use Rattle.memory.specs.Cells.{bit_of}
 use Rattle.memory.specs.Laws.{modulus}
@@ -120,12 +118,12 @@ module _ (m : List ℕ) (l : length m ≡ image_size) where
   below D n = omega arith
   below R n = omega arith
 
-  stored : (v : Value) (k : ℕ) (b : Bank) (i : ℕ) → i < (layout_of b).elements → (x : Encoded) → encode_cell b v ≡ x
+  stored : (v : Value) (k : ℕ) (b : Bank) (i : ℕ) → i < (layout_of b).elements → (x : (Result ℕ FaultName)) → encode_cell b v ≡ x
       → Reported (write_cell m b i x) (after_store v k b i (answer_of x))
-  stored v k b i h (Encoded.Pattern p) e =
+  stored v k b i h (Ok p) e =
       let g : packed.get (packed.put m b i p) b i < modulus b = omega (arith, packed-laws.get_put m b i p l h (memory-laws.holdable b v p e), below b p) in
       done h g
-  stored v k b i h (Encoded.Stopped f) e = faulty
+  stored v k b i h (Err f) e = faulty
 
   arrived : (v : Value) (k : ℕ) (d : Destination) → Reported (arrived_memory m v d) (arrived_answer m v k d)
   arrived v k (fault f) = faulty
@@ -133,7 +131,7 @@ module _ (m : List ℕ) (l : length m ≡ image_size) where
   arrived v k (cell b i) = by (has_cell m b i) refl
     where
       by : (t : Bool) → has_cell m b i ≡ t → Reported (cond t (write_cell m b i (encode_cell b v)) (with_flag m IndexError))
-          (after_store v k b i (cond t (answer_of (encode_cell b v)) (Stored.Stopped IndexError)))
+          (after_store v k b i (cond t (answer_of (encode_cell b v)) (Err IndexError)))
       by true e = stored v k b i (has-element packed m b i (rw e tt)) (encode_cell b v) refl
       by false e = faulty
 

@@ -1,4 +1,5 @@
 -- A line that is longer than any good one is bad. Assumes nothing.
+use Rattle.std.specs.Prelude.{Option, Some, None}
 use mathlib.Core.Path.{◌≡◌, refl, sym, ap, subst, ◌∙◌}
 use mathlib.Core.Bool.{Bool, true, false, cond}
 use mathlib.Core.List.{List, [], ◌∷◌, ◌++◌}
@@ -11,8 +12,6 @@ use borrow.Author.Tests.{ltb-true, ltb-false, not-true}
 use Rattle.words.specs.Ascii.{ascii}
 use Rattle.memory.specs.declared.Bank.{Bank}
 use Rattle.memory.specs.declared.Bank.TheVariants.{R}
-use Rattle.memory.specs.declared.names.Named.{Named}
-use Rattle.memory.specs.declared.names.Named.TheVariants as Named
 use Rattle.memory.specs.Names.{decimal_value, named_rule}
 use Rattle.tokens.specs.Bytes.{all}
 use Rattle.tokens.specs.Symbols.{equal_bytes}
@@ -29,9 +28,9 @@ use Rattle.log_laws.specs.Log.{ended_entry, log_entry_of}
 use Rattle.log_laws.specs.Window.{most_line}
 
 -- ---- by the value: at most eleven bytes
-cell-bad : (v : List ℕ) (n : Named) → 11 < length v → cell_entry v n ≡ bad
-cell-bad v (Named.Cell b i) h = ap (change_entry b i v) (no_value b v h)
-cell-bad v Named.Other h = refl
+cell-bad : (v : List ℕ) (n : (Option (Bank × ℕ))) → 11 < length v → cell_entry v n ≡ bad
+cell-bad v (Some (b, i)) h = ap (change_entry b i v) (no_value b v h)
+cell-bad v None h = refl
 
 value-bad : (key v : List ℕ) → 11 < length v → keyed_entry key v ≡ bad
 unfolding card_number

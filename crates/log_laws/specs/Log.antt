@@ -1,14 +1,10 @@
 -- A night's log (paper 02, request 13): "The box records each night as key=value lines, each ended by one byte 10: cell changes in the form that the program
 -- prints (bits 0 or 1), `tick=` (0x and eight hex digits) and `run=` with a card number as in Ask 6."
-use Rattle.std.specs.Prelude.{Bool, cond, List, ℕ, zero, suc, eqb, ltb, length}
+use Rattle.std.specs.Prelude.{Bool, cond, List, ℕ, zero, suc, eqb, ltb, length, Option, Some, None}
 use Rattle.words.specs.Ascii.{ascii}
 use Rattle.memory.specs.declared.Bank.{Bank}
-use Rattle.memory.specs.declared.names.Named.{Named}
-use Rattle.memory.specs.declared.names.Named.TheVariants as Named
 use Rattle.memory.specs.Names.{named_rule}
 use Rattle.tokens.specs.Symbols.{equal_bytes}
-use Rattle.lines.specs.declared.forms.Form.{Form}
-use Rattle.lines.specs.declared.forms.Form.TheVariants.{Pattern, Other}
 use Rattle.lines.specs.Lines.{key_length, key_of, value_of}
 use Rattle.lines.specs.Forms.{hex_form, cell_pattern}
 use Rattle.lines.specs.Printing.{cell_text}
@@ -31,9 +27,9 @@ abbrev pub log_lines : List ℕ → List (List ℕ)
 log_lines s = cut ends_line s
 
 -- "0x and eight hex digits", of either case
-abbrev pub tick_entry : Form → LogEntry
-tick_entry (Pattern n) = tick n
-tick_entry Other = bad
+abbrev pub tick_entry : Option ℕ → LogEntry
+tick_entry (Some n) = tick n
+tick_entry None = bad
 
 -- "a card number as in Ask 6"
 abbrev pub run_entry : ℕ → LogEntry
@@ -41,14 +37,14 @@ run_entry zero = bad
 run_entry (suc k) = run (suc k)
 
 -- "in the form that the program prints": the value is what is printed of its pattern
-abbrev pub change_entry : Bank → ℕ → List ℕ → Form → LogEntry
-change_entry b i v (Pattern n) = cond (equal_bytes v (cell_text b n)) (change b i n) bad
-change_entry b i v Other = bad
+abbrev pub change_entry : Bank → ℕ → List ℕ → Option ℕ → LogEntry
+change_entry b i v (Some n) = cond (equal_bytes v (cell_text b n)) (change b i n) bad
+change_entry b i v None = bad
 
 -- a key that names a cell, of X too
-abbrev pub cell_entry : List ℕ → Named → LogEntry
-cell_entry v (Named.Cell b i) = change_entry b i v (cell_pattern b v)
-cell_entry v Named.Other = bad
+abbrev pub cell_entry : List ℕ → Option (Bank × ℕ) → LogEntry
+cell_entry v (Some (b, i)) = change_entry b i v (cell_pattern b v)
+cell_entry v None = bad
 
 abbrev pub keyed_entry : List ℕ → List ℕ → LogEntry
 keyed_entry key v =

@@ -9,6 +9,7 @@ use lib.Dec.{eqb}
 use lib.ListN.{length, take, drop, get_or, replicate, length-append, length-replicate}
 use lib.Seq.{sets, take-append_seam, drop-append_seam, get_or-take, length-sets}
 use borrow.Author.Tests.{eq-eqb, ne_eqb}
+use Rattle.std.specs.Prelude.{Some, None}
 use Rattle.memory.proofs.Runs.{run-written}
 use Rattle.lines.specs.Printing.{decimal_text, width_of}
 use Rattle.lines.proofs.printing.Digits.{length_digits}
@@ -117,11 +118,10 @@ pub record Seeks (file words : List ℕ) (f : FoundCard) (k p left : ℕ) : Type
   pub same : f ≡ card_of k cards
   pub count : left ≡ length cards
   pub room : p + 5 * left ≤ 323
-  pub low : 0 < p
 
-pub seek : (file words : List ℕ) (k : ℕ) → Book file words → Seeks file words (card_of k (cards_in file)) k 3 (get_or words 2 0)
+pub seek : (file words : List ℕ) (k : ℕ) → Book file words → {left : ℕ} → left ≡ get_or words 2 0 → Seeks file words (card_of k (cards_in file)) k 3 left
 unfolding read_words
-seek file words k b =
+seek file words k b {left} at-first =
     let cs : List Card = cards_in file in
     let s = sound formula_answer file cs b.reads in
     let z : Sizes formula_answer judge-laws 0 cs = sizes formula_answer judge-laws s.1 in
@@ -135,39 +135,40 @@ seek file words k b =
     let c : get_or words 2 0 ≡ length cs = h 2 (omega (arith, n)) in
     let g : Holds words 3 (cards_words 0 cs) = λ j l. let i : 3 + j ≡ 0 + suc (suc (suc j)) = omega arith in ap (λ (x : ℕ). get_or words x 0) i
     ∙ h (suc (suc (suc j))) (omega arith) in
-    record { cards = cs; rows_left = rows file words [] 3 cs s.0 g; same = refl; count = c; room = omega (arith, c, few); low = omega arith }
+    record { cards = cs; rows_left = rows file words [] 3 cs s.0 g; same = refl; count = at-first ∙ c; room = omega (arith, at-first, c, few) }
 
 module _ {file words : List ℕ} {f : FoundCard} {k p left : ℕ} where
-  pub none_left : Seeks file words f k p left → left ≡ 0 → Finds file words f 0
+  pub none_left : Seeks file words f k p left → left ≡ 0 → Finds file words f None
   none_left s e = by s.cards s.same s.count
     where
-      by : (cs : List Card) → f ≡ card_of k cs → left ≡ length cs → Finds file words f 0
-      by [] q c = subst (λ (x : FoundCard). Finds file words x 0) (sym q) nowhere
+      by : (cs : List Card) → f ≡ card_of k cs → left ≡ length cs → Finds file words f None
+      by [] q c = subst (λ (x : FoundCard). Finds file words x None) (sym q) nowhere
       by (d ∷ cs) q c = absurd (omega arith)
 
-  pub past-last : Seeks file words f k p left → 323 ≤ p → Finds file words f 0
-  past-last s h = none_left s (omega (arith, s.room))
-
-  pub met : Seeks file words f k p left → (left ≡ 0 → ⊥) → get_or words p 0 ≡ k → Finds file words f p
+  pub met : Seeks file words f k p left → (left ≡ 0 → ⊥) → get_or words p 0 ≡ k → Finds file words f (Some p)
   met s h e = by s.cards s.rows_left s.same s.count
     where
-      by : (cs : List Card) → Rows file words p cs → f ≡ card_of k cs → left ≡ length cs → Finds file words f p
+      by : (cs : List Card) → Rows file words p cs → f ≡ card_of k cs → left ≡ length cs → Finds file words f (Some p)
       by [] r q c = absurd (h c)
       by (card n t x ∷ cs) (row m a b r) q c =
-          subst (λ (y : FoundCard). Finds file words y p) (sym (q ∙ ap (λ (z : Bool). cond z (found t x) (card_of k cs)) (eq-eqb n k (sym m ∙ e))))
-          (there p s.low (omega (arith, s.room)) a b)
+          subst (λ (y : FoundCard). Finds file words y (Some p)) (sym (q ∙ ap (λ (z : Bool). cond z (found t x) (card_of k cs)) (eq-eqb n k (sym m ∙ e))))
+          (there p (omega (arith, s.room)) a b)
 
-  pub passed : Seeks file words f k p left → (left ≡ 0 → ⊥) → (get_or words p 0 ≡ k → ⊥) → Seeks file words f k (p + 5) (left - 1)
-  passed s h e = by s.cards s.rows_left s.same s.count
+  pub passed : Seeks file words f k p left → (left ≡ 0 → ⊥) → (get_or words p 0 ≡ k → ⊥) → {p' left' : ℕ} → p' ≡ p + 5 → left' ≡ left - 1
+      → Seeks file words f k p' left'
+  passed s h e {p'} {left'} i j = by s.cards s.rows_left s.same s.count
     where
-      by : (cs : List Card) → Rows file words p cs → f ≡ card_of k cs → left ≡ length cs → Seeks file words f k (p + 5) (left - 1)
+      by : (cs : List Card) → Rows file words p cs → f ≡ card_of k cs → left ≡ length cs → Seeks file words f k p' left'
       by [] r q c = absurd (h c)
       by (card n t x ∷ cs) (row m a b r) q c =
           record {
             cards = cs;
-            rows_left = r;
+            rows_left = subst (λ (y : ℕ). Rows file words y cs) (sym i) r;
             same = q ∙ ap (λ (z : Bool). cond z (found t x) (card_of k cs)) (ne_eqb n k (λ y. e (m ∙ y)));
             count = omega arith;
             room = omega (arith, s.room);
-            low = omega arith;
           }
+
+  -- its words are in the table
+  pub within : Seeks file words f k p left → (left ≡ 0 → ⊥) → p + 5 ≤ 323
+  within s h = omega (arith, s.room)

@@ -5,64 +5,61 @@ ghost use Rattle.card_laws.specs.Cards.{card_number};
 ghost use Rattle.log_laws.specs.Log.{tick_entry, run_entry, change_entry, text_entry};
 ghost use Rattle.log_lines.specs.private.Steps.{entry_in, EntryInside};
 
-use lines::forms::Form;
 use lines::{forms, printing};
 use memory::Bank;
-use memory::names::Named;
 use tokens::identifiers;
 
-// A cell and its pattern, the tick, the card that is run; or the line is bad.
+// What a good line says: a cell and its pattern, the tick, the card that is run.
 #[derive(Clone, Copy)]
 pub enum Entry {
     Change(Bank, u32, u32),
     Tick(u32),
     Run(u32),
-    Bad,
 }
 
 // The tick has the form of an R cell's pattern, of either case.
-fn tick_entry(value: &[u8]) -> Entry
+fn tick_entry(value: &[u8]) -> Option<Entry>
     ensures { result ≡ entry_in (tick_entry (hex_form value.now)) }
 {
     match forms::pattern_of(Bank::R, value) {
-        Form::Pattern(n) => Entry::Tick(n),
-        Form::Other => Entry::Bad,
+        Some(n) => Some(Entry::Tick(n)),
+        None => None,
     }
 }
 
-fn run_entry(value: &[u8]) -> Entry
+fn run_entry(value: &[u8]) -> Option<Entry>
     ensures { result ≡ entry_in (run_entry (card_number value.now)) }
 {
     let k = card_file::form::card_number(value);
     if k == 0 {
-        return Entry::Bad;
+        return None;
     }
-    Entry::Run(k)
+    Some(Entry::Run(k))
 }
 
 // A value is good only as it is printed again.
-fn change_entry(bank: Bank, element: u32, value: &[u8]) -> Entry
+fn change_entry(bank: Bank, element: u32, value: &[u8]) -> Option<Entry>
     ensures { result ≡ entry_in (change_entry bank element value.now (cell_pattern bank value.now)) }
 {
-    let Form::Pattern(n) = forms::pattern_of(bank, value) else {
-        return Entry::Bad;
+    let Some(n) = forms::pattern_of(bank, value) else {
+        return None;
     };
     let mut printed = [0u8; 11];
     let end = printing::put_value(&mut printed, 0, bank, n as u64);
     if identifiers::same_bytes(value, &printed[..end]) {
-        return Entry::Change(bank, element, n);
+        return Some(Entry::Change(bank, element, n));
     }
-    Entry::Bad
+    None
 }
 
 // Of a line without its end.
-pub fn entry_of(line: &[u8]) -> Entry
+pub fn entry_of(line: &[u8]) -> Option<Entry>
     ensures value { result ≡ entry_in (text_entry line.now) }
     ensures entry_inside { EntryInside result }
 {
     let k = lines::until(line, b'=');
     if k == line.len() {
-        return Entry::Bad;
+        return None;
     }
     let key = &line[..k];
     let from = k + 1;
@@ -74,7 +71,7 @@ pub fn entry_of(line: &[u8]) -> Entry
         return run_entry(value);
     }
     match memory::names::cell_named(key) {
-        Named::Cell(bank, element) => change_entry(bank, element, value),
-        Named::Other => Entry::Bad,
+        Some((bank, element)) => change_entry(bank, element, value),
+        None => None,
     }
 }

@@ -20,31 +20,26 @@ pub mod entry;
 // More bytes than a line prints.
 pub const LINE_ROOM: usize = 64;
 
-// After a line: the tick, and where what was printed ends; or the line is bad.
+// After a good line: the tick, and where what was printed ends.
 #[derive(Clone, Copy)]
-pub enum Step {
-    On(u32, usize),
-    Stop,
+pub struct Step {
+    pub tick: u32,
+    pub end: usize,
 }
 
-// The first of the words of the card with a number; 0 where the file lacks it.
-fn find_card(cards: &[u8], read: &[u32; 323], k: u32) -> usize
+// The first of the words of the card with a number, if the file has it.
+fn find_card(cards: &[u8], read: &[u32; 323], k: u32) -> Option<usize>
     requires { Book cards.now read.now }
     ensures { Finds cards.now read.now (card_of k (cards_in cards.now)) result }
 {
-    let mut p = 3;
-    let mut left = read[2];
-    while p < 323 {
-        if left == 0 {
-            return 0;
-        }
+    let count = read[2] as usize;
+    for card in 0..count {
+        let p = 3 + 5 * card;
         if read[p] == k {
-            return p;
+            return Some(p);
         }
-        p += 5;
-        left -= 1;
     }
-    0
+    None
 }
 
 fn put_unknown(bytes: &mut [u8], k: u32) -> usize
@@ -71,10 +66,9 @@ fn run_card(
     ensures { Goes (after_run k (state_in memory.old tick) (card_of k (cards_in cards.now))) memory.new tick
         bytes.old 0 bytes.new result }
 {
-    let p = find_card(cards, read, k);
-    if p == 0 {
+    let Some(p) = find_card(cards, read, k) else {
         return put_unknown(bytes, k);
-    }
+    };
     let target = read[p + 1] as usize;
     let target_end = target + (read[p + 2] as usize);
     let expr = read[p + 3] as usize;
@@ -93,13 +87,13 @@ fn run_card(
 }
 
 // Of the line at the front of a log, which ends at k.
-pub fn entry_at(rest: &[u8], k: usize) -> Entry
+pub fn entry_at(rest: &[u8], k: usize) -> Option<Entry>
     requires { k ≡ to_end rest.now }
     ensures value { result ≡ entry_in (log_entry_of (take (suc k) rest.now)) }
     ensures entry_inside { EntryInside result }
 {
     if rest.len() <= k {
-        return Entry::Bad;
+        return None;
     }
     entry::entry_of(&rest[..k])
 }
@@ -107,29 +101,29 @@ pub fn entry_at(rest: &[u8], k: usize) -> Entry
 pub fn take_line(
     cards: &[u8],
     read: &[u32; 323],
-    entry: Entry,
+    entry: Option<Entry>,
     tick: u32,
     memory: &mut [u8],
     out: &mut [u8],
     at: usize,
-) -> Step
+) -> Option<Step>
     requires book { Book cards.now read.now }
     requires memory_len { (length memory.old ≡ image_size) × (at + line_room ≤ length out.old) × EntryInside entry }
     ensures { TakesEntry (cards_in cards.now) entry memory.old tick memory.new out.old at
         out.new result }
 {
+    let entry = entry?;
     match entry {
         Entry::Change(bank, element, n) => {
             memory::cells::put(memory, bank, element, n);
-            Step::On(tick, at)
+            Some(Step { tick, end: at })
         }
-        Entry::Tick(t) => Step::On(t, at),
+        Entry::Tick(t) => Some(Step { tick: t, end: at }),
         Entry::Run(k) => {
             let mut bytes = [0u8; LINE_ROOM];
             let m = run_card(cards, read, k, tick, memory, &mut bytes);
             let end = printing::put_all(out, at, &bytes[..m]);
-            Step::On(tick, end)
+            Some(Step { tick, end })
         }
-        Entry::Bad => Step::Stop,
     }
 }

@@ -9,6 +9,7 @@ use lib.Dec.{ltb}
 use lib.ListN.{length, take, drop, length-drop, drop_of_length-le}
 use lib.Seq.{drop-drop, length-sets, length-take-le}
 use borrow.Author.Tests.{lt-ltb, le-ltb, ltb-true, ltb-false}
+use Rattle.std.specs.Prelude.{Option, Some, None}
 use Rattle.words.proofs.Lists.{rest_of}
 use Rattle.memory.specs.Layout.{image_size}
 use Rattle.delivery.specs.declared.Answer.TheVariants.{Refused}
@@ -28,7 +29,6 @@ use Rattle.log_replay.specs.declared.Pause.TheVariants.{Full, End, BadLine}
 use Rattle.log_replay.specs.Replays.{Plays}
 use Rattle.log_lines.specs.declared.entry.Entry.{Entry}
 use Rattle.log_lines.specs.declared.Step.{Step}
-use Rattle.log_lines.specs.declared.Step.TheVariants.{On, Stop}
 use Rattle.log_lines.specs.private.Steps.{entry_in, state_in, Goes, Takes, TakesEntry}
 use Rattle.log_lines.proofs.Steps.{takes-on, takes-stop}
 use Rattle.log_lines.proofs.Cuts.{first_line, behind_first, first-line, entry-bad}
@@ -172,7 +172,7 @@ module _ {cs : List Card} {whole : Replay} {out₀ : List ℕ} {at₀ : ℕ} {lo
   pub long : length out ≡ length out₀
   long = ap length p.puts.bytes ∙ length-sets out₀ 0 p.text
 
-  module _ {k : ℕ} (e : k ≡ to_end (Rest log from)) {x : Entry} (q : x ≡ entry_in (log_entry_of (take (suc k) (Rest log from)))) {memory' out' : List ℕ} {s : Step}
+  module _ {k : ℕ} (e : k ≡ to_end (Rest log from)) {x : Option Entry} (q : x ≡ entry_in (log_entry_of (take (suc k) (Rest log from)))) {memory' out' : List ℕ} {s : Option Step}
       (y : TakesEntry cs x memory t memory' out end out' s) where
     same : log_entry_of (take (suc k) (Rest log from)) ≡ log_entry_of (first_line (drop from log))
     same = ap (λ (n : ℕ). log_entry_of (take (suc n) (Rest log from))) e ∙ ap (λ (l : List ℕ). log_entry_of (first_line l)) (rest_of log from)
@@ -182,13 +182,13 @@ module _ {cs : List Card} {whole : Replay} {out₀ : List ℕ} {at₀ : ℕ} {lo
         (y (log_entry_of (take (suc k) (Rest log from))) q)
 
     module _ (h : from < length log) (r : line_room ≤ length out₀ - end) where
-      pub go_on : {t' next : ℕ} → s ≡ On t' next → length memory' ≡ image_size → Playing cs whole out₀ at₀ log memory' out' (from + (k + 1)) t' next
+      pub go_on : {x : Step} → s ≡ Some x → length memory' ≡ image_size → Playing cs whole out₀ at₀ log memory' out' (from + (k + 1)) x.tick x.end
       go_on g i = again cs whole out₀ at₀ log p h r (e ∙ ap to_end (rest_of log from)) i (takes-on takes g)
 
-      pub unmoved : s ≡ Stop → (memory' ≡ memory) × (out' ≡ out)
+      pub unmoved : s ≡ None → (memory' ≡ memory) × (out' ≡ out)
       unmoved g = let z = takes-stop takes g in (z.1, z.2)
 
-      pub halt : s ≡ Stop → {out'' : List ℕ} {last : ℕ} → Puts out' end out'' last (refusal_lines 16 (at₀ + from))
+      pub halt : s ≡ None → {out'' : List ℕ} {last : ℕ} → Puts out' end out'' last (refusal_lines 16 (at₀ + from))
           → Plays whole memory' out₀ out'' (record { cursor = record { at = at₀ + from; tick = t }; pause = BadLine; written = last })
       halt g {out''} {last} w =
           let z = takes-stop takes g in

@@ -1,7 +1,7 @@
 // Replaying a night (paper 02, request 13): the lines of a log, played with a file of cards.
 #![tactic(auto)]
 
-ghost use Rattle.std.specs.Prelude.{◌≡◌, ◌+◌, ◌^◌, ◌≤◌, ◌<◌, min, length, drop};
+ghost use Rattle.std.specs.Prelude.{◌≡◌, ◌+◌, ◌^◌, ◌≤◌, ◌<◌, length, drop};
 ghost use Rattle.memory.specs.Layout.{image_size};
 ghost use Rattle.lines.specs.private.Steps.{Puts};
 ghost use Rattle.log_laws.specs.Replay.{refusal_lines, replay_from, lent, line_room, after_replay, replay_call};
@@ -10,7 +10,7 @@ ghost use Rattle.log_replay.specs.private.Steps.{done_in, state_from};
 ghost use Rattle.log_replay.specs.Replays.{Plays, call_words, CallGives};
 
 use lines::printing;
-use log_lines::{LINE_ROOM, Step};
+use log_lines::LINE_ROOM;
 use operations::Answer;
 use program::reply;
 
@@ -91,12 +91,12 @@ pub fn replay_lines(
             out,
             end,
         ) {
-            Step::On(t, next) => {
-                tick = t;
-                end = next;
+            Some(step) => {
+                tick = step.tick;
+                end = step.end;
                 from += k + 1;
             }
-            Step::Stop => {
+            None => {
                 let last = put_refusal(out, end, BAD_LINE, at);
                 return Replayed {
                     cursor: ReplayCursor { at, tick },
@@ -130,8 +130,7 @@ fn over(pause: Pause) -> u64
 {
     match pause {
         Pause::Full => 0,
-        Pause::End => 1,
-        Pause::BadLine => 1,
+        Pause::End | Pause::BadLine => 1,
     }
 }
 
@@ -146,12 +145,6 @@ fn begin(memory: &mut [u8], at: u64, tick: u64) -> u32
         return 0;
     }
     (tick % 4294967296) as u32
-}
-
-fn clip(at: u64, n: usize) -> usize
-    ensures { result ≡ min at n }
-{
-    if at < (n as u64) { at as usize } else { n }
 }
 
 // The lines of a call that reaches them.
@@ -171,7 +164,7 @@ fn play(
         memory.new out.old out.new result }
 {
     let tick = begin(memory, words.at, words.tick);
-    let from = clip(words.at, log.len());
+    let from = words.at.min(log.len() as u64) as usize;
     let cursor = ReplayCursor { at: words.at, tick };
     let r = replay_lines(cards, read, &log[from..], cursor, memory, out);
     let pause = r.pause;

@@ -23,12 +23,10 @@ pub struct Turned {
 fn through_last_end(bytes: &[u8]) -> usize
     ensures { result ≡ through_last_end bytes.now }
 {
-    let mut n = bytes.len();
-    while 0 < n {
-        if bytes[n - 1] == b'\n' {
-            return n;
+    for k in (0..bytes.len()).rev() {
+        if bytes[k] == b'\n' {
+            return k + 1;
         }
-        n -= 1;
     }
     0
 }
@@ -52,13 +50,8 @@ fn keep(window: &mut [u8], from: usize, end: usize) -> usize
     requires { (from ≤ end) × (end ≤ length window.old) }
     ensures { Puts window.old 0 window.new result (drop from (take end window.old)) }
 {
-    let n = end - from;
-    let mut i = 0;
-    while i < n {
-        window[i] = window[from + i];
-        i += 1;
-    }
-    i
+    window.copy_within(from..end, 0);
+    end - from
 }
 
 // The lines whose end stands in the window are played, as far as there is room for what they print; the rest goes to its front. The caller writes out what

@@ -1,4 +1,5 @@
 -- What bytes decode to goes over no more than 256 cells: so n instructions count at most n, and 256 for each that goes over a range.
+use Rattle.std.specs.Prelude.{Option, Some, None}
 use mathlib.Core.Path.{◌≡◌, refl, sym, ◌∙◌, subst}
 use mathlib.Core.Bool.{Bool, true, false, cond}
 use mathlib.Core.List.{List}
@@ -7,15 +8,10 @@ use native.Mathlib.Omega.{arith}
 use lib.Dec.{T, eqb, ltb}
 use lib.Ieee.{Float, nan, inf, fin, binary32, of_bits}
 use borrow.Author.Tests.{lt-ltb}
-use Rattle.operators.specs.declared.tables.UnaryOf.{UnaryOf}
-use Rattle.operators.specs.declared.tables.BinaryOf.{BinaryOf}
 use Rattle.operators.specs.Tables.{unary_of, binary_of}
 use Rattle.memory.specs.declared.Bank.{Bank}
-use Rattle.memory.specs.declared.numbers.BankOf.{BankOf}
 use Rattle.memory.specs.Layout.{layout_of}
 use Rattle.memory.specs.Numbers.{bank_numbered}
-use Rattle.totals.specs.declared.tables.TotalOf.{TotalOf}
-use Rattle.totals.specs.declared.tables.MatchOf.{MatchOf}
 use Rattle.totals.specs.Totals.{good_range}
 use Rattle.totals.specs.Numbers.{total_of, match_of}
 use Rattle.totals.proofs.Laws.{total-laws}
@@ -28,6 +24,10 @@ use Rattle.code.specs.private.Classes.{class_of, number_of, of_bank, of_unary, o
 use Rattle.code.proofs.Page.{number-class}
 use Rattle.code.proofs.Parts.{decode-fetched}
 use Rattle.machine.specs.Machine.{range_cells, cost_bound, max_cells, ranges_of}
+use Rattle.totals.specs.declared.TotalOp.{TotalOp}
+use Rattle.totals.specs.declared.MatchOp.{MatchOp}
+use Rattle.operators.specs.declared.BinaryOp.{BinaryOp}
+use Rattle.operators.specs.declared.UnaryOp.{UnaryOp}
 
 -- no more than 256 cells, and none where there is no range
 record Few (i : Instr) : Type 0 where
@@ -43,20 +43,20 @@ either-few : (t : Bool) {i j : Instr} → (t ≡ true → Few i) → Few j → F
 either-few true f g = f refl
 either-few false f g = g
 
-range-few : (f : Bank → ℕ → ℕ → Instr) → ((b : Bank) (i n : ℕ) → range_cells (f b i n) ≡ n) → (x : BankOf) (i n : ℕ) → Few (over_range f x i n)
-range-few f e (BankOf.Is b) i n =
+range-few : (f : Bank → ℕ → ℕ → Instr) → ((b : Bank) (i n : ℕ) → range_cells (f b i n) ≡ n) → (x : (Option Bank)) (i n : ℕ) → Few (over_range f x i n)
+range-few f e (Some b) i n =
     either-few (good_range b i n) (λ g.
     let small = total-laws.range_small b i n (rw g tt) in
     some-few (rw (e b i n) small.0) (rw (e b i n) (omega (arith, small.1)))) (none-few refl)
-range-few f e BankOf.Nothing i n = none-few refl
+range-few f e None i n = none-few refl
 
-total-few : (u : TotalOf) (w : ℕ) → Few (of_total u w)
-total-few (TotalOf.Is o) w = range-few (Total o) (λ b i n. refl) (bank_numbered (range_bank w)) (range_first w) (range_count w)
-total-few TotalOf.Nothing w = none-few refl
+total-few : (u : (Option TotalOp)) (w : ℕ) → Few (of_total u w)
+total-few (Some o) w = range-few (Total o) (λ b i n. refl) (bank_numbered (range_bank w)) (range_first w) (range_count w)
+total-few None w = none-few refl
 
-match-few : (u : MatchOf) (w : ℕ) → Few (of_match u w)
-match-few (MatchOf.Is o) w = range-few (Match o) (λ b i n. refl) (bank_numbered (range_bank w)) (range_first w) (range_count w)
-match-few MatchOf.Nothing w = none-few refl
+match-few : (u : (Option MatchOp)) (w : ℕ) → Few (of_match u w)
+match-few (Some o) w = range-few (Match o) (λ b i n. refl) (bank_numbered (range_bank w)) (range_first w) (range_count w)
+match-few None w = none-few refl
 
 -- ---- the classes that go over no range
 either-none : (t : Bool) (i : Instr) → range_cells i ≡ 0 → range_cells (cond t i Unknown) ≡ 0
@@ -68,21 +68,21 @@ finite-none nan = refl
 finite-none (inf s) = refl
 finite-none (fin s m e) = refl
 
-load-none : (u : BankOf) (w : ℕ) → range_cells (of_bank load_element u w) ≡ 0
-load-none (BankOf.Is b) w = either-none (ltb w (layout_of b).elements) (Load b w) refl
-load-none BankOf.Nothing w = refl
+load-none : (u : (Option Bank)) (w : ℕ) → range_cells (of_bank load_element u w) ≡ 0
+load-none (Some b) w = either-none (ltb w (layout_of b).elements) (Load b w) refl
+load-none None w = refl
 
-indexed-none : (u : BankOf) (w : ℕ) → range_cells (of_bank load_indexed u w) ≡ 0
-indexed-none (BankOf.Is b) w = either-none (eqb w 0) (LoadIndexed b) refl
-indexed-none BankOf.Nothing w = refl
+indexed-none : (u : (Option Bank)) (w : ℕ) → range_cells (of_bank load_indexed u w) ≡ 0
+indexed-none (Some b) w = either-none (eqb w 0) (LoadIndexed b) refl
+indexed-none None w = refl
 
-unary-none : (u : UnaryOf) (w : ℕ) → range_cells (of_unary u w) ≡ 0
-unary-none (UnaryOf.Is o) w = either-none (eqb w 0) (Unary o) refl
-unary-none UnaryOf.Nothing w = refl
+unary-none : (u : (Option UnaryOp)) (w : ℕ) → range_cells (of_unary u w) ≡ 0
+unary-none (Some o) w = either-none (eqb w 0) (Unary o) refl
+unary-none None w = refl
 
-binary-none : (u : BinaryOf) (w : ℕ) → range_cells (of_binary u w) ≡ 0
-binary-none (BinaryOf.Is o) w = either-none (eqb w 0) (Binary o) refl
-binary-none BinaryOf.Nothing w = refl
+binary-none : (u : (Option BinaryOp)) (w : ℕ) → range_cells (of_binary u w) ≡ 0
+binary-none (Some o) w = either-none (eqb w 0) (Binary o) refl
+binary-none None w = refl
 
 abbrev pub is_plain : Class → Bool
 is_plain Class.PushInt = true

@@ -1,4 +1,5 @@
 -- The step of an instruction by its number in a class and its word: what the tests of each class come to.
+use Rattle.std.specs.Prelude.{Option, Some, None}
 use mathlib.Core.Path.{◌≡◌, refl, sym, ap, ◌∙◌}
 use mathlib.Core.Bool.{Bool, true, false, not, ◌||◌, cond, beq}
 use Prim.Native.Nat.{ℕ, ◌-◌, ◌≤◌, ◌<◌}
@@ -11,8 +12,6 @@ use Rattle.values.specs.declared.Value.TheVariants.{Int, Real}
 use Rattle.values.specs.declared.Outcome.{Outcome}
 use Rattle.values.specs.declared.Outcome.TheVariants.{WrongKind}
 use Rattle.operators.specs.declared.UnaryOp.{UnaryOp}
-use Rattle.operators.specs.declared.tables.UnaryOf.{UnaryOf}
-use Rattle.operators.specs.declared.tables.BinaryOf.{BinaryOf}
 use Rattle.operators.specs.Tables.{unary_of}
 use Rattle.operators.specs.Operators.{unary_rule, since_rule, binary_rule, truth_rule}
 use Rattle.operators.specs.Reals.{real_value, real_unary}
@@ -22,7 +21,6 @@ use Rattle.memory.specs.declared.Bank.{Bank}
 use Rattle.memory.specs.declared.Bank.TheVariants.{R}
 use Rattle.memory.specs.declared.Layout.{Layout}
 use Rattle.memory.specs.Layout.{layout_of}
-use Rattle.memory.specs.declared.numbers.BankOf.{BankOf}
 use Rattle.memory.specs.Numbers.{bank_numbered}
 use Rattle.memory.specs.Cells.{real_bank}
 use Rattle.memory.specs.Environment.{Environment, indexed_cell}
@@ -34,6 +32,7 @@ use Rattle.code.proofs.Finite.{finite-pushed, special-unknown}
 use Rattle.machine.specs.declared.Step.{Step}
 use Rattle.machine.specs.private.Steps.{stuck_step, skip_step, push_or_stuck, outcome_step, given_step, step_of, real_part, step_in, bank_step}
 use Rattle.machine.proofs.Barred.{or-false, or-true}
+use Rattle.operators.specs.declared.BinaryOp.{BinaryOp}
 
 -- k is the layout of the bank that the code looks up
 module _ (E : Environment) (h : ℕ) (b : Bank) (d : ℕ) {k : Layout} (is : k ≡ layout_of b) where
@@ -43,7 +42,7 @@ module _ (E : Environment) (h : ℕ) (b : Bank) (d : ℕ) {k : Layout} (is : k �
   pub past-bank : k.elements ≤ d → stuck_step ≡ bank_step E b d h
   past-bank p = rw (le-ltb d (layout_of b).elements (rw is at p))
 
-abbrev pub indexed : BankOf → ℕ → Instr
+abbrev pub indexed : Option Bank → ℕ → Instr
 indexed b = of_bank load_indexed b
 
 -- ---- a word that must be 0
@@ -51,17 +50,17 @@ none_anyway : (t : Bool) → Unknown ≡ cond t Unknown Unknown
 none_anyway true = refl
 none_anyway false = refl
 
-pub zero-indexed : (b : BankOf) (d : ℕ) → indexed b d ≡ if_zero d (indexed b 0)
-zero-indexed (BankOf.Is b) d = refl
-zero-indexed BankOf.Nothing d = none_anyway (eqb d 0)
+pub zero-indexed : (b : (Option Bank)) (d : ℕ) → indexed b d ≡ if_zero d (indexed b 0)
+zero-indexed (Some b) d = refl
+zero-indexed None d = none_anyway (eqb d 0)
 
-pub zero-unary : (u : UnaryOf) (d : ℕ) → of_unary u d ≡ if_zero d (of_unary u 0)
-zero-unary (UnaryOf.Is o) d = refl
-zero-unary UnaryOf.Nothing d = none_anyway (eqb d 0)
+pub zero-unary : (u : (Option UnaryOp)) (d : ℕ) → of_unary u d ≡ if_zero d (of_unary u 0)
+zero-unary (Some o) d = refl
+zero-unary None d = none_anyway (eqb d 0)
 
-pub zero-binary : (u : BinaryOf) (d : ℕ) → of_binary u d ≡ if_zero d (of_binary u 0)
-zero-binary (BinaryOf.Is o) d = refl
-zero-binary BinaryOf.Nothing d = none_anyway (eqb d 0)
+pub zero-binary : (u : (Option BinaryOp)) (d : ℕ) → of_binary u d ≡ if_zero d (of_binary u 0)
+zero-binary (Some o) d = refl
+zero-binary None d = none_anyway (eqb d 0)
 
 -- an outcome that is none, whether or not it is admitted
 wrong-anyway : (t : Bool) → WrongKind ≡ cond t WrongKind WrongKind
@@ -129,17 +128,17 @@ module _ (reals : Bool) (E : Environment) (h : ℕ) (l r : Value) where
   barred-made (fin s m k) e = bars (PushReal (fin s m k)) (ap (λ (t : Bool). t || false) e)
 
   -- ---- of too few values
-  pub short-indexed : (b : BankOf) → h < 1 → stuck_step ≡ made (indexed b 0)
-  short-indexed (BankOf.Is b) p = stuck-in (LoadIndexed b) (rw (lt-ltb h 1 p))
-  short-indexed BankOf.Nothing p = none_made
+  pub short-indexed : (b : Option Bank) → h < 1 → stuck_step ≡ made (indexed b 0)
+  short-indexed (Some b) p = stuck-in (LoadIndexed b) (rw (lt-ltb h 1 p))
+  short-indexed None p = none_made
 
-  pub short-unary : (u : UnaryOf) → h < 1 → stuck_step ≡ made (of_unary u 0)
-  short-unary (UnaryOf.Is o) p = stuck-in (Unary o) (rw (lt-ltb h 1 p))
-  short-unary UnaryOf.Nothing p = none_made
+  pub short-unary : (u : Option UnaryOp) → h < 1 → stuck_step ≡ made (of_unary u 0)
+  short-unary (Some o) p = stuck-in (Unary o) (rw (lt-ltb h 1 p))
+  short-unary None p = none_made
 
-  pub short-binary : (u : BinaryOf) → h < 2 → stuck_step ≡ made (of_binary u 0)
-  short-binary (BinaryOf.Is o) p = stuck-in (Binary o) (rw (lt-ltb h 2 p))
-  short-binary BinaryOf.Nothing p = none_made
+  pub short-binary : (u : Option BinaryOp) → h < 2 → stuck_step ≡ made (of_binary u 0)
+  short-binary (Some o) p = stuck-in (Binary o) (rw (lt-ltb h 2 p))
+  short-binary None p = none_made
 
   pub short-since : h < 1 → stuck_step ≡ made (apply_since 0)
   short-since p = stuck-in Since (rw (lt-ltb h 1 p))
@@ -156,13 +155,13 @@ module _ (reals : Bool) (E : Environment) (h : ℕ) (l r : Value) where
       by true = enough ∙ sym g
       by false = refl
 
-  pub indexed-made : (a : ℕ) (b : Bank) {y : Outcome} {x : Step} → bank_numbered a ≡ BankOf.Is b → 1 ≤ h
+  pub indexed-made : (a : ℕ) (b : Bank) {y : Outcome} {x : Step} → bank_numbered a ≡ Some b → 1 ≤ h
       → y ≡ admitted reals (real_bank b || real_value r) (indexed_cell E b r) → x ≡ outcome_step (h - 1) y → x ≡ made (indexed (bank_numbered a) 0)
-  indexed-made a b e = worked 1 (indexed_cell E b r) {j = LoadIndexed b} (ap (λ (u : BankOf). indexed u 0) e) refl
+  indexed-made a b e = worked 1 (indexed_cell E b r) {j = LoadIndexed b} (ap (λ (u : (Option Bank)). indexed u 0) e) refl
 
-  pub unary-made : (a : ℕ) (o : UnaryOp) {y : Outcome} {x : Step} → unary_of a ≡ UnaryOf.Is o → 1 ≤ h
+  pub unary-made : (a : ℕ) (o : UnaryOp) {y : Outcome} {x : Step} → unary_of a ≡ Some o → 1 ≤ h
       → y ≡ admitted reals (real_unary o || real_value r) (unary_rule o r) → x ≡ outcome_step (h - 1) y → x ≡ made (of_unary (unary_of a) 0)
-  unary-made a o e = worked 1 (unary_rule o r) {j = Unary o} (ap (λ (u : UnaryOf). of_unary u 0) e) refl
+  unary-made a o e = worked 1 (unary_rule o r) {j = Unary o} (ap (λ (u : (Option UnaryOp)). of_unary u 0) e) refl
 
   -- a real is no operand of SINCE in the full box either
   since-admitted : (k : ℕ) (v : Value) → since_rule k v ≡ admitted reals (real_value v) (since_rule k v)
@@ -173,10 +172,10 @@ module _ (reals : Bool) (E : Environment) (h : ℕ) (l r : Value) where
   since-made p d e = worked 1 (since_rule E.tick r) {i = Since} {j = Since} refl refl p (d ∙ since-admitted E.tick r) e
 
   -- the operator of a number, which may be none
-  pub binary-made : (u : BinaryOf) {y : Outcome} {x : Step} → 2 ≤ h → y ≡ admitted reals (real_value l || real_value r) (binary_numbered u l r)
+  pub binary-made : (u : (Option BinaryOp)) {y : Outcome} {x : Step} → 2 ≤ h → y ≡ admitted reals (real_value l || real_value r) (binary_numbered u l r)
       → x ≡ outcome_step (h - 2) y → x ≡ made (of_binary u 0)
-  binary-made (BinaryOf.Is o) p d e = worked 2 (binary_rule o l r) {i = Binary o} {j = Binary o} refl refl p d e
-  binary-made BinaryOf.Nothing p d e =
+  binary-made (Some o) p d e = worked 2 (binary_rule o l r) {i = Binary o} {j = Binary o} refl refl p d e
+  binary-made None p d e =
       e ∙ ap (outcome_step (h - 2)) (d ∙ sym (wrong-anyway (reals || not (real_value l || real_value r)))) ∙ none_made
 
   -- ---- jumps, where b is the truth that the code finds
@@ -195,16 +194,16 @@ module _ (reals : Bool) (E : Environment) (h : ℕ) (l r : Value) where
         full-step ∙ passes (JumpIf t d) is
 
   -- ---- loads
-  pub from-bank : (a d : ℕ) (b : Bank) {x : Step} → bank_numbered a ≡ BankOf.Is b → (reals || not (real_bank b)) ≡ true → x ≡ bank_step E b d h
+  pub from-bank : (a d : ℕ) (b : Bank) {x : Step} → bank_numbered a ≡ Some b → (reals || not (real_bank b)) ≡ true → x ≡ bank_step E b d h
       → x ≡ made (of_bank load_element (bank_numbered a) d)
-  from-bank a d b e p f = f ∙ by (ltb d (layout_of b).elements) ∙ ap (λ (u : BankOf). made (of_bank load_element u d)) (sym e)
+  from-bank a d b e p f = f ∙ by (ltb d (layout_of b).elements) ∙ ap (λ (u : (Option Bank)). made (of_bank load_element u d)) (sym e)
     where
       by : (t : Bool) → cond t (outcome_step h (E.cell b d)) stuck_step ≡ made (cond t (Load b d) Unknown)
       by true = passes (Load b d) (ap (λ (t : Bool). reals || not t) (or-false (real_bank b)) ∙ p)
       by false = none_made
 
-  pub from-reals : (a d : ℕ) → bank_numbered a ≡ BankOf.Is R → reals ≡ false → stuck_step ≡ made (of_bank load_element (bank_numbered a) d)
-  from-reals a d e p = by (ltb d (layout_of R).elements) ∙ ap (λ (u : BankOf). made (of_bank load_element u d)) (sym e)
+  pub from-reals : (a d : ℕ) → bank_numbered a ≡ Some R → reals ≡ false → stuck_step ≡ made (of_bank load_element (bank_numbered a) d)
+  from-reals a d e p = by (ltb d (layout_of R).elements) ∙ ap (λ (u : (Option Bank)). made (of_bank load_element u d)) (sym e)
     where
       by : (t : Bool) → stuck_step ≡ made (cond t (Load R d) Unknown)
       by true = bars (Load R d) (ap (λ (t : Bool). t || false) p)
@@ -212,5 +211,5 @@ module _ (reals : Bool) (E : Environment) (h : ℕ) (l r : Value) where
 
   pub no-load : (a d : ℕ) → 6 ≤ a → stuck_step ≡ made (of_bank load_element (bank_numbered a) d)
   no-load a d p =
-      let e : bank_numbered a ≡ BankOf.Nothing = rw (le-ltb a 6 p) in
-      none_made ∙ ap (λ (u : BankOf). made (of_bank load_element u d)) (sym e)
+      let e : bank_numbered a ≡ None = rw (le-ltb a 6 p) in
+      none_made ∙ ap (λ (u : (Option Bank)). made (of_bank load_element u d)) (sym e)

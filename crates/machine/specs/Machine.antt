@@ -7,7 +7,6 @@ use Rattle.std.specs.Bool.{beq}
 use Rattle.values.specs.declared.Value.{Value}
 use Rattle.values.specs.declared.Value.TheVariants.{Int, Real}
 use Rattle.values.specs.declared.Outcome.{Outcome}
-use Rattle.values.specs.declared.Outcome.TheVariants as Outcome
 use Rattle.values.specs.Patterns.{signed_of}
 use Rattle.operators.specs.Operators.{unary_rule, since_rule, binary_rule, truth_rule}
 use Rattle.memory.specs.Environment.{Environment, indexed_cell, memory_at}

@@ -2,27 +2,24 @@
 // An instruction is performed from the number of its eight bytes, without being made an `Instr` first: enums pass through memory.
 #![tactic(auto)]
 
-ghost use Rattle.std.specs.Prelude.{◌≡◌, ◌+◌, ◌*◌, ◌-◌, ◌≤◌, ◌<◌, Bool};
+ghost use Rattle.std.specs.Prelude.{◌≡◌, ◌+◌, ◌*◌, ◌-◌, ◌≤◌, ◌<◌, Bool, MatchOption};
 ghost use Rattle.memory.specs.Environment.{memory_of};
 ghost use Rattle.code.specs.declared.Instr.TheVariants.{JumpIf};
 ghost use Rattle.code.specs.declared.Class.TheVariants.{PushInt, PushReal, Jump, Tick, Since, Load, LoadIndexed, Unary, Binary};
-ghost use Rattle.totals.specs.private.Admitted.{total_in, match_in};
 ghost use Rattle.totals.specs.Numbers.{total_of, match_of};
 ghost use Rattle.code.specs.Instructions.{word_of};
 ghost use Rattle.code.specs.private.Classes.{number_of, instr_in};
 ghost use Rattle.machine.specs.Machine.{max_cells, runs_at};
 ghost use Rattle.machine.specs.Profile.{runs_in};
-ghost use Rattle.machine.specs.private.Steps.{minimum, push_or_stuck, skip_step, stop_step, stuck_step, outcome_step, bank_step};
-ghost use Rattle.machine.specs.private.Steps.{word_visit, total_visit, match_visit, on_last, IsVisit};
+ghost use Rattle.machine.specs.private.Steps.{push_or_stuck, skip_step, stop_step, stuck_step, outcome_step, bank_step};
+ghost use Rattle.machine.specs.private.Steps.{NoRange, IsRange, total_visit, match_visit, on_last, IsVisit};
 ghost use Rattle.machine.specs.private.Steps.{IsStep, IsStepOn, IsStepOnBoth, IsLoad, IsLoadOn, IsTick, IsTickOn, stuck_at, failed_at, finished_at};
 
 use code::Class;
-use memory::numbers::BankOf;
 use memory::{Bank, numbers};
-use operators::tables::UnaryOf;
 use operators::{numbered, tables};
-use totals::tables::{MatchOf, TotalOf};
-use totals::{MatchOp, TotalOp, Visited};
+use totals::Visited;
+use totals::ranges::Cells;
 use values::{Fault, Outcome, Value};
 
 // How a run ends: with the one value held, with a fault, or stuck: short of a value, given one of a wrong kind, past 128 held, at
@@ -194,8 +191,8 @@ fn load_indexed(w: u64, image: &[u8], h: u32, v: Value, reals: bool) -> Step
         return stuck_step();
     }
     match numbers::bank_numbered(code::number_of(w)) {
-        BankOf::Is(b) => outcome_step(h - 1, memory::cells::read_indexed_in(image, b, v, reals)),
-        BankOf::Nothing => stuck_step(),
+        Some(b) => outcome_step(h - 1, memory::cells::read_indexed_in(image, b, v, reals)),
+        None => stuck_step(),
     }
 }
 
@@ -209,8 +206,8 @@ fn unary(w: u64, h: u32, v: Value, reals: bool) -> Step
         return stuck_step();
     }
     match tables::unary_of(code::number_of(w)) {
-        UnaryOf::Is(o) => outcome_step(h - 1, operators::unary_in(o, v, reals)),
-        UnaryOf::Nothing => stuck_step(),
+        Some(o) => outcome_step(h - 1, operators::unary_in(o, v, reals)),
+        None => stuck_step(),
     }
 }
 
@@ -276,48 +273,25 @@ fn since(w: u64, h: u32, tick: u32, v: Value) -> Step
     outcome_step(h - 1, operators::since(tick, v))
 }
 
-// Over the range of the word, which must lie within its bank.
-fn total_over(o: TotalOp, w: u64, image: &[u8], reals: bool) -> Visited
-    ensures { IsVisit image.now (λ E. word_visit (total_in reals E o) (word_of w)) result }
+// The cells of a word's range, which must lie within its bank.
+fn range_of(word: u32) -> Option<Cells>
+    ensures { MatchOption result (NoRange word) (λ cells. IsRange word cells.bank cells.first cells.count) }
 {
-    let word = code::word_of(w);
-    let first = code::range_first(word);
-    let count = code::range_count(word);
     match numbers::bank_numbered(code::range_bank(word)) {
-        BankOf::Is(b) => {
-            if totals::ranges::is_good(b, first, count) {
-                return totals::total_in(o, image, b, first, count, reals);
-            }
-            totals::no_visit()
-        }
-        BankOf::Nothing => totals::no_visit(),
+        Some(bank) => Cells::new(bank, code::range_first(word), code::range_count(word)),
+        None => None,
     }
 }
 
 fn total(w: u64, image: &[u8], reals: bool) -> Visited
     ensures { IsVisit image.now (λ E. total_visit reals E (total_of (number_of w)) (word_of w)) result }
 {
-    match totals::tables::total_of(code::number_of(w)) {
-        TotalOf::Is(o) => total_over(o, w, image, reals),
-        TotalOf::Nothing => totals::no_visit(),
-    }
-}
-
-// As `total_over`, of cells compared with v.
-fn match_over(o: MatchOp, w: u64, image: &[u8], v: Value, reals: bool) -> Visited
-    ensures { IsVisit image.now (λ E. word_visit (match_in reals E o v) (word_of w)) result }
-{
-    let word = code::word_of(w);
-    let first = code::range_first(word);
-    let count = code::range_count(word);
-    match numbers::bank_numbered(code::range_bank(word)) {
-        BankOf::Is(b) => {
-            if totals::ranges::is_good(b, first, count) {
-                return totals::matching_in(o, image, b, first, count, v, reals);
-            }
-            totals::no_visit()
-        }
-        BankOf::Nothing => totals::no_visit(),
+    let Some(o) = totals::tables::total_of(code::number_of(w)) else {
+        return totals::no_visit();
+    };
+    match range_of(code::word_of(w)) {
+        Some(cells) => totals::total_in(o, image, cells, reals),
+        None => totals::no_visit(),
     }
 }
 
@@ -328,9 +302,12 @@ fn matching(w: u64, image: &[u8], h: u32, v: Value, reals: bool) -> Visited
     if h < 1 {
         return totals::no_visit();
     }
-    match totals::tables::match_of(code::number_of(w)) {
-        MatchOf::Is(o) => match_over(o, w, image, v, reals),
-        MatchOf::Nothing => totals::no_visit(),
+    let Some(o) = totals::tables::match_of(code::number_of(w)) else {
+        return totals::no_visit();
+    };
+    match range_of(code::word_of(w)) {
+        Some(cells) => totals::matching_in(o, image, cells, v, reals),
+        None => totals::no_visit(),
     }
 }
 
@@ -365,19 +342,6 @@ fn from_top(h: u32, k: u32) -> usize
     ((h + (128 - k)) % 128) as usize
 }
 
-// The values that are left of h when the last is taken.
-fn less_one(h: u32) -> u32
-    ensures { result ≡ h - 1 }
-{
-    if h < 1 { 0 } else { h - 1 }
-}
-
-fn min(a: usize, b: usize) -> usize
-    ensures { result ≡ minimum a b }
-{
-    if a < b { a } else { b }
-}
-
 // Past the instructions that the code has: at the end of n of them, beyond it after a jump, or before it where the code has fewer and
 // the next is none. h values are held, and the first of them is v.
 fn finished(n: usize, place: usize, h: u32, v: Value, count: usize) -> Ran
@@ -410,7 +374,7 @@ pub fn run_in(code: &[u8], n: usize, image: &[u8], tick: u32, reals: bool) -> Ra
     let mut h: u32 = 0;
     let mut place: u32 = 0;
     let mut count: u32 = 0;
-    let there = min(n, code.len() / 8) as u32;
+    let there = n.min(code.len() / 8) as u32;
     while place < there {
         let w = code::fetch(code, place as usize);
         count += 1;
@@ -436,7 +400,7 @@ pub fn run_in(code: &[u8], n: usize, image: &[u8], tick: u32, reals: bool) -> Ra
                 let visited = matching(w, image, h, stack[from_top(h, 1)], reals);
                 count += visited.cells;
                 let result = visited.result;
-                outcome_step(less_one(h), result)
+                outcome_step(h.saturating_sub(1), result)
             }
             Class::Unknown => stuck_step(),
         };

@@ -1,5 +1,6 @@
 -- What a store and a flag do to an image of any layout: a number is put into a cell, or a flag is set, or, in an image of another size, nothing.
 -- What is written to distinct places commutes. Assumes nothing.
+use Rattle.std.specs.Prelude.{Result, Ok, Err}
 use mathlib.Core.Path.{◌≡◌, refl, sym}
 use mathlib.Core.List.{List}
 use Prim.Native.Nat.{ℕ, ◌<◌}
@@ -12,8 +13,6 @@ use Rattle.values.specs.declared.Value.{Value}
 use Rattle.values.specs.declared.Fault.{Fault}
 use Rattle.values.specs.declared.Fault.TheVariants.{IndexError}
 use Rattle.memory.specs.declared.Bank.{Bank}
-use Rattle.memory.specs.declared.store.Encoded.{Encoded}
-use Rattle.memory.specs.declared.store.Encoded.TheVariants.{Pattern, Stopped}
 use Rattle.memory.specs.Layout.{layout_of, ImageLayout}
 use Rattle.memory.specs.Store.{encode_cell, with_flag_in, write_in, store_in}
 use Rattle.memory.specs.Laws.{Distinct, Holdable, LayoutLaws}
@@ -41,9 +40,9 @@ module _ (F : ImageLayout) where
   after s (flag f) = set s (F.flag f) 1
 
 -- ---- the effect of a store
-of_encoded : (b : Bank) (i : ℕ) → i < (layout_of b).elements → (e : Encoded) → ((p : ℕ) → e ≡ Pattern p → Holdable b p) → Effect
-of_encoded b i h (Pattern p) k = cell b i p h (k p refl)
-of_encoded b i h (Stopped f) k = flag f
+of_encoded : (b : Bank) (i : ℕ) → i < (layout_of b).elements → (e : (Result ℕ Fault)) → ((p : ℕ) → e ≡ Ok p → Holdable b p) → Effect
+of_encoded b i h (Ok p) k = cell b i p h (k p refl)
+of_encoded b i h (Err f) k = flag f
 
 of_element : (b : Bank) (i : ℕ) → Value → Dec (i < (layout_of b).elements) → Effect
 of_element b i v (yes h) = of_encoded b i h (encode_cell b v) (λ p. holdable b v p)
@@ -57,11 +56,11 @@ pub data Writes (b : Bank) (i : ℕ) : Effect → Type 0 where
   cell : {n : ℕ} {h : i < (layout_of b).elements} {k : Holdable b n} → Writes b i (Effect.cell b i n h k)
   flag : {f : Fault} → Writes b i (Effect.flag f)
 
-encoded-writes : (b : Bank) (i : ℕ) (h : i < (layout_of b).elements) (e : Encoded) (k : (p : ℕ) → e ≡ Pattern p → Holdable b p)
+encoded-writes : (b : Bank) (i : ℕ) (h : i < (layout_of b).elements) (e : (Result ℕ Fault)) (k : (p : ℕ) → e ≡ Ok p → Holdable b p)
     → Writes b i (of_encoded b i h e k)
 unfolding of_encoded
-encoded-writes b i h (Pattern p) k = Writes.cell
-encoded-writes b i h (Stopped f) k = Writes.flag
+encoded-writes b i h (Ok p) k = Writes.cell
+encoded-writes b i h (Err f) k = Writes.flag
 
 element-writes : (b : Bank) (i : ℕ) (v : Value) (d : Dec (i < (layout_of b).elements)) → Writes b i (of_element b i v d)
 unfolding of_element
@@ -100,11 +99,11 @@ module _ (F : ImageLayout) (L : LayoutLaws F) where
   pub flagged : (s : List ℕ) (f : Fault) → length s ≡ F.size → with_flag_in F s f ≡ after F s (flag f)
   flagged s f e = rw (eq-eqb (length s) F.size e)
 
-  encoded : (s : List ℕ) (b : Bank) (i : ℕ) (h : i < (layout_of b).elements) (x : Encoded) (k : (p : ℕ) → x ≡ Pattern p → Holdable b p) → length s ≡ F.size
+  encoded : (s : List ℕ) (b : Bank) (i : ℕ) (h : i < (layout_of b).elements) (x : (Result ℕ Fault)) (k : (p : ℕ) → x ≡ Ok p → Holdable b p) → length s ≡ F.size
       → write_in F s b i x ≡ after F s (of_encoded b i h x k)
   unfolding of_encoded
-  encoded s b i h (Pattern p) k e = refl
-  encoded s b i h (Stopped f) k e = flagged s f e
+  encoded s b i h (Ok p) k e = refl
+  encoded s b i h (Err f) k e = flagged s f e
 
   at-element : (s : List ℕ) (b : Bank) (i : ℕ) (v : Value) → length s ≡ F.size → (d : Dec (i < (layout_of b).elements))
       → store_in F s b i v ≡ after F s (of_element b i v d)

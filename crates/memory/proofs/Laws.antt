@@ -1,4 +1,5 @@
 -- The packed image obeys `LayoutLaws`, and so `MemoryLaws`; and `ByteLaws`.
+use Rattle.std.specs.Prelude.{Ok}
 use mathlib.Core.Path.{◌≡◌, refl}
 use mathlib.Core.Logic.{◌≢◌}
 use mathlib.Core.Bool.{Bool, true, false, cond}
@@ -11,7 +12,6 @@ use lib.Seq.{get_or-set_other}
 use Rattle.values.specs.declared.Value.{Value}
 use Rattle.values.specs.declared.Fault.{Fault}
 use Rattle.memory.specs.declared.Bank.{Bank}
-use Rattle.memory.specs.declared.store.Encoded.TheVariants.{Pattern}
 use Rattle.memory.specs.Layout.{image_size, flag_at, packed, has_cell}
 use Rattle.memory.specs.Store.{encode_cell, with_flag, store_image}
 use Rattle.memory.specs.Laws.{MemoryLaws, InBlock, ByteLaws}
@@ -23,7 +23,7 @@ pub use Rattle.memory.proofs.Packed.{packed-laws}
 pub memory-laws : MemoryLaws packed
 memory-laws = memory-laws-of packed packed-laws
 
-others_kept : (s : List ℕ) (b : Bank) (i : ℕ) (v : Value) (p k : ℕ) → encode_cell b v ≡ Pattern p → T (has_cell s b i)
+others_kept : (s : List ℕ) (b : Bank) (i : ℕ) (v : Value) (p k : ℕ) → encode_cell b v ≡ Ok p → T (has_cell s b i)
     → (InBlock b i k → ⊥) → get_or (store_image s b i v) k 0 ≡ get_or s k 0
 others_kept s b i v p k e h w = rw (is_true (has_cell s b i) h, e) (byte-kept s b i p k w)
 

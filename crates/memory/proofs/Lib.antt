@@ -9,3 +9,4 @@ pub mod Runs
 pub mod Positions
 mod Readings
 mod Representations
+mod FourBytes

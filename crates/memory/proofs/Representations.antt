@@ -1,4 +1,5 @@
 -- A value that a bank holds as it is has a pattern there that reads as the value.
+use Rattle.std.specs.Prelude.{Ok}
 use mathlib.Core.Path.{◌≡◌, refl, ap, subst, ◌∙◌}
 use mathlib.Core.Bool.{true}
 use Prim.Native.Nat.{ℕ}
@@ -20,7 +21,6 @@ use Rattle.values.proofs.Laws.{pattern-laws}
 use Rattle.values.proofs.Ranges.{sfits-range}
 use Rattle.operators.specs.Laws.{Proper}
 use Rattle.memory.specs.declared.Bank.{Bank}
-use Rattle.memory.specs.declared.store.Encoded.TheVariants.{Pattern}
 use Rattle.memory.specs.Cells.{finite_or_fault, cell_value}
 use Rattle.memory.specs.Store.{encode_cell}
 use Rattle.memory.specs.Laws.{Representable, off, on, unsigned, signed, integer, real}
@@ -30,7 +30,7 @@ use Rattle.memory.proofs.cells.Signs.{signed_range}
 pub record Represents (b : Bank) (v : Value) : Type 0 where
   pub proper : Proper v
   pub pattern : ℕ
-  pub written : encode_cell b v ≡ Pattern pattern
+  pub written : encode_cell b v ≡ Ok pattern
   pub read : cell_value b pattern ≡ Done v
 
 proper-int : (z : ℤ) → in_range z ≡ true → Proper (Int z)
@@ -49,7 +49,7 @@ represents (unsigned n h) =
     record {
       proper = proper-int (pos n) (sfits-range (pos n) (record { sfits = omega arith }));
       pattern = n;
-      written = ap Pattern (mod-eq_of_lt h);
+      written = ap Ok (mod-eq_of_lt h);
       read = refl;
     }
 represents (signed z h) =

@@ -1,4 +1,5 @@
 -- Reading and storing in an image of any layout that keeps `LayoutLaws`. Assumes nothing.
+use Rattle.std.specs.Prelude.{Ok}
 use mathlib.Core.Path.{◌≡◌, refl, sym, ap, ◌∙◌}
 use mathlib.Core.Logic.{◌≢◌}
 use mathlib.Core.Bool.{Bool, true, false, cond}
@@ -16,7 +17,6 @@ use Rattle.values.specs.declared.Fault.TheVariants.{IndexError}
 use Rattle.values.specs.declared.Outcome.TheVariants as Outcome
 use Rattle.operators.specs.Laws.{Proper}
 use Rattle.memory.specs.declared.Bank.{Bank}
-use Rattle.memory.specs.declared.store.Encoded.TheVariants.{Pattern}
 use Rattle.memory.specs.Layout.{layout_of, ImageLayout, has_cell_in}
 use Rattle.memory.specs.Cells.{cell_value, read_in}
 use Rattle.memory.specs.Store.{encode_cell, with_flag_in, store_in}
@@ -67,7 +67,7 @@ module _ (F : ImageLayout) (L : LayoutLaws F) where
       by e g (Writes.cell {n} {h} {k}) = L.get_other s b i n c j e h g k d
       by e g (Writes.flag {f}) = L.get_flag s f c j e g
 
-  read_stored : (s : List ℕ) (b : Bank) (i : ℕ) (v : Value) (p : ℕ) → T (has_cell_in F s b i) → Proper v → encode_cell b v ≡ Pattern p
+  read_stored : (s : List ℕ) (b : Bank) (i : ℕ) (v : Value) (p : ℕ) → T (has_cell_in F s b i) → Proper v → encode_cell b v ≡ Ok p
       → read_in F (store_in F s b i v) b i ≡ cell_value b p
   read_stored s b i v p h q e =
       let put : store_in F s b i v ≡ F.put s b i p = rw (is_true (has_cell_in F s b i) h, e) in

@@ -1,6 +1,6 @@
 -- Reading a cell (paper 01; of its image "any non-zero byte reads 1", since Ask 9 a bit is 0 or 1): "V0-V255 unsigned 16; N0-N255 signed 16; D0-D255 signed
 -- 32; R0-R255 singles"; "Reading an R cell that holds an infinity or NaN is 13." An element that is not there is 14.
-use Rattle.std.specs.Prelude.{Bool, not, cond, List, ℕ, eqb, ℤ, pos, Float}
+use Rattle.std.specs.Prelude.{Bool, not, cond, List, ℕ, eqb, ℤ, pos, Float, Result, Ok, Err}
 use Rattle.std.specs.Float.Ieee as Ieee
 use Rattle.std.specs.Float.{nan, inf, fin, binary32}
 use Rattle.values.specs.declared.Kind.{Kind}
@@ -11,13 +11,12 @@ use Rattle.values.specs.declared.Fault.TheVariants.{OutOfRange, IndexError}
 use Rattle.values.specs.declared.Outcome.{Outcome}
 use Rattle.values.specs.declared.Outcome.TheVariants.{Done, Stopped}
 use Rattle.values.specs.Patterns.{signed_of}
-use Rattle.operators.specs.declared.Position.{Position}
-use Rattle.operators.specs.declared.Position.TheVariants as P
 use Rattle.operators.specs.Operators.{index_rule}
 use Rattle.operators.specs.Kinds.{is_int}
 use Rattle.memory.specs.declared.Bank.{Bank}
 use Rattle.memory.specs.declared.Bank.TheVariants.{X, C, «V», N, D, R}
 use Rattle.memory.specs.Layout.{layout_of, ImageLayout, packed, has_cell_in}
+use Rattle.values.specs.declared.Fault.{Fault}
 
 -- "Bits, V, N, D and plain numerals are integers."
 abbrev pub bank_kind : Bank → Kind
@@ -54,13 +53,13 @@ cell_value D n = Done (Int (signed_of 32 n))
 cell_value R n = real_cell n
 
 -- the element of a bank that an index names
-abbrev pub position_rule : Bank → Value → Position
+abbrev pub position_rule : Bank → Value → Result ℕ Fault
 position_rule b v = index_rule (layout_of b).elements v
 
 -- what reads a bank's cells, at a position; without one, the index's fault
-abbrev pub at_position : (ℕ → Outcome) → Position → Outcome
-at_position cell (P.At i) = cell i
-at_position cell (P.Stopped f) = Stopped f
+abbrev pub at_position : (ℕ → Outcome) → Result ℕ Fault → Outcome
+at_position cell (Ok i) = cell i
+at_position cell (Err f) = Stopped f
 
 module _ (F : ImageLayout) where
   abbrev pub read_in : List ℕ → Bank → ℕ → Outcome

@@ -1,6 +1,6 @@
 -- What holds of reading and storing, for the layers above. `LayoutLaws` speaks of the numbers that cells hold, in an image of any layout; a layout that
 -- keeps it keeps `MemoryLaws` (proofs/Rules.antt). proofs/Laws.antt proves both of the packed image, and `ByteLaws`.
-use Rattle.std.specs.Prelude.{◌≡◌, ◌≢◌, ◌⊎◌, List, ℕ, ◌+◌, ◌%◌, ◌^◌, ◌≤◌, ◌<◌, T, ℤ, pos, Float, length, get_or, set}
+use Rattle.std.specs.Prelude.{◌≡◌, ◌≢◌, ◌⊎◌, List, ℕ, ◌+◌, ◌%◌, ◌^◌, ◌≤◌, ◌<◌, T, ℤ, pos, Float, length, get_or, set, Ok}
 use Rattle.reals.specs.Singles.{Single}
 use Rattle.words.specs.Laws.{Bytes}
 use Rattle.values.specs.declared.Value.{Value}
@@ -12,7 +12,6 @@ use Rattle.values.specs.Laws.{in_bits}
 use Rattle.operators.specs.Laws.{Proper, OfKind, AllProper}
 use Rattle.memory.specs.declared.Bank.{Bank}
 use Rattle.memory.specs.declared.Bank.TheVariants.{X, C, «V», N, D, R}
-use Rattle.memory.specs.declared.store.Encoded.TheVariants.{Pattern}
 use Rattle.memory.specs.Layout.{layout_of, flag_at, block_of, block_at, ImageLayout, has_cell_in, has_cell}
 use Rattle.memory.specs.Cells.{bank_kind, cell_value, read_in, indexed_in}
 use Rattle.memory.specs.Store.{encode_cell, with_flag_in, store_in, with_flag, store_image}
@@ -70,12 +69,12 @@ pub data Representable : Bank → Value → Type 0 where
 
 pub record MemoryLaws (F : ImageLayout) : Type 0 where
   -- a store then read gives what the bank holds of the value; every other cell reads as before, and so after a flag is set
-  pub read_stored : (s : List ℕ) (b : Bank) (i : ℕ) (v : Value) (p : ℕ) → T (has_cell_in F s b i) → Proper v → encode_cell b v ≡ Pattern p
+  pub read_stored : (s : List ℕ) (b : Bank) (i : ℕ) (v : Value) (p : ℕ) → T (has_cell_in F s b i) → Proper v → encode_cell b v ≡ Ok p
       → read_in F (store_in F s b i v) b i ≡ cell_value b p
   pub read_other : (s : List ℕ) (b : Bank) (i : ℕ) (c : Bank) (j : ℕ) (v : Value) → Distinct b i c j → read_in F (store_in F s b i v) c j ≡ read_in F s c j
   pub read_flagged : (s : List ℕ) (f : Fault) (c : Bank) (j : ℕ) → read_in F (with_flag_in F s f) c j ≡ read_in F s c j
   -- what a bank holds of a value can be put into its cells; the image keeps its length
-  pub holdable : (b : Bank) (v : Value) (p : ℕ) → encode_cell b v ≡ Pattern p → Holdable b p
+  pub holdable : (b : Bank) (v : Value) (p : ℕ) → encode_cell b v ≡ Ok p → Holdable b p
   pub same_length : (s : List ℕ) (b : Bank) (i : ℕ) (v : Value) → length (store_in F s b i v) ≡ length s
   -- a cell of bytes reads a proper value of its bank's kind, or a fault
   pub read_proper : (s : List ℕ) (b : Bank) (i : ℕ) → Bytes s → AllProper (read_in F s b i)
@@ -111,6 +110,6 @@ pub record ByteLaws : Type 0 where
       → OneBlock b i c j
   pub no_flag : (b : Bank) (i : ℕ) (f : Fault) → i < (layout_of b).elements → InBlock b i (flag_at f) → ⊥
   -- a store that is done changes the block's bytes only, a flag its own
-  pub others_kept : (s : List ℕ) (b : Bank) (i : ℕ) (v : Value) (p k : ℕ) → encode_cell b v ≡ Pattern p → T (has_cell s b i)
+  pub others_kept : (s : List ℕ) (b : Bank) (i : ℕ) (v : Value) (p k : ℕ) → encode_cell b v ≡ Ok p → T (has_cell s b i)
       → (InBlock b i k → ⊥) → get_or (store_image s b i v) k 0 ≡ get_or s k 0
   pub flag_rest : (s : List ℕ) (f : Fault) (k : ℕ) → k ≢ flag_at f → get_or (with_flag s f) k 0 ≡ get_or s k 0

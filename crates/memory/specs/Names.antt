@@ -1,25 +1,21 @@
 -- Names of cells (paper 01): "a bank letter and a decimal number without a leading zero (`0` itself is good)", within its bank; and answer 2: "target is
 -- not exactly one word that is a C, V, N, D or R cell, no spaces".
-use Rattle.std.specs.Prelude.{Bool, true, false, ◌&&◌, cond, List, [], ◌∷◌, ℕ, ◌+◌, ◌-◌, ◌*◌, ◌^◌, eqb, leb, ltb}
+use Rattle.std.specs.Prelude.{Bool, true, false, ◌&&◌, cond, List, [], ◌∷◌, ℕ, ◌+◌, ◌-◌, ◌*◌, ◌^◌, eqb, leb, ltb, Option, Some, None}
 use Rattle.memory.specs.declared.Bank.TheVariants.{X, C, «V», N, D, R}
-use Rattle.memory.specs.declared.names.Letter.{Letter}
-use Rattle.memory.specs.declared.names.Letter.TheVariants as L
-use Rattle.memory.specs.declared.names.Number.{Number}
-use Rattle.memory.specs.declared.names.Named.{Named}
-use Rattle.memory.specs.declared.names.Named.TheVariants as A
 use Rattle.memory.specs.Layout.{layout_of}
 use Rattle.words.specs.Ascii.{byte}
+use Rattle.memory.specs.declared.Bank.{Bank}
 
 -- the six letters
-unfoldable pub letter_bank : ℕ → Letter
+unfoldable pub letter_bank : ℕ → Option Bank
 letter_bank c =
-    cond (eqb c (byte "X")) (L.Of X)
-    (cond (eqb c (byte "C")) (L.Of C)
-    (cond (eqb c (byte "V")) (L.Of «V»)
-    (cond (eqb c (byte "N")) (L.Of N)
-    (cond (eqb c (byte "D")) (L.Of D)
-    (cond (eqb c (byte "R")) (L.Of R)
-    L.Other)))))
+    cond (eqb c (byte "X")) (Some X)
+    (cond (eqb c (byte "C")) (Some C)
+    (cond (eqb c (byte "V")) (Some «V»)
+    (cond (eqb c (byte "N")) (Some N)
+    (cond (eqb c (byte "D")) (Some D)
+    (cond (eqb c (byte "R")) (Some R)
+    None)))))
 
 abbrev pub is_digit : ℕ → Bool
 is_digit c = leb (byte "0") c && leb c (byte "9")
@@ -55,28 +51,28 @@ decimal_limit = 2 ^ 32
 abbrev pub number_below : ℕ → List ℕ → Bool
 number_below n cs = no_leading_zero cs && all_digits cs && ltb (decimal_value cs) n
 
-abbrev pub number_rule : ℕ → List ℕ → Number
-number_rule n cs = cond (number_below n cs) (Number.Is (decimal_value cs)) Number.Other
+abbrev pub number_rule : ℕ → List ℕ → Option ℕ
+number_rule n cs = cond (number_below n cs) (Some (decimal_value cs)) None
 
 -- the digits cs after a bank letter
-abbrev pub cell_after_letter : List ℕ → Letter → Named
-cell_after_letter cs (L.Of b) = cond (number_below (layout_of b).elements cs) (A.Cell b (decimal_value cs)) A.Other
-cell_after_letter cs L.Other = A.Other
+abbrev pub cell_after_letter : List ℕ → Option Bank → Option (Bank × ℕ)
+cell_after_letter cs (Some b) = cond (number_below (layout_of b).elements cs) (Some (b, decimal_value cs)) None
+cell_after_letter cs None = None
 
-unfoldable pub named_rule : List ℕ → Named
+unfoldable pub named_rule : List ℕ → Option (Bank × ℕ)
 unfolding letter_bank
-named_rule [] = A.Other
+named_rule [] = None
 named_rule (c ∷ cs) = cell_after_letter cs (letter_bank c)
 
 -- X is read only
-abbrev pub storable : Named → Named
-storable (A.Cell X i) = A.Other
-storable (A.Cell C i) = A.Cell C i
-storable (A.Cell «V» i) = A.Cell «V» i
-storable (A.Cell N i) = A.Cell N i
-storable (A.Cell D i) = A.Cell D i
-storable (A.Cell R i) = A.Cell R i
-storable A.Other = A.Other
+abbrev pub storable : Option (Bank × ℕ) → Option (Bank × ℕ)
+storable (Some (X, i)) = None
+storable (Some (C, i)) = Some (C, i)
+storable (Some («V», i)) = Some («V», i)
+storable (Some (N, i)) = Some (N, i)
+storable (Some (D, i)) = Some (D, i)
+storable (Some (R, i)) = Some (R, i)
+storable None = None
 
-abbrev pub target_rule : List ℕ → Named
+abbrev pub target_rule : List ℕ → Option (Bank × ℕ)
 target_rule text = storable (named_rule text)

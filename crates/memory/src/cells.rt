@@ -8,18 +8,13 @@ ghost use Rattle.memory.specs.Laws.{Holdable};
 ghost use Rattle.memory.specs.Cells.{real_bank, cell_value, read_rule, position_rule, at_position, indexed_rule};
 
 use crate::{Bank, IMAGE_SIZE, bytes};
-use operators::Position;
 use values::{Fault, Outcome, Value};
 
 // What a bank reads in the number that a cell holds.
 fn bit_cell(n: u32) -> Outcome
     ensures { result ≡ cell_value Bank.X n }
 {
-    if n == 0 {
-        Outcome::Done(Value::Int(0))
-    } else {
-        Outcome::Done(Value::Int(1))
-    }
+    Outcome::Done(Value::Int(i32::from(n != 0)))
 }
 
 fn unsigned_cell(n: u32) -> Outcome
@@ -58,10 +53,7 @@ fn real_cell(n: u32) -> Outcome
 pub fn has_cell(image: &[u8], bank: Bank, element: u32) -> bool
     ensures { result ≡ has_cell image.now bank element }
 {
-    if image.len() != IMAGE_SIZE {
-        return false;
-    }
-    element < crate::layout_of(bank).elements
+    image.len() == IMAGE_SIZE && element < crate::layout_of(bank).elements
 }
 
 // The first byte of a block. Nothing else works out a place.
@@ -82,10 +74,10 @@ pub fn get(image: &[u8], bank: Bank, element: u32) -> u32
     match bank {
         Bank::X => bytes::get_bit(image, place_of(Bank::X, element / 8), element % 8),
         Bank::C => bytes::get_bit(image, place_of(Bank::C, element / 8), element % 8),
-        Bank::V => bytes::get16(image, place_of(Bank::V, element)),
-        Bank::N => bytes::get16(image, place_of(Bank::N, element)),
-        Bank::D => bytes::get32(image, place_of(Bank::D, element)),
-        Bank::R => bytes::get32(image, place_of(Bank::R, element)),
+        Bank::V => bytes::get::<2>(image, place_of(Bank::V, element)),
+        Bank::N => bytes::get::<2>(image, place_of(Bank::N, element)),
+        Bank::D => bytes::get::<4>(image, place_of(Bank::D, element)),
+        Bank::R => bytes::get::<4>(image, place_of(Bank::R, element)),
     }
 }
 
@@ -97,10 +89,10 @@ pub fn put(image: &mut [u8], bank: Bank, element: u32, n: u32)
     match bank {
         Bank::X => bytes::put_bit(image, place_of(Bank::X, element / 8), element % 8, n),
         Bank::C => bytes::put_bit(image, place_of(Bank::C, element / 8), element % 8, n),
-        Bank::V => bytes::put16(image, place_of(Bank::V, element), n),
-        Bank::N => bytes::put16(image, place_of(Bank::N, element), n),
-        Bank::D => bytes::put32(image, place_of(Bank::D, element), n),
-        Bank::R => bytes::put32(image, place_of(Bank::R, element), n),
+        Bank::V => bytes::put::<2>(image, place_of(Bank::V, element), n),
+        Bank::N => bytes::put::<2>(image, place_of(Bank::N, element), n),
+        Bank::D => bytes::put::<4>(image, place_of(Bank::D, element), n),
+        Bank::R => bytes::put::<4>(image, place_of(Bank::R, element), n),
     }
 }
 
@@ -129,20 +121,20 @@ pub fn read(image: &[u8], bank: Bank, element: u32) -> Outcome
 }
 
 // The element of a bank that an index names.
-pub fn position(bank: Bank, index: Value) -> Position
+pub fn position(bank: Bank, index: Value) -> Result<u32, Fault>
     ensures { result ≡ position_rule bank index }
 {
     operators::index(index, crate::layout_of(bank).elements)
 }
 
-fn integer_position(bank: Bank, z: i32) -> Position
+fn integer_position(bank: Bank, z: i32) -> Result<u32, Fault>
     ensures { result ≡ position_rule bank (Int z) }
 {
     operators::integers::index(z, crate::layout_of(bank).elements)
 }
 
 // As `position`, of an integer where reals is false: a real, which the profile without reals does not hold, names element 0 there.
-pub fn position_in(bank: Bank, index: Value, reals: bool) -> Position
+pub fn position_in(bank: Bank, index: Value, reals: bool) -> Result<u32, Fault>
     ensures { (reals || not (real_value index)) ≡ true → result ≡ position_rule bank index }
 {
     if reals {
@@ -150,16 +142,16 @@ pub fn position_in(bank: Bank, index: Value, reals: bool) -> Position
     }
     match index {
         Value::Int(z) => integer_position(bank, z),
-        Value::Real(_) => Position::At(0),
+        Value::Real(_) => Ok(0),
     }
 }
 
-fn read_at(image: &[u8], bank: Bank, position: Position) -> Outcome
+fn read_at(image: &[u8], bank: Bank, position: Result<u32, Fault>) -> Outcome
     ensures { result ≡ at_position (read_rule image.now bank) position }
 {
     match position {
-        Position::At(i) => read(image, bank, i),
-        Position::Stopped(f) => Outcome::Stopped(f),
+        Ok(i) => read(image, bank, i),
+        Err(f) => Outcome::Stopped(f),
     }
 }
 

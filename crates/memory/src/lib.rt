@@ -33,50 +33,21 @@ pub struct Layout {
 
 pub const IMAGE_SIZE: usize = 3092;
 
-// In the order of Bank.
-const BANKS: [Layout; 6] = [
-    Layout {
-        place: 0,
-        elements: 64,
-        width: 1,
-    },
-    Layout {
-        place: 8,
-        elements: 64,
-        width: 1,
-    },
-    Layout {
-        place: 16,
-        elements: 256,
-        width: 2,
-    },
-    Layout {
-        place: 528,
-        elements: 256,
-        width: 2,
-    },
-    Layout {
-        place: 1040,
-        elements: 256,
-        width: 4,
-    },
-    Layout {
-        place: 2064,
-        elements: 256,
-        width: 4,
-    },
-];
-
 pub fn layout_of(bank: Bank) -> Layout
     ensures { result ≡ layout_of bank }
 {
-    match bank {
-        Bank::X => BANKS[0],
-        Bank::C => BANKS[1],
-        Bank::V => BANKS[2],
-        Bank::N => BANKS[3],
-        Bank::D => BANKS[4],
-        Bank::R => BANKS[5],
+    let (place, elements, width) = match bank {
+        Bank::X => (0, 64, 1),
+        Bank::C => (8, 64, 1),
+        Bank::V => (16, 256, 2),
+        Bank::N => (528, 256, 2),
+        Bank::D => (1040, 256, 4),
+        Bank::R => (2064, 256, 4),
+    };
+    Layout {
+        place,
+        elements,
+        width,
     }
 }
 
@@ -96,12 +67,5 @@ pub fn flag_at(f: Fault) -> usize
 pub fn is_real(bank: Bank) -> bool
     ensures { result ≡ real_bank bank }
 {
-    match bank {
-        Bank::X => false,
-        Bank::C => false,
-        Bank::V => false,
-        Bank::N => false,
-        Bank::D => false,
-        Bank::R => true,
-    }
+    matches!(bank, Bank::R)
 }

@@ -5,36 +5,33 @@ ghost use Rattle.memory.specs.Numbers.{bank_numbered, bank_number, bank_typed, b
 use crate::Bank;
 use operators::kinds;
 
-#[derive(Clone, Copy)]
-pub enum BankOf {
-    Is(Bank),
-    Nothing,
-}
-
-pub fn bank_numbered(n: u8) -> BankOf
+// An Option: a TryFrom would want an error of its own, which says nothing that None does not.
+pub fn bank_numbered(n: u8) -> Option<Bank>
     ensures { result ≡ bank_numbered n }
 {
     match n {
-        0 => BankOf::Is(Bank::X),
-        1 => BankOf::Is(Bank::C),
-        2 => BankOf::Is(Bank::V),
-        3 => BankOf::Is(Bank::N),
-        4 => BankOf::Is(Bank::D),
-        5 => BankOf::Is(Bank::R),
-        _ => BankOf::Nothing,
+        0 => Some(Bank::X),
+        1 => Some(Bank::C),
+        2 => Some(Bank::V),
+        3 => Some(Bank::N),
+        4 => Some(Bank::D),
+        5 => Some(Bank::R),
+        _ => None,
     }
 }
 
-pub fn bank_number(bank: Bank) -> u8
-    ensures { result ≡ bank_number bank }
-{
-    match bank {
-        Bank::X => 0,
-        Bank::C => 1,
-        Bank::V => 2,
-        Bank::N => 3,
-        Bank::D => 4,
-        Bank::R => 5,
+impl From<Bank> for u8 {
+    ghost from_gives = { λ bank n. n ≡ bank_number bank };
+
+    fn from(bank: Bank) -> u8 {
+        match bank {
+            Bank::X => 0,
+            Bank::C => 1,
+            Bank::V => 2,
+            Bank::N => 3,
+            Bank::D => 4,
+            Bank::R => 5,
+        }
     }
 }
 
@@ -43,11 +40,7 @@ pub fn bank_kind(n: u32) -> u8
     ensures { result ≡ bank_typed (bank_numbered n) }
 {
     match n {
-        0 => kinds::INT,
-        1 => kinds::INT,
-        2 => kinds::INT,
-        3 => kinds::INT,
-        4 => kinds::INT,
+        0..=4 => kinds::INT,
         5 => kinds::REAL,
         _ => kinds::NOT_TAKEN,
     }

@@ -6,56 +6,39 @@ ghost use Rattle.memory.specs.Cells.{real_bank};
 ghost use Rattle.memory.specs.Store.{bool_pattern, low_cut, integer_of, is_finite, encode_cell, with_flag, store_answer, store_image};
 
 use crate::{Bank, IMAGE_SIZE, cells};
-use values::{Cut, Fault, Value};
+use values::{Fault, Value};
 
-// The pattern that a bank holds of a value.
-#[derive(Clone, Copy)]
-pub enum Encoded {
-    Pattern(u32),
-    Stopped(Fault),
-}
-
-#[derive(Clone, Copy)]
-pub enum Stored {
-    Done,
-    Stopped(Fault),
-}
-
-fn from_bool(b: bool) -> Encoded
-    ensures { result ≡ Encoded.Pattern (bool_pattern b) }
+fn from_bool(b: bool) -> Result<u32, Fault>
+    ensures { result ≡ Ok (bool_pattern b) }
 {
-    if b {
-        Encoded::Pattern(1)
-    } else {
-        Encoded::Pattern(0)
-    }
+    Ok(u32::from(b))
 }
 
 // A real is truncated first.
-fn integer_of(v: Value) -> Cut
+fn integer_of(v: Value) -> Option<i32>
     ensures { result ≡ integer_of v }
 {
     match v {
-        Value::Int(z) => Cut::Whole(z),
+        Value::Int(z) => Some(z),
         Value::Real(x) => values::convert::truncate(x),
     }
 }
 
-fn low16(c: Cut) -> Encoded
+fn low16(c: Option<i32>) -> Result<u32, Fault>
     ensures { result ≡ low_cut 16 c }
 {
     match c {
-        Cut::Whole(z) => Encoded::Pattern(values::patterns::pattern(z) % 65536),
-        Cut::Outside => Encoded::Stopped(Fault::OutOfRange),
+        Some(z) => Ok(values::patterns::pattern(z) % 65536),
+        None => Err(Fault::OutOfRange),
     }
 }
 
-fn low32(c: Cut) -> Encoded
+fn low32(c: Option<i32>) -> Result<u32, Fault>
     ensures { result ≡ low_cut 32 c }
 {
     match c {
-        Cut::Whole(z) => Encoded::Pattern(values::patterns::pattern(z)),
-        Cut::Outside => Encoded::Stopped(Fault::OutOfRange),
+        Some(z) => Ok(values::patterns::pattern(z)),
+        None => Err(Fault::OutOfRange),
     }
 }
 
@@ -68,38 +51,34 @@ fn is_finite(v: Value) -> bool
     }
 }
 
-pub fn pattern_of(bank: Bank, v: Value) -> Encoded
+pub fn pattern_of(bank: Bank, v: Value) -> Result<u32, Fault>
     ensures { result ≡ encode_cell bank v }
 {
     if !is_finite(v) {
-        return Encoded::Stopped(Fault::OutOfRange);
+        return Err(Fault::OutOfRange);
     }
     match bank {
-        Bank::X => from_bool(operators::truth(v)),
-        Bank::C => from_bool(operators::truth(v)),
-        Bank::V => low16(integer_of(v)),
-        Bank::N => low16(integer_of(v)),
+        Bank::X | Bank::C => from_bool(operators::truth(v)),
+        Bank::V | Bank::N => low16(integer_of(v)),
         Bank::D => low32(integer_of(v)),
-        Bank::R => Encoded::Pattern(f32::to_bits(operators::as_real(v))),
+        Bank::R => Ok(f32::to_bits(operators::as_real(v))),
     }
 }
 
 // Of an integer in a bank of integers; R, of which the profile without reals has no cell, takes none.
-fn integer_pattern(bank: Bank, z: i32) -> Encoded
+fn integer_pattern(bank: Bank, z: i32) -> Result<u32, Fault>
     ensures { real_bank bank ≡ false → result ≡ encode_cell bank (Int z) }
 {
     match bank {
-        Bank::X => from_bool(operators::integers::truth(z)),
-        Bank::C => from_bool(operators::integers::truth(z)),
-        Bank::V => low16(Cut::Whole(z)),
-        Bank::N => low16(Cut::Whole(z)),
-        Bank::D => low32(Cut::Whole(z)),
-        Bank::R => Encoded::Stopped(Fault::OutOfRange),
+        Bank::X | Bank::C => from_bool(operators::integers::truth(z)),
+        Bank::V | Bank::N => low16(Some(z)),
+        Bank::D => low32(Some(z)),
+        Bank::R => Err(Fault::OutOfRange),
     }
 }
 
 // As `pattern_of`, or in the profile without reals.
-fn pattern_in(bank: Bank, v: Value, reals: bool) -> Encoded
+fn pattern_in(bank: Bank, v: Value, reals: bool) -> Result<u32, Fault>
     ensures { (reals || not (real_bank bank || real_value v)) ≡ true → result ≡ encode_cell bank v }
 {
     if reals {
@@ -107,7 +86,7 @@ fn pattern_in(bank: Bank, v: Value, reals: bool) -> Encoded
     }
     match v {
         Value::Int(z) => integer_pattern(bank, z),
-        Value::Real(_) => Encoded::Stopped(Fault::OutOfRange),
+        Value::Real(_) => Err(Fault::OutOfRange),
     }
 }
 
@@ -120,27 +99,33 @@ pub fn set_flag(image: &mut [u8], f: Fault)
 }
 
 // A fault sets its flag; otherwise only the cell changes. In the profile without reals (reals false) an integer goes to a bank of integers.
-pub fn store_in(image: &mut [u8], bank: Bank, element: u32, v: Value, reals: bool) -> Stored
+pub fn store_in(
+    image: &mut [u8],
+    bank: Bank,
+    element: u32,
+    v: Value,
+    reals: bool,
+) -> Result<(), Fault>
     requires { (reals || not (real_bank bank || real_value v)) ≡ true }
     ensures { (result ≡ store_answer image.old bank element v) × (image.new ≡ store_image image.old bank element v) }
 {
     if !cells::has_cell(image, bank, element) {
         set_flag(image, Fault::IndexError);
-        return Stored::Stopped(Fault::IndexError);
+        return Err(Fault::IndexError);
     }
     match pattern_in(bank, v, reals) {
-        Encoded::Pattern(p) => {
+        Ok(p) => {
             cells::put(image, bank, element, p);
-            Stored::Done
+            Ok(())
         }
-        Encoded::Stopped(f) => {
+        Err(f) => {
             set_flag(image, f);
-            Stored::Stopped(f)
+            Err(f)
         }
     }
 }
 
-pub fn store(image: &mut [u8], bank: Bank, element: u32, v: Value) -> Stored
+pub fn store(image: &mut [u8], bank: Bank, element: u32, v: Value) -> Result<(), Fault>
     ensures { (result ≡ store_answer image.old bank element v) × (image.new ≡ store_image image.old bank element v) }
 {
     store_in(image, bank, element, v, true)

@@ -3,17 +3,55 @@
 // byte that changed; then each bit turned over among zeros and among ones; then texts as targets.
 #![tactic(auto)]
 
-use memory::names::Named;
-use memory::store::Stored;
+use case_lines::Shown;
 use memory::{Bank, IMAGE_SIZE};
 use std::io;
-use values::{Outcome, Value};
+use std::num::f32_from_bits_with_nan;
+use values::Value;
 
-const BANKS: [Bank; 6] = [Bank::X, Bank::C, Bank::V, Bank::N, Bank::D, Bank::R];
+// A bank, the letter that names it, and its last element.
+#[derive(Clone, Copy)]
+struct Row {
+    letter: char,
+    bank: Bank,
+    last: u32,
+}
 
-const LETTERS: [u8; 6] = *b"XCVNDR";
+const X: Row = Row {
+    letter: 'X',
+    bank: Bank::X,
+    last: 63,
+};
 
-const LAST: [u32; 6] = [63, 63, 255, 255, 255, 255];
+const C: Row = Row {
+    letter: 'C',
+    bank: Bank::C,
+    last: 63,
+};
+
+const V: Row = Row {
+    letter: 'V',
+    bank: Bank::V,
+    last: 255,
+};
+
+const N: Row = Row {
+    letter: 'N',
+    bank: Bank::N,
+    last: 255,
+};
+
+const D: Row = Row {
+    letter: 'D',
+    bank: Bank::D,
+    last: 255,
+};
+
+const R: Row = Row {
+    letter: 'R',
+    bank: Bank::R,
+    last: 255,
+};
 
 const INTEGERS: [i32; 8] = [0, 1, -1, 32768, 65535, 65536, 2147483647, -2147483648];
 
@@ -36,229 +74,176 @@ const SINGLES: [u32; 16] = [
     0x4380_0000, // 256.0
 ];
 
-const OPERANDS: usize = 24;
+const TARGETS: [&str; 18] = [
+    "C0",
+    "C63",
+    "C64",
+    "V255",
+    "N0",
+    "D42",
+    "R255",
+    "R256",
+    "X0",
+    "D01",
+    "D00",
+    "D",
+    "d1",
+    " D1",
+    "D1 ",
+    "D+1",
+    "D1000000000000000000000",
+    "",
+];
 
-// The operand of a number: an integer, or a single.
-fn operand(k: usize) -> Value {
-    if k < 8 {
-        return Value::Int(INTEGERS[k]);
-    }
-    if k < OPERANDS {
-        return Value::Real(case_lines::single(SINGLES[k - 8]));
-    }
-    Value::Int(0)
+// What an image is filled with: zeros, ones, alternating bits, or a pattern with every byte in every bank.
+#[derive(Clone, Copy)]
+enum Filler {
+    Zeros,
+    Ones,
+    Alternating,
+    Mixed,
 }
 
-// One byte of an image: zeros, ones, alternating bits, or a pattern with every byte in every bank.
-fn filler(image: usize, at: usize) -> u8 {
-    match image {
-        0 => 0,
-        1 => 255,
-        2 => if at % 2 == 0 { 85 } else { 170 },
-        _ => ((at % 256 * 37 + at / 256) % 256) as u8,
-    }
-}
-
-fn fill(image: &mut [u8; IMAGE_SIZE], number: usize) {
-    let mut at: usize = 0;
-    while at < IMAGE_SIZE {
-        image[at] = filler(number, at);
-        at += 1;
-    }
-}
-
-// The bank of a number, and its letter.
-fn bank_of(k: usize) -> Bank {
-    if k < 6 { BANKS[k] } else { Bank::X }
-}
-
-fn letter(k: usize) -> u8 {
-    if k < 6 { LETTERS[k] } else { b'?' }
-}
-
-fn last(k: usize) -> u32 {
-    if k < 6 { LAST[k] } else { 0 }
-}
-
-fn reads(rt: &impl Print, image: &[u8; IMAGE_SIZE], number: usize, k: usize) -> io::Result<()> {
-    let mut line = [0u8; 512];
-    let bank = bank_of(k);
-    let e = last(k);
-    let mut end = case_lines::put(&mut line, 0, letter(k));
-    end = case_lines::put_decimal(&mut line, end, number as u64);
-    end = case_lines::put_outcome(&mut line, end, memory::cells::read(image, bank, 0));
-    end = case_lines::put_outcome(&mut line, end, memory::cells::read(image, bank, 1));
-    if e < 1000 {
-        end = case_lines::put_outcome(&mut line, end, memory::cells::read(image, bank, e));
-        end = case_lines::put_outcome(&mut line, end, memory::cells::read(image, bank, e + 1));
-    }
-    case_lines::write(rt, &mut line, end)
-}
-
-fn indexed(rt: &impl Print, image: &[u8; IMAGE_SIZE], k: usize) -> io::Result<()> {
-    let mut line = [0u8; 512];
-    let mut end = case_lines::put(&mut line, 0, letter(k));
-    end = case_lines::put_all(&mut line, end, b"[]");
-    let mut i: usize = 0;
-    while i < OPERANDS {
-        end = case_lines::put_outcome(
-            &mut line,
-            end,
-            memory::cells::read_indexed(image, bank_of(k), operand(i)),
-        );
-        i += 1;
-    }
-    case_lines::write(rt, &mut line, end)
-}
-
-fn wide(b: u8) -> u64 {
-    b as u64
-}
-
-// Every byte that differs from the image as it was filled.
-fn changes(image: &[u8; IMAGE_SIZE], number: usize, line: &mut [u8; 512], from: usize) -> usize {
-    let mut end = from;
-    let mut at: usize = 0;
-    while at < IMAGE_SIZE {
-        let b = image[at];
-        if b != filler(number, at) {
-            end = case_lines::put(line, end, b' ');
-            end = case_lines::put_decimal(line, end, at as u64);
-            end = case_lines::put(line, end, b':');
-            end = case_lines::put_decimal(line, end, wide(b));
-        }
-        at += 1;
-    }
-    end
-}
-
-fn stored(image: &mut [u8; IMAGE_SIZE], k: usize, element: u32, v: Value) -> Stored {
-    memory::store::store(image, bank_of(k), element, v)
-}
-
-fn stores(rt: &impl Print, number: usize, k: usize, i: usize) -> io::Result<()> {
-    let mut image = [0u8; IMAGE_SIZE];
-    fill(&mut image, number);
-    let mut line = [0u8; 512];
-    let mut end = case_lines::put(&mut line, 0, letter(k));
-    end = case_lines::put(&mut line, end, b'=');
-    end = case_lines::put_value(&mut line, end, operand(i));
-    let mut element = last(k);
-    if i % 4 == 3 {
-        element = 300;
-    }
-    match stored(&mut image, k, element, operand(i)) {
-        Stored::Done => {}
-        Stored::Stopped(f) => {
-            end = case_lines::put_fault(&mut line, end, f);
+impl Filler {
+    fn byte(self, at: usize) -> u8 {
+        match self {
+            Filler::Zeros => 0,
+            Filler::Ones => 255,
+            Filler::Alternating => if at % 2 == 0 { 85 } else { 170 },
+            Filler::Mixed => ((at % 256 * 37 + at / 256) % 256) as u8,
         }
     }
-    end = changes(&image, number, &mut line, end);
-    case_lines::write(rt, &mut line, end)
-}
 
-fn target(rt: &impl Print, text: &[u8]) -> io::Result<()> {
-    let mut line = [0u8; 512];
-    let mut end = case_lines::put_all(&mut line, 0, text);
-    end = case_lines::put(&mut line, end, b'|');
-    match memory::names::target_of(text) {
-        Named::Cell(bank, i) => {
-            let row = memory::layout_of(bank);
-            end = case_lines::put_decimal(&mut line, end, row.place as u64);
-            end = case_lines::put(&mut line, end, b' ');
-            end = case_lines::put_decimal(&mut line, end, i as u64);
+    fn image(self) -> [u8; IMAGE_SIZE] {
+        let mut image = [0; IMAGE_SIZE];
+        for (at, b) in image.iter_mut().enumerate() {
+            *b = self.byte(at);
         }
-        Named::Other => {
-            end = case_lines::put(&mut line, end, b'2');
-        }
+        image
     }
-    case_lines::write(rt, &mut line, end)
 }
 
-fn image_lines(rt: &impl Print, number: usize) -> io::Result<()> {
-    let mut image = [0u8; IMAGE_SIZE];
-    fill(&mut image, number);
-    let mut k: usize = 0;
-    while k < 6 {
-        reads(rt, &image, number, k)?;
-        indexed(rt, &image, k)?;
-        k += 1;
+// The integers of the table, and then its singles.
+fn operands() -> [Value; 24] {
+    let integers = INTEGERS.iter().map(|z| Value::Int(*z));
+    let singles = SINGLES
+        .iter()
+        .map(|pattern| Value::Real(f32_from_bits_with_nan(*pattern)));
+    let mut all = [Value::Int(0); 24];
+    for (operand, v) in all.iter_mut().zip(integers.chain(singles)) {
+        *operand = v;
+    }
+    all
+}
+
+fn reads(rt: &impl Print, image: &[u8; IMAGE_SIZE], filler: Filler, row: Row) -> io::Result<()> {
+    print!(rt; "{}{}", row.letter, filler as u8)?;
+    for element in [0, 1, row.last, row.last.saturating_add(1)] {
+        print!(rt; " {}", Shown(memory::cells::read(image, row.bank, element)))?;
+    }
+    println!(rt; "")
+}
+
+fn indexed(rt: &impl Print, image: &[u8; IMAGE_SIZE], row: Row) -> io::Result<()> {
+    print!(rt; "{}[]", row.letter)?;
+    for v in operands() {
+        print!(rt;
+            " {}",
+            Shown(memory::cells::read_indexed(image, row.bank, v))
+        )?;
+    }
+    println!(rt; "")
+}
+
+fn image_lines(rt: &impl Print, filler: Filler) -> io::Result<()> {
+    let image = filler.image();
+    for row in [X, C, V, N, D, R] {
+        reads(rt, &image, filler, row)?;
+        indexed(rt, &image, row)?;
     }
     Ok(())
 }
 
-fn store_lines(rt: &impl Print, number: usize, k: usize) -> io::Result<()> {
-    let mut i: usize = 0;
-    while i < OPERANDS {
-        stores(rt, number, k, i)?;
-        i += 1;
-    }
-    Ok(())
-}
-
-fn read(image: &[u8; IMAGE_SIZE], k: usize, element: u32) -> Outcome {
-    memory::cells::read(image, bank_of(k), element)
-}
-
-// A bit turned on among zeros, or off among ones: what it then reads, and every byte that changed.
-fn bit_line(rt: &impl Print, number: usize, k: usize, element: u32) -> io::Result<()> {
-    let mut image = [0u8; IMAGE_SIZE];
-    fill(&mut image, number);
-    let mut line = [0u8; 512];
-    let mut end = case_lines::put(&mut line, 0, letter(k));
-    end = case_lines::put_decimal(&mut line, end, element as u64);
-    let on = if number == 0 { 1 } else { 0 };
-    match stored(&mut image, k, element, Value::Int(on)) {
-        Stored::Done => {}
-        Stored::Stopped(f) => {
-            end = case_lines::put_fault(&mut line, end, f);
+// Ends a line with every byte that differs from the image as it was filled.
+fn changes(rt: &impl Print, filler: Filler, image: &[u8; IMAGE_SIZE]) -> io::Result<()> {
+    for (at, b) in image.iter().enumerate() {
+        if *b != filler.byte(at) {
+            print!(rt; " {at}:{b}")?;
         }
     }
-    end = case_lines::put_outcome(&mut line, end, read(&image, k, element));
-    end = changes(&image, number, &mut line, end);
-    case_lines::write(rt, &mut line, end)
+    println!(rt; "")
 }
 
-fn bit_lines(rt: &impl Print, number: usize, k: usize) -> io::Result<()> {
-    let mut element: u32 = 0;
-    while element < 64 {
-        bit_line(rt, number, k, element)?;
-        element += 1;
+// Stores a value, and tells where it was stopped.
+fn store(
+    rt: &impl Print,
+    image: &mut [u8; IMAGE_SIZE],
+    row: Row,
+    element: u32,
+    v: Value,
+) -> io::Result<()> {
+    match memory::store::store(image, row.bank, element, v) {
+        Ok(()) => Ok(()),
+        Err(f) => print!(rt; "{}", Shown(f)),
+    }
+}
+
+// Each operand, stored into the last element; every fourth one beyond it.
+fn store_lines(rt: &impl Print, filler: Filler, row: Row) -> io::Result<()> {
+    for (i, v) in operands().iter().enumerate() {
+        let mut image = filler.image();
+        let element = if i % 4 == 3 { 300 } else { row.last };
+        print!(rt; "{}={}", row.letter, Shown(*v))?;
+        store(rt, &mut image, row, element, *v)?;
+        changes(rt, filler, &image)?;
     }
     Ok(())
+}
+
+// Each bit turned to a number, on among zeros or off among ones: what it then reads, and every byte that changed.
+fn bit_lines(rt: &impl Print, filler: Filler, row: Row, number: i32) -> io::Result<()> {
+    for element in 0u32..64 {
+        let mut image = filler.image();
+        print!(rt; "{}{element}", row.letter)?;
+        store(rt, &mut image, row, element, Value::Int(number))?;
+        print!(rt;
+            " {}",
+            Shown(memory::cells::read(&image, row.bank, element))
+        )?;
+        changes(rt, filler, &image)?;
+    }
+    Ok(())
+}
+
+// A text as a target: the place of its bank, and its element.
+fn target(rt: &impl Print, text: &str) -> io::Result<()> {
+    match memory::names::target_of(text.as_bytes()) {
+        Some((bank, i)) => println!(rt; "{text}|{} {i}", memory::layout_of(bank).place),
+        None => println!(rt; "{text}|2"),
+    }
 }
 
 fn main(rt: HostRuntime) -> io::Result<()> {
-    image_lines(&rt, 0)?;
-    image_lines(&rt, 1)?;
-    image_lines(&rt, 2)?;
-    image_lines(&rt, 3)?;
-    store_lines(&rt, 0, 0)?;
-    store_lines(&rt, 1, 1)?;
-    store_lines(&rt, 0, 2)?;
-    store_lines(&rt, 1, 3)?;
-    store_lines(&rt, 2, 4)?;
-    store_lines(&rt, 3, 5)?;
-    bit_lines(&rt, 0, 0)?;
-    bit_lines(&rt, 1, 0)?;
-    bit_lines(&rt, 0, 1)?;
-    bit_lines(&rt, 1, 1)?;
-    target(&rt, b"C0")?;
-    target(&rt, b"C63")?;
-    target(&rt, b"C64")?;
-    target(&rt, b"V255")?;
-    target(&rt, b"N0")?;
-    target(&rt, b"D42")?;
-    target(&rt, b"R255")?;
-    target(&rt, b"R256")?;
-    target(&rt, b"X0")?;
-    target(&rt, b"D01")?;
-    target(&rt, b"D00")?;
-    target(&rt, b"D")?;
-    target(&rt, b"d1")?;
-    target(&rt, b" D1")?;
-    target(&rt, b"D1 ")?;
-    target(&rt, b"D+1")?;
-    target(&rt, b"D1000000000000000000000")?;
-    target(&rt, b"")
+    for filler in [
+        Filler::Zeros,
+        Filler::Ones,
+        Filler::Alternating,
+        Filler::Mixed,
+    ] {
+        image_lines(&rt, filler)?;
+    }
+    store_lines(&rt, Filler::Zeros, X)?;
+    store_lines(&rt, Filler::Ones, C)?;
+    store_lines(&rt, Filler::Zeros, V)?;
+    store_lines(&rt, Filler::Ones, N)?;
+    store_lines(&rt, Filler::Alternating, D)?;
+    store_lines(&rt, Filler::Mixed, R)?;
+    for row in [X, C] {
+        bit_lines(&rt, Filler::Zeros, row, 1)?;
+        bit_lines(&rt, Filler::Ones, row, 0)?;
+    }
+    for text in TARGETS {
+        target(&rt, text)?;
+    }
+    Ok(())
 }

@@ -1,4 +1,5 @@
 -- The cell that an answer of compile-and-run names is one of its bank: the store found it.
+use Rattle.std.specs.Prelude.{Result, Ok, Err, ⊤}
 use mathlib.Core.Path.{◌≡◌, refl}
 use mathlib.Core.Bool.{Bool, true, false, ◌&&◌, cond, and-eq-true_iff}
 use mathlib.Core.List.{List}
@@ -11,8 +12,6 @@ use Rattle.values.specs.declared.Value.{Value}
 use Rattle.values.specs.declared.Fault.{Fault as FaultName}
 use Rattle.values.specs.declared.Fault.TheVariants.{OutOfRange, IndexError}
 use Rattle.memory.specs.declared.Bank.{Bank}
-use Rattle.memory.specs.declared.store.Stored.{Stored}
-use Rattle.memory.specs.declared.store.Stored.TheVariants as Stored
 use Rattle.memory.specs.Layout.{image_size, layout_of, has_cell}
 use Rattle.memory.specs.Store.{is_finite, encode_cell, answer_of}
 use Rattle.memory.specs.Environment.{memory_at}
@@ -33,17 +32,17 @@ module _ {v : Value} {n : ℕ} {b : Bank} {i : ℕ} where
   no-refusal : {a p : ℕ} → Refused a p ≡ Done v n b i → ⊥
   no-refusal e = let z : ◌≡◌ {A = ℕ} 0 1 = cc in omega arith
 
-  after_store_lem : (w : Value) (k : ℕ) (c : Bank) (j : ℕ) (s : Stored) → j < (layout_of c).elements → after_store w k c j s ≡ Done v n b i → i < (layout_of b).elements
-  after_store_lem w k c j Stored.Done h e =
+  after_store_lem : (w : Value) (k : ℕ) (c : Bank) (j : ℕ) (s : (Result ⊤ FaultName)) → j < (layout_of c).elements → after_store w k c j s ≡ Done v n b i → i < (layout_of b).elements
+  after_store_lem w k c j (Ok _) h e =
       let p : c ≡ b = cc in
       let q : j ≡ i = cc in
       rw (p, q) at h
-  after_store_lem w k c j (Stored.Stopped f) h e = absurd (no-fault e)
+  after_store_lem w k c j (Err f) h e = absurd (no-fault e)
 
   arrived : (m : List ℕ) (w : Value) (k : ℕ) (d : Destination) → arrived_answer m w k d ≡ Done v n b i → i < (layout_of b).elements
   arrived m w k (cell c j) e = by (has_cell m c j) refl e
     where
-      by : (t : Bool) → has_cell m c j ≡ t → after_store w k c j (cond t (answer_of (encode_cell c w)) (Stored.Stopped IndexError)) ≡ Done v n b i
+      by : (t : Bool) → has_cell m c j ≡ t → after_store w k c j (cond t (answer_of (encode_cell c w)) (Err IndexError)) ≡ Done v n b i
           → i < (layout_of b).elements
       by true q e = after_store_lem w k c j (answer_of (encode_cell c w)) (ltb-true j _ ((and-eq-true_iff (eqb (length m) image_size) _).0 q).1) e
       by false q e = absurd (no-fault e)

@@ -1,4 +1,5 @@
 -- With reals each operation is the full box's.
+use Rattle.std.specs.Prelude.{Option, Some, None}
 use mathlib.Core.Path.{◌≡◌, refl, ap, subst, ◌∙◌}
 use mathlib.Core.Bool.{Bool, true, cond}
 use mathlib.Core.List.{List, []}
@@ -17,15 +18,12 @@ use Rattle.code.specs.Instructions.{instructions}
 use Rattle.machine.specs.declared.Ran.{Ran}
 use Rattle.machine.specs.Machine.{runs_at}
 use Rattle.machine.specs.Profile.{runs_in}
-use Rattle.verifier.specs.declared.Verdict.{Verdict}
 use Rattle.verifier.specs.Profile.{verdict_in}
 use Rattle.machine.proofs.Profile.{profile-runs}
 use Rattle.verifier.proofs.Profile.{profile-verdicts}
 use Rattle.compiler.specs.Compile.{in_room, compiling, compiling_in}
 use Rattle.targets.specs.declared.Element.{Element}
 use Rattle.targets.specs.declared.Element.TheVariants.{Is, By}
-use Rattle.targets.specs.declared.Found.{Found}
-use Rattle.targets.specs.declared.Found.TheVariants.{In, Other}
 use Rattle.targets.specs.Found.{found_to_run}
 use Rattle.delivery.specs.declared.Answer.{Answer}
 use Rattle.delivery.specs.declared.Answer.TheVariants.{Refused}
@@ -37,6 +35,7 @@ use Rattle.operations.specs.Profile.{check_answer_for, arrival_for, index_passes
 use Rattle.operations.specs.Profile.{ran_memory_for, run_answer_for, run_memory_for, evaluate_answer_for, gave_answer_for, gave_memory_for, given_answer_for}
 use Rattle.operations.specs.Profile.{given_memory_for, of_target_for, request_for}
 use Rattle.operations.proofs.Requests.{sized, Performs}
+use Rattle.values.specs.declared.Kind.{Kind}
 
 -- ---- texts and targets
 
@@ -73,7 +72,7 @@ full-check code n = ap verdict_answer (profile-verdicts.full_verdict (instructio
 pub full_evaluate : (tick : ℕ) (code : List ℕ) (n : ℕ) (m : List ℕ) → evaluate_answer_for true tick code n m ≡ evaluate_answer tick code n m
 full_evaluate tick code n m =
     ap (λ (x : Ran). cond (eqb (length m) image_size) (value_answer x (verdict_in true (instructions code n))) (Refused 1 0)) (full_runs tick code n m)
-    ∙ ap (λ (v : Verdict). cond (eqb (length m) image_size) (value_answer (runs_at tick code n m) v) (Refused 1 0))
+    ∙ ap (λ (v : (Option Kind)). cond (eqb (length m) image_size) (value_answer (runs_at tick code n m) v) (Refused 1 0))
     (profile-verdicts.full_verdict (instructions code n))
 
 pub evaluates-full : (tick : ℕ) (code : List ℕ) (n : ℕ) (m : List ℕ) {r : Answer} → r ≡ evaluate_answer_for true tick code n m
@@ -92,19 +91,19 @@ full-passes : (index : List ℕ) (e : Element) → index_passes_for true index e
 full-passes index (Is i) = refl
 full-passes index (By k) = ap is_accepted (profile-verdicts.full_verdict (instructions index k))
 
-full-given : (index : List ℕ) (f : Found) → given_goal_of_for true index f ≡ given_goal_of index f
-full-given index (In b e) = ap (λ (x : Bool). cond x (to b e) (none 15)) (full-passes index e)
-full-given index Other = refl
+full-given : (index : List ℕ) (f : (Option (Bank × Element))) → given_goal_of_for true index f ≡ given_goal_of index f
+full-given index (Some (b, e)) = ap (λ (x : Bool). cond x (to b e) (none 15)) (full-passes index e)
+full-given index None = refl
 
-full-goal-of : (index : List ℕ) (v : Verdict) (f : Found) → goal_of_for true index v f ≡ goal_of index v f
-full-goal-of index v (In b e) = ap (λ (g : Goal). cond (is_accepted v) g (none 15)) (full-given index (In b e))
-full-goal-of index v Other = refl
+full-goal-of : (index : List ℕ) (v : (Option Kind)) (f : (Option (Bank × Element))) → goal_of_for true index v f ≡ goal_of index v f
+full-goal-of index v (Some (b, e)) = ap (λ (g : Goal). cond (is_accepted v) g (none 15)) (full-given index (Some (b, e)))
+full-goal-of index v None = refl
 
 full-goal : (code target index m : List ℕ) (n k : ℕ) → goal_for true code n target index k m ≡ goal code n target index k m
 full-goal code target index m n k =
     ap (λ (g : Goal). cond (eqb (length m) image_size) g (none 1))
     (full-goal-of index (verdict_in true (instructions code n)) (found_to_run k target)
-    ∙ ap (λ (v : Verdict). goal_of index v (found_to_run k target)) (profile-verdicts.full_verdict (instructions code n)))
+    ∙ ap (λ (v : (Option Kind)). goal_of index v (found_to_run k target)) (profile-verdicts.full_verdict (instructions code n)))
 
 full-given-goal : (target index m : List ℕ) (k : ℕ) → given_goal_for true target index k m ≡ given_goal target index k m
 full-given-goal target index m k = ap (λ (g : Goal). cond (eqb (length m) image_size) g (none 1)) (full-given index (found_to_run k target))

@@ -1,4 +1,5 @@
 -- `evaluate_in` and `store_in`: what each refusal and each way answers.
+use Rattle.std.specs.Prelude.{Option, Some}
 use mathlib.Core.Path.{◌≡◌, refl, sym, ap, ◌∙◌}
 use mathlib.Core.Bool.{Bool, true, false, cond}
 use mathlib.Core.List.{List}
@@ -14,12 +15,8 @@ use Rattle.code.specs.Instructions.{instructions}
 use Rattle.machine.specs.declared.Ended.{Ended}
 use Rattle.machine.specs.declared.Ran.{Ran}
 use Rattle.machine.specs.Profile.{runs_in}
-use Rattle.verifier.specs.declared.Verdict.{Verdict}
-use Rattle.verifier.specs.declared.Verdict.TheVariants as Verdict
 use Rattle.verifier.specs.Profile.{verdict_in}
 use Rattle.targets.specs.declared.Element.{Element}
-use Rattle.targets.specs.declared.Found.{Found}
-use Rattle.targets.specs.declared.Found.TheVariants.{In}
 use Rattle.targets.specs.Found.{run_target_in}
 use Rattle.delivery.specs.declared.Answer.{Answer}
 use Rattle.delivery.specs.declared.Answer.TheVariants.{Fault, Refused}
@@ -36,15 +33,15 @@ module _ (reals : Bool) (tick : ℕ) (code : List ℕ) (n : ℕ) (m : List ℕ) 
   pub no-memory : (length m ≡ image_size → ⊥) → Refused 1 0 ≡ evaluate_answer_for reals tick code n m
   no-memory h = wrong-image m (runs_in reals tick code n m) (verdict_in reals (instructions code n)) h
 
-  pub evaluates : {x : Ran} {v : Verdict} {r : Answer} → length m ≡ image_size → verdict_in reals (instructions code n) ≡ v → x ≡ runs_in reals tick code n m
+  pub evaluates : {x : Ran} {v : (Option Kind)} {r : Answer} → length m ≡ image_size → verdict_in reals (instructions code n) ≡ v → x ≡ runs_in reals tick code n m
       → r ≡ value_answer x v → r ≡ evaluate_answer_for reals tick code n m
   evaluates h q f e = right-image m (runs_in reals tick code n m) (verdict_in reals (instructions code n)) h q f e
 
   -- the end and the count of the run decide
-  pub evaluates-to : {x : Ran} {k : Kind} {e : Ended} {r : Answer} → length m ≡ image_size → verdict_in reals (instructions code n) ≡ Verdict.Accepted k
-      → x ≡ runs_in reals tick code n m → x.end ≡ e → r ≡ value_answer (record { end = e; count = x.count }) (Verdict.Accepted k)
+  pub evaluates-to : {x : Ran} {k : Kind} {e : Ended} {r : Answer} → length m ≡ image_size → verdict_in reals (instructions code n) ≡ Some k
+      → x ≡ runs_in reals tick code n m → x.end ≡ e → r ≡ value_answer (record { end = e; count = x.count }) (Some k)
       → r ≡ evaluate_answer_for reals tick code n m
-  evaluates-to {x} {k} h q f d w = evaluates h q f (w ∙ ap (λ e. value_answer (record { end = e; count = x.count }) (Verdict.Accepted k)) (sym d))
+  evaluates-to {x} {k} h q f d w = evaluates h q f (w ∙ ap (λ e. value_answer (record { end = e; count = x.count }) (Some k)) (sym d))
 
 -- ---- store
 
@@ -52,10 +49,10 @@ module _ (reals : Bool) (tick : ℕ) (v : Value) (target index : List ℕ) (k : 
   pub no-image : (length m ≡ image_size → ⊥) → given_goal_for reals target index k m ≡ none 1
   no-image h = wrong_size m (given_goal_of_for reals index (run_target_in reals k target)) h
 
-  pub found : {x : Found} → length m ≡ image_size → run_target_in reals k target ≡ x → given_goal_for reals target index k m ≡ given_goal_of_for reals index x
+  pub found : {x : (Option (Bank × Element))} → length m ≡ image_size → run_target_in reals k target ≡ x → given_goal_for reals target index k m ≡ given_goal_of_for reals index x
   found h e = right-size m (given_goal_of_for reals index (run_target_in reals k target)) h ∙ ap (given_goal_of_for reals index) e
 
-  pub aims : {b : Bank} {e : Element} {p : Bool} → length m ≡ image_size → run_target_in reals k target ≡ In b e → index_passes_for reals index e ≡ p
+  pub aims : {b : Bank} {e : Element} {p : Bool} → length m ≡ image_size → run_target_in reals k target ≡ Some (b, e) → index_passes_for reals index e ≡ p
       → given_goal_for reals target index k m ≡ cond p (to b e) (none 15)
   aims {b} {e} h f q = found h f ∙ ap (λ p. cond p (to b e) (none 15)) q
 

@@ -1,4 +1,5 @@
 -- `compile_and_run_in`: the request as the tests find it, and that the runs of compiled code end as the rules say of the trees, with reals or without.
+use Rattle.std.specs.Prelude.{Some, None, Ok}
 use mathlib.Core.Path.{◌≡◌, refl, sym, ap, subst, ◌∙◌}
 use mathlib.Core.Bool.{Bool, true, false, not, ◌||◌}
 use mathlib.Core.List.{List, []}
@@ -22,15 +23,11 @@ use Rattle.machine.specs.Machine.{runs_at}
 use Rattle.machine.specs.Profile.{exec_in, runs_in}
 use Rattle.tree_code.specs.Code.{code_of}
 use Rattle.profile_trees.proofs.Theorems.{profile-trees}
-use Rattle.compiler.specs.declared.Coded.{Coded}
-use Rattle.compiler.specs.declared.Coded.TheVariants as Coded
-use Rattle.compiler.specs.Compile.{compiling_in, coded_answer, coded_bytes}
+use Rattle.compiler.specs.Compile.{Coded, compiling_in, coded_answer, coded_bytes}
 use Rattle.compiler.proofs.Theorems.{compile-theorems-from}
 use Rattle.compiler.proofs.Theorems as Compile
 use Rattle.targets.specs.declared.Element.{Element}
 use Rattle.targets.specs.declared.Element.TheVariants.{Is, By}
-use Rattle.targets.specs.declared.Found.TheVariants.{In}
-use Rattle.targets.specs.declared.Found.TheVariants as Found
 use Rattle.targets.specs.Found.{found_of, index_bytes}
 use Rattle.targets.proofs.Theorems.{indexed}
 use Rattle.delivery.specs.declared.Answer.{Answer}
@@ -40,15 +37,16 @@ use Rattle.delivery.specs.private.Bounds.{Few, none, some}
 use Rattle.operations.proofs.Verdicts.{Finishes}
 use Rattle.operations.proofs.Requests.{kinded, run-code, run-tree, arrives, Performs}
 use Rattle.operations.proofs.Full.{arrival-same}
+use Rattle.targets.proofs.Pairs.{first, second}
 
 -- ---- a target that is found
 
-pub bad_target : (reals : Bool) (text code index : List ℕ) (g : Target) → found_of g ≡ Found.Other → of_target_for reals text code index g ≡ stops 2 0
+pub bad_target : (reals : Bool) (text code index : List ℕ) (g : Target) → found_of g ≡ None → of_target_for reals text code index g ≡ stops 2 0
 bad_target reals text code index (to_cell b i) e = let z : ◌≡◌ {A = ℕ} 0 1 = cc in absurd (omega arith)
 bad_target reals text code index (to_indexed b t) e = let z : ◌≡◌ {A = ℕ} 0 1 = cc in absurd (omega arith)
 bad_target reals text code index no_target e = refl
 
-pub good-target : {b : Bank} {e : Element} (reals : Bool) (text code index : List ℕ) (g : Target) → found_of g ≡ In b e
+pub good-target : {b : Bank} {e : Element} (reals : Bool) (text code index : List ℕ) (g : Target) → found_of g ≡ Some (b, e)
     → of_target_for reals text code index g ≡ of_text code index g (judge_in reals 0 text)
 good-target reals text code index (to_cell b i) e = refl
 good-target reals text code index (to_indexed b t) e = refl
@@ -57,18 +55,18 @@ good-target reals text code index no_target e = let z : ◌≡◌ {A = ℕ} 0 1 
 -- ---- what is taken without reals the full box takes, and no part of it is real
 
 module _ (target : List ℕ) {b : Bank} {e : Element} where
-  taken-target : (reals : Bool) (g : Target) → target_in reals target ≡ g → found_of g ≡ In b e → target_of target ≡ g
+  taken-target : (reals : Bool) (g : Target) → target_in reals target ≡ g → found_of g ≡ Some (b, e) → target_of target ≡ g
   taken-target true g q f = q
   taken-target false (to_cell c i) q f = ((profile-texts.taken_cell target c i).0 q).0
   taken-target false (to_indexed c t) q f = ((profile-texts.taken_indexed target c t).0 q).0
   taken-target false no_target q f = let z : ◌≡◌ {A = ℕ} 0 1 = cc in absurd (omega arith)
 
-  pub target-bank : (reals : Bool) (g : Target) → target_in reals target ≡ g → found_of g ≡ In b e → (reals || not (real_bank b)) ≡ true
+  pub target-bank : (reals : Bool) (g : Target) → target_in reals target ≡ g → found_of g ≡ Some (b, e) → (reals || not (real_bank b)) ≡ true
   target-bank true g q f = refl
   target-bank false (to_cell c i) q f =
-      let p : c ≡ b = cc in subst (λ b. not (real_bank b) ≡ true) p (ap not ((profile-texts.taken_cell target c i).0 q).1)
+      subst (λ b. not (real_bank b) ≡ true) (first f) (ap not ((profile-texts.taken_cell target c i).0 q).1)
   target-bank false (to_indexed c t) q f =
-      let p : c ≡ b = cc in subst (λ b. not (real_bank b) ≡ true) p (ap not ((profile-texts.taken_indexed target c t).0 q).1.0)
+      subst (λ b. not (real_bank b) ≡ true) (first f) (ap not ((profile-texts.taken_indexed target c t).0 q).1.0)
   target-bank false no_target q f = let z : ◌≡◌ {A = ℕ} 0 1 = cc in absurd (omega arith)
 
 taken-index : (reals : Bool) (target : List ℕ) (b : Bank) (t : Tree) → target_in reals target ≡ to_indexed b t → (reals || integer_only t) ≡ true
@@ -91,19 +89,19 @@ module _ (reals : Bool) (d : ℕ) (s : List ℕ) (t : Tree) (e : judge_from d s 
 
 module _ (reals : Bool) (target : List ℕ) where
   -- the index's code is short
-  pub few-compiled : {b : Bank} {e : Element} (g : Target) → target_in reals target ≡ g → found_of g ≡ In b e → Few e
-  few-compiled {e = e} (to_cell b i) q f = let p : Is i ≡ e = cc in subst Few p none
-  few-compiled {e = e} (to_indexed b t) q f =
-      let p : By (length (code_of t)) ≡ e = cc in
-      subst Few p (some (Compile.short 1 (index_text target) t (indexed target (taken-target target reals (to_indexed b t) q f)).judged))
+  pub few-compiled : {b : Bank} {e : Element} (g : Target) → target_in reals target ≡ g → found_of g ≡ Some (b, e) → Few e
+  few-compiled (to_cell b i) q f = subst Few (second f) none
+  few-compiled (to_indexed b t) q f =
+      subst Few (second f) (some (Compile.short 1 (index_text target) t (indexed target (taken-target target reals (to_indexed b t) q f)).judged))
   few-compiled no_target q f = let z : ◌≡◌ {A = ℕ} 0 1 = cc in absurd (omega arith)
 
   module _ {b : Bank} {e : Element} (tick : ℕ) (m index : List ℕ) where
     -- its run is the full box's
-    index-runs : (g : Target) → target_in reals target ≡ g → 16384 ≤ length index → found_of g ≡ In b e → (k : ℕ) → e ≡ By k
+    index-runs : (g : Target) → target_in reals target ≡ g → 16384 ≤ length index → found_of g ≡ Some (b, e) → (k : ℕ) → e ≡ By k
         → runs_in reals tick (index_bytes index g) k m ≡ runs_at tick (index_bytes index g) k m
-    index-runs (to_cell c i) q h f k r = let z : ◌≡◌ {A = ℕ} 0 1 = cc in absurd (omega arith)
+    index-runs (to_cell c i) q h f k r = let s : Is i ≡ By k = second f ∙ r in let z : ◌≡◌ {A = ℕ} 0 1 = cc in absurd (omega arith)
     index-runs (to_indexed c t) q h f k r =
+        let s : By (length (code_of t)) ≡ By k = second f ∙ r in
         let p : length (code_of t) ≡ k = cc in
         let j = (indexed target (taken-target target reals (to_indexed c t) q f)).judged in
         subst (λ k. runs_in reals tick (coded_bytes index (accepted t)) k m ≡ runs_at tick (coded_bytes index (accepted t)) k m) p
@@ -111,7 +109,7 @@ module _ (reals : Bool) (target : List ℕ) where
     index-runs no_target q h f k r = let z : ◌≡◌ {A = ℕ} 0 1 = cc in absurd (omega arith)
 
     -- so it leads where the rules lead
-    pub arrives_in : (g : Target) → target_in reals target ≡ g → 16384 ≤ length index → found_of g ≡ In b e
+    pub arrives_in : (g : Target) → target_in reals target ≡ g → 16384 ≤ length index → found_of g ≡ Some (b, e)
         → arrival_for reals tick (index_bytes index g) m b e ≡ arrival_of tick (index_bytes index g) m g
     arrives_in g q h f =
         arrival-same reals tick (index_bytes index g) m b e (index-runs g q h f) ∙ arrives target tick m index g (taken-target target reals g q f) h f
@@ -119,7 +117,7 @@ module _ (reals : Bool) (target : List ℕ) where
 -- the judgement j of the text s was compiled, and what was written was run on m; then came what follows a value, or the flag
 pub performs : {q : Request} (reals : Bool) (tick : ℕ) (s code index m : List ℕ) (g : Target) (b : Bank) (e : Element)
     (j : Judgement) {n : ℕ} {code' index' : List ℕ} {x : Ran} {r : Answer} {m' : List ℕ}
-    → q ≡ of_text code index g j → judge_in reals 0 s ≡ j → 16384 ≤ length code → Coded.Done n ≡ coded_answer j → code' ≡ coded_bytes code j
+    → q ≡ of_text code index g j → judge_in reals 0 s ≡ j → 16384 ≤ length code → Ok n ≡ coded_answer j → code' ≡ coded_bytes code j
     → index' ≡ index_bytes index g → x ≡ runs_in reals tick code' n m
     → arrival_for reals tick (index_bytes index g) m b e ≡ arrival_of tick (index_bytes index g) m g
     → Finishes m (arrival_for reals tick index' m b e) x r m' → Performs tick q m code index r m' code' index'
@@ -144,7 +142,7 @@ module _ {j i : Judgement} (q : j ≡ i) where
   written_as code w = w ∙ ap (coded_bytes code) q
 
 -- compiled code is short
-pub few-coded : (reals : Bool) (s : List ℕ) (j : Judgement) {n : ℕ} → judge_in reals 0 s ≡ j → Coded.Done n ≡ coded_answer j → n ≤ 2048
+pub few-coded : (reals : Bool) (s : List ℕ) (j : Judgement) {n : ℕ} → judge_in reals 0 s ≡ j → Ok n ≡ coded_answer j → n ≤ 2048
 few-coded reals s (accepted t) {n} q e = let l : n ≡ length (code_of t) = cc in omega (arith, Compile.short 0 s t (taken-text reals s t q).0)
 few-coded reals s (refused a p) q e = let z : ◌≡◌ {A = ℕ} 0 1 = cc in absurd (omega arith)
 

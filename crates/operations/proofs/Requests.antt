@@ -1,5 +1,6 @@
 -- Compile, compile a target, and compile and run: what each target and each judgement comes to; the request of the full box, and that the runs of compiled
 -- code end as the rules say of the trees.
+use Rattle.std.specs.Prelude.{Some, None, Ok, Err}
 use mathlib.Core.Path.{◌≡◌, refl, sym, ap, ◌∙◌}
 use mathlib.Core.Bool.{cond}
 use mathlib.Core.List.{List, []}
@@ -21,26 +22,24 @@ use Rattle.machine.specs.Machine.{exec, runs_at, end_of}
 use Rattle.verifier.specs.Safety.{Kinded}
 use Rattle.verifier.proofs.Safe.{memory-kinded}
 use Rattle.tree_code.specs.Code.{code_of}
-use Rattle.compiler.specs.declared.Coded.{Coded}
-use Rattle.compiler.specs.declared.Coded.TheVariants as Coded
-use Rattle.compiler.specs.Compile.{compiling, coded_answer, coded_bytes}
+use Rattle.compiler.specs.Compile.{Coded, compiling, coded_answer, coded_bytes}
 use Rattle.compiler.proofs.Theorems.{compile-theorems-from}
 use Rattle.targets.specs.declared.Element.{Element}
 use Rattle.targets.specs.declared.Element.TheVariants.{Is, By}
-use Rattle.targets.specs.declared.Found.TheVariants.{In}
-use Rattle.targets.specs.declared.Found.TheVariants as Found
 use Rattle.targets.specs.Found.{found_of, index_bytes}
 use Rattle.targets.proofs.Theorems.{indexed}
 use Rattle.delivery.specs.declared.Answer.{Answer}
 use Rattle.delivery.specs.declared.Answer.TheVariants.{Done, Refused}
 use Rattle.operations.specs.Operations.{done_with, compile_answer, target_answer, reached, arrival, arrival_of}
 use Rattle.operations.specs.Operations.{Request, stops, of_text, of_target, request, request_answer, request_memory, request_code, request_index}
+use Rattle.compiler.specs.Compile.{refusal}
+use Rattle.targets.proofs.Pairs.{first, second, answer-is, place-is}
 
 -- ---- compile alone
 
 abbrev of_coded : Coded → Answer
-of_coded (Coded.Done n) = done_with n
-of_coded (Coded.Refused a p) = Refused a p
+of_coded (Ok n) = done_with n
+of_coded (Err r) = Refused r.answer r.place
 
 of-coded : (j : Judgement) → of_coded (coded_answer j) ≡ compile_answer j
 of-coded (accepted t) = refl
@@ -51,25 +50,25 @@ answered j e f = ap of_coded (sym e ∙ f) ∙ of-coded j
 
 -- ---- a target alone
 
-pub plain-answer : {b : Bank} {i : ℕ} (g : Target) → found_of g ≡ In b (Is i) → Done (Int (pos 0)) 0 b i ≡ target_answer g
-plain-answer (to_cell b i) e = cc
-plain-answer (to_indexed b t) e = let z : ◌≡◌ {A = ℕ} 0 1 = cc in absurd (omega arith)
+pub plain-answer : {b : Bank} {i : ℕ} (g : Target) → found_of g ≡ Some (b, Is i) → Done (Int (pos 0)) 0 b i ≡ target_answer g
+plain-answer {b} {i} (to_cell c j) e = let p : c ≡ b = first e in let q : Is j ≡ Is i = second e in cc
+plain-answer {b} {i} (to_indexed c t) e = let q : By (length (code_of t)) ≡ Is i = second e in let z : ◌≡◌ {A = ℕ} 0 1 = cc in absurd (omega arith)
 plain-answer no_target e = let z : ◌≡◌ {A = ℕ} 0 1 = cc in absurd (omega arith)
 
-pub indexed-answer : {b : Bank} {n : ℕ} (g : Target) → found_of g ≡ In b (By n) → Done (Int (pos 0)) n b 0 ≡ target_answer g
-indexed-answer (to_cell b i) e = let z : ◌≡◌ {A = ℕ} 0 1 = cc in absurd (omega arith)
-indexed-answer (to_indexed b t) e = cc
+pub indexed-answer : {b : Bank} {n : ℕ} (g : Target) → found_of g ≡ Some (b, By n) → Done (Int (pos 0)) n b 0 ≡ target_answer g
+indexed-answer {b} {n} (to_cell c j) e = let q : Is j ≡ By n = second e in let z : ◌≡◌ {A = ℕ} 0 1 = cc in absurd (omega arith)
+indexed-answer {b} {n} (to_indexed c t) e = let p : c ≡ b = first e in let q : By (length (code_of t)) ≡ By n = second e in cc
 indexed-answer no_target e = let z : ◌≡◌ {A = ℕ} 0 1 = cc in absurd (omega arith)
 
-pub bad-answer : (g : Target) → found_of g ≡ Found.Other → Refused 2 0 ≡ target_answer g
+pub bad-answer : (g : Target) → found_of g ≡ None → Refused 2 0 ≡ target_answer g
 bad-answer (to_cell b i) e = let z : ◌≡◌ {A = ℕ} 0 1 = cc in absurd (omega arith)
 bad-answer (to_indexed b t) e = let z : ◌≡◌ {A = ℕ} 0 1 = cc in absurd (omega arith)
 bad-answer no_target e = refl
 
 -- a plain cell keeps the buffer
-pub keeps-index : {b : Bank} {i : ℕ} (index : List ℕ) (g : Target) → found_of g ≡ In b (Is i) → index ≡ index_bytes index g
+pub keeps-index : {b : Bank} {i : ℕ} (index : List ℕ) (g : Target) → found_of g ≡ Some (b, Is i) → index ≡ index_bytes index g
 keeps-index index (to_cell b i) e = refl
-keeps-index index (to_indexed b t) e = let z : ◌≡◌ {A = ℕ} 0 1 = cc in absurd (omega arith)
+keeps-index {i = i} index (to_indexed b t) e = let q : By (length (code_of t)) ≡ Is i = second e in let z : ◌≡◌ {A = ℕ} 0 1 = cc in absurd (omega arith)
 keeps-index index no_target e = refl
 
 -- ---- the request
@@ -112,7 +111,7 @@ module _ (target text m code index : List ℕ) where
   no-memory h = wrong_size m code index asked h
 
 -- a target that is found
-pub good-target : {b : Bank} {e : Element} (text code index : List ℕ) (g : Target) → found_of g ≡ In b e
+pub good-target : {b : Bank} {e : Element} (text code index : List ℕ) (g : Target) → found_of g ≡ Some (b, e)
     → of_target text code index g ≡ of_text code index g (judge text)
 good-target text code index (to_cell b i) e = refl
 good-target text code index (to_indexed b t) e = refl
@@ -144,25 +143,28 @@ module _ (d : ℕ) (s : List ℕ) (t : Tree) (e : judge_from d s ≡ accepted t)
 
 module _ (target : List ℕ) where
   -- where the index's code leads is where the rules lead
-  pub arrives : {b : Bank} {e : Element} (tick : ℕ) (m index : List ℕ) (g : Target) → target_of target ≡ g → 16384 ≤ length index → found_of g ≡ In b e
+  pub arrives : {b : Bank} {e : Element} (tick : ℕ) (m index : List ℕ) (g : Target) → target_of target ≡ g → 16384 ≤ length index → found_of g ≡ Some (b, e)
       → arrival tick (index_bytes index g) m b e ≡ arrival_of tick (index_bytes index g) m g
   arrives {b} {e} tick m index (to_cell c i) q h f =
-      let p : b ≡ c = cc in
-      let r : e ≡ Is i = cc in
+      let p : b ≡ c = sym (first f) in
+      let r : e ≡ Is i = sym (second f) in
       rw (p, r)
   arrives {b} {e} tick m index (to_indexed c t) q h f =
-      let p : b ≡ c = cc in
-      let r : e ≡ By (length (code_of t)) = cc in
+      let p : b ≡ c = sym (first f) in
+      let r : e ≡ By (length (code_of t)) = sym (second f) in
       let x = run-tree 1 (index_text target) t (indexed target q).judged tick m index h in
       rw (p, r) (ap (λ d. record { destination = reached c d; count = (runs_at tick (coded_bytes index (accepted t)) (length (code_of t)) m).count }) x)
   arrives tick m index no_target q h f = let z : ◌≡◌ {A = ℕ} 0 1 = cc in absurd (omega arith)
 
 -- the text is refused
 pub refuses-text : {q : Request} (tick : ℕ) (code index m : List ℕ) (g : Target) (j : Judgement) {a p : ℕ} {code' : List ℕ}
-    → q ≡ of_text code index g j → Coded.Refused a p ≡ coded_answer j → code' ≡ coded_bytes code j
+    → q ≡ of_text code index g j → Err (refusal a p) ≡ coded_answer j → code' ≡ coded_bytes code j
     → Performs tick q m code index (Refused a p) m code' index
 refuses-text tick code index m g (accepted t) o e w = let z : ◌≡◌ {A = ℕ} 0 1 = cc in absurd (omega arith)
-refuses-text tick code index m g (refused a p) o e w = rw o (cc, (refl, (w, refl)))
+refuses-text tick code index m g (refused b q) {a} {p} o e w =
+    let x : a ≡ b = answer-is e in
+    let y : p ≡ q = place-is e in
+    rw o (cc, (refl, (w, refl)))
 
 -- a buffer with room leaves the judgement to the text
 pub with-room : (code s : List ℕ) → 16384 ≤ length code → compiling (length code) s ≡ judge s

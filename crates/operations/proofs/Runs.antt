@@ -1,4 +1,5 @@
 -- Checks and runs, with reals or without: accepted code is short, and what `run_in` answers and writes.
+use Rattle.std.specs.Prelude.{Option, Some, None}
 use mathlib.Core.Path.{◌≡◌, refl, sym, ap, subst, ◌∙◌}
 use mathlib.Core.Bool.{Bool, true, false, not, ◌||◌, cond}
 use mathlib.Core.List.{List}
@@ -14,14 +15,10 @@ use Rattle.code.specs.Instructions.{instructions}
 use Rattle.code.proofs.Parts.{decode-length}
 use Rattle.machine.specs.declared.Ran.{Ran}
 use Rattle.machine.specs.Profile.{runs_in}
-use Rattle.verifier.specs.declared.Verdict.{Verdict}
-use Rattle.verifier.specs.declared.Verdict.TheVariants as Verdict
 use Rattle.verifier.specs.Profile.{verdict_in}
 use Rattle.verifier.proofs.Profile.{profile-verdicts}
 use Rattle.targets.specs.declared.Element.{Element}
 use Rattle.targets.specs.declared.Element.TheVariants.{Is, By}
-use Rattle.targets.specs.declared.Found.{Found}
-use Rattle.targets.specs.declared.Found.TheVariants.{In, Other}
 use Rattle.targets.specs.Found.{taken_found, run_target_in}
 use Rattle.delivery.specs.declared.Answer.{Answer}
 use Rattle.delivery.specs.declared.Answer.TheVariants.{Refused}
@@ -30,15 +27,16 @@ use Rattle.operations.specs.Profile.{check_answer_for, arrival_for, index_passes
 use Rattle.operations.specs.Profile.{run_memory_for}
 use Rattle.delivery.specs.private.Bounds.{Few, none as no_code, some}
 use Rattle.operations.proofs.Verdicts.{wrong_size, right-size, Finishes}
+use Rattle.targets.proofs.Pairs.{first}
 
 -- ---- the check
 
 module _ (reals : Bool) (code : List ℕ) (n : ℕ) where
-  pub checked : {v w : Verdict} → v ≡ verdict_in reals (instructions code n) → v ≡ w → verdict_answer w ≡ check_answer_for reals code n
+  pub checked : {v w : (Option Kind)} → v ≡ verdict_in reals (instructions code n) → v ≡ w → verdict_answer w ≡ check_answer_for reals code n
   checked f e = ap verdict_answer (sym e ∙ f)
 
   -- no more instructions than the check accepts
-  pub few-accepted : {k : Kind} → verdict_in reals (instructions code n) ≡ Verdict.Accepted k → n ≤ 2048
+  pub few-accepted : {k : Kind} → verdict_in reals (instructions code n) ≡ Some k → n ≤ 2048
   few-accepted {k} e = omega (arith, ((profile-verdicts.exact reals (instructions code n) k).0 e).few, decode-length code 0 n)
 
 -- index code that is checked is short
@@ -46,20 +44,20 @@ pub few-checked : (reals : Bool) (index : List ℕ) (e : Element) → index_pass
 few-checked reals index (Is i) h = no_code
 few-checked reals index (By k) h = by (verdict_in reals (instructions index k)) refl h
   where
-    by : (v : Verdict) → verdict_in reals (instructions index k) ≡ v → is_accepted v ≡ true → Few (By k)
-    by (Verdict.Accepted j) q h = some (few-accepted reals index k q)
-    by Verdict.Refused q h = false-true h
+    by : (v : Option Kind) → verdict_in reals (instructions index k) ≡ v → is_accepted v ≡ true → Few (By k)
+    by (Some j) q h = some (few-accepted reals index k q)
+    by None q h = false-true h
 
 -- ---- without reals a target of a real bank is none
 
-pub found-bank : (reals : Bool) (f : Found) {b : Bank} {e : Element} → taken_found reals f ≡ In b e → (reals || not (real_bank b)) ≡ true
+pub found-bank : (reals : Bool) (f : (Option (Bank × Element))) {b : Bank} {e : Element} → taken_found reals f ≡ Some (b, e) → (reals || not (real_bank b)) ≡ true
 found-bank true f q = refl
-found-bank false (In c d) {b} {e} q = by (real_bank c) refl q
+found-bank false (Some (c, d)) {b} {e} q = by (real_bank c) refl q
   where
-    by : (r : Bool) → real_bank c ≡ r → cond r Other (In c d) ≡ In b e → not (real_bank b) ≡ true
+    by : (r : Bool) → real_bank c ≡ r → cond {A = Option (Bank × Element)} r None (Some (c, d)) ≡ Some (b, e) → not (real_bank b) ≡ true
     by true h q = let z : ◌≡◌ {A = ℕ} 0 1 = cc in absurd (omega arith)
-    by false h q = let p : c ≡ b = cc in subst (λ b. not (real_bank b) ≡ true) p (ap not h)
-found-bank false Other q = let z : ◌≡◌ {A = ℕ} 0 1 = cc in absurd (omega arith)
+    by false h q = subst (λ b. not (real_bank b) ≡ true) (first q) (ap not h)
+found-bank false None q = let z : ◌≡◌ {A = ℕ} 0 1 = cc in absurd (omega arith)
 
 -- ---- run
 
@@ -67,14 +65,14 @@ module _ (reals : Bool) (code : List ℕ) (n : ℕ) (target index : List ℕ) (k
   pub no-memory : (length m ≡ image_size → ⊥) → goal_for reals code n target index k m ≡ none 1
   no-memory h = wrong_size m (goal_of_for reals index (verdict_in reals (instructions code n)) (run_target_in reals k target)) h
 
-  pub named : {x : Found} {v : Verdict} → length m ≡ image_size → run_target_in reals k target ≡ x → verdict_in reals (instructions code n) ≡ v
+  pub named : {x : (Option (Bank × Element))} {v : (Option Kind)} → length m ≡ image_size → run_target_in reals k target ≡ x → verdict_in reals (instructions code n) ≡ v
       → goal_for reals code n target index k m ≡ goal_of_for reals index v x
   named {x} h e q =
       right-size m (goal_of_for reals index (verdict_in reals (instructions code n)) (run_target_in reals k target)) h
       ∙ ap (goal_of_for reals index (verdict_in reals (instructions code n))) e ∙ ap (λ v. goal_of_for reals index v x) q
 
-  pub aimed : {b : Bank} {e : Element} {v : Verdict} {j : Kind} {p : Bool} → length m ≡ image_size → run_target_in reals k target ≡ In b e
-      → verdict_in reals (instructions code n) ≡ v → v ≡ Verdict.Accepted j → index_passes_for reals index e ≡ p
+  pub aimed : {b : Bank} {e : Element} {v : (Option Kind)} {j : Kind} {p : Bool} → length m ≡ image_size → run_target_in reals k target ≡ Some (b, e)
+      → verdict_in reals (instructions code n) ≡ v → v ≡ Some j → index_passes_for reals index e ≡ p
       → goal_for reals code n target index k m ≡ cond p (to b e) (none 15)
   aimed {b} {e} h f q a r = named h f (q ∙ a) ∙ ap (λ p. cond p (to b e) (none 15)) r
 

@@ -1,6 +1,6 @@
 -- The operations of paper 01 with the targets of paper 02: what each answers and writes, for every input. Those that are lent a memory are stated for an image
 -- of any layout; contracts speak of the packed one.
-use Rattle.std.specs.Prelude.{Bool, true, false, cond, List, ℕ, eqb, ltb, pos, length}
+use Rattle.std.specs.Prelude.{Bool, true, false, cond, List, ℕ, eqb, ltb, pos, length, Option, Some, None}
 use Rattle.values.specs.declared.Value.{Value}
 use Rattle.values.specs.declared.Value.TheVariants.{Int}
 use Rattle.values.specs.Values.{fault_number}
@@ -16,15 +16,11 @@ use Rattle.code.specs.Instructions.{instructions}
 use Rattle.machine.specs.declared.Ended.TheVariants as Ended
 use Rattle.machine.specs.declared.Ran.{Ran}
 use Rattle.machine.specs.Machine.{end_of}
-use Rattle.verifier.specs.declared.Verdict.{Verdict}
-use Rattle.verifier.specs.declared.Verdict.TheVariants as Verdict
 use Rattle.verifier.specs.Verdicts.{verdict}
 pub use Rattle.verifier.specs.Verdicts.{is_accepted}
 use Rattle.tree_code.specs.Code.{code_of}
 use Rattle.compiler.specs.Compile.{coded_bytes}
 use Rattle.targets.specs.declared.Element.{Element}
-use Rattle.targets.specs.declared.Found.{Found}
-use Rattle.targets.specs.declared.Found.TheVariants as Found
 use Rattle.targets.specs.Found.{found_to_run, index_bytes}
 use Rattle.delivery.specs.declared.Answer.{Answer}
 use Rattle.delivery.specs.declared.Answer.TheVariants.{Done, Fault, Refused}
@@ -33,6 +29,7 @@ pub use Rattle.delivery.specs.Delivery.{given_value, runs_in, arrival_in, index_
 pub use Rattle.delivery.specs.Delivery.{follow_answer_in, follow_memory_in, finished_in, memory_after_in, arrival, index_begun, arrival_of, stored_answer}
 pub use Rattle.delivery.specs.Delivery.{arrived_answer, arrived_memory, follow_answer, follow_memory, finished, memory_after}
 use Rattle.operations.specs.declared.Report.{Report}
+use Rattle.values.specs.declared.Kind.{Kind}
 
 -- the number, place, value, count and cell of each answer: "1 to 10 and 15 .. return integer 0, count 0. 11 to 14 .. return integer 0 and the instructions
 -- begun .. 0 returns the value before the store and the instructions executed"; "Place is 0 for 0 to 3, 10 and above". X0, which is never stored to, stands
@@ -51,9 +48,9 @@ compile_answer (accepted t) = done_with (length (code_of t))
 compile_answer (refused a p) = Refused a p
 
 -- 15: "the given number of instructions reaches beyond the buffer, or the check does not accept them"
-abbrev pub verdict_answer : Verdict → Answer
-verdict_answer (Verdict.Accepted k) = done_with 0
-verdict_answer Verdict.Refused = Refused 15 0
+abbrev pub verdict_answer : Option Kind → Answer
+verdict_answer (Some k) = done_with 0
+verdict_answer None = Refused 15 0
 
 abbrev pub check_answer : List ℕ → ℕ → Answer
 check_answer code n = verdict_answer (verdict (instructions code n))
@@ -80,20 +77,20 @@ pub data Goal : Type 0 where
   none : ℕ → Goal
 
 -- of the target and the index code
-abbrev pub given_goal_of : List ℕ → Found → Goal
-given_goal_of index (Found.In b e) = cond (index_passes index e) (to b e) (none 15)
-given_goal_of index Found.Other = none 2
+abbrev pub given_goal_of : List ℕ → Option (Bank × Element) → Goal
+given_goal_of index (Some (b, e)) = cond (index_passes index e) (to b e) (none 15)
+given_goal_of index None = none 2
 
 -- and of the code, which is looked at between them
-abbrev pub goal_of : List ℕ → Verdict → Found → Goal
-goal_of index v (Found.In b e) = cond (is_accepted v) (given_goal_of index (Found.In b e)) (none 15)
-goal_of index v Found.Other = none 2
+abbrev pub goal_of : List ℕ → Option Kind → Option (Bank × Element) → Goal
+goal_of index v (Some (b, e)) = cond (is_accepted v) (given_goal_of index (Some (b, e))) (none 15)
+goal_of index v None = none 2
 
 -- ---- a value for itself (request 8)
 
-abbrev pub value_answer : Ran → Verdict → Answer
-value_answer x Verdict.Refused = Refused 15 0
-value_answer x (Verdict.Accepted k) = elim x.end [ Ended.Done v ↦ Done v x.count X 0 | Ended.Stopped f ↦ Fault f x.count | Ended.Stuck ↦ Refused 15 0 ]
+abbrev pub value_answer : Ran → Option Kind → Answer
+value_answer x None = Refused 15 0
+value_answer x (Some k) = elim x.end [ Ended.Done v ↦ Done v x.count X 0 | Ended.Stopped f ↦ Fault f x.count | Ended.Stuck ↦ Refused 15 0 ]
 
 -- ---- compile and run
 

@@ -1,6 +1,6 @@
 -- The operations of the full box (reals true) and of the profile without reals (false; paper 02, Ask 12): what each answers and writes, for every input. Each
 -- is the definition of Operations.antt over `judge_in`, `target_in`, `verdict_in` and `runs_in`. (The names `..In` of that file say that an image has any layout.)
-use Rattle.std.specs.Prelude.{Bool, cond, List, ℕ, eqb, ltb, length}
+use Rattle.std.specs.Prelude.{Bool, cond, List, ℕ, eqb, ltb, length, Option, Some, None}
 use Rattle.values.specs.declared.Value.{Value}
 use Rattle.memory.specs.Layout.{image_size}
 use Rattle.text.specs.Targets.{Target, to_cell, to_indexed, no_target}
@@ -9,17 +9,17 @@ use Rattle.profile_text.specs.Targets.{target_in}
 use Rattle.code.specs.Instructions.{instructions}
 use Rattle.machine.specs.declared.Ran.{Ran}
 use Rattle.machine.specs.Profile.{runs_in}
-use Rattle.verifier.specs.declared.Verdict.{Verdict}
 use Rattle.verifier.specs.Profile.{verdict_in}
 use Rattle.compiler.specs.Compile.{compiling_in, coded_bytes}
-use Rattle.targets.specs.declared.Found.{Found}
-use Rattle.targets.specs.declared.Found.TheVariants as Found
 use Rattle.targets.specs.Found.{run_target_in, index_bytes}
 use Rattle.delivery.specs.declared.Answer.{Answer}
 use Rattle.delivery.specs.declared.Answer.TheVariants.{Refused}
 pub use Rattle.delivery.specs.Profile.{arrival_for, index_passes_for, unstorable}
 use Rattle.operations.specs.Operations.{compile_answer, verdict_answer, target_answer, Goal, to, none, is_accepted, value_answer}
 use Rattle.operations.specs.Operations.{finished, memory_after, follow_answer, follow_memory, Request, stops, of_text}
+use Rattle.values.specs.declared.Kind.{Kind}
+use Rattle.memory.specs.declared.Bank.{Bank}
+use Rattle.targets.specs.declared.Element.{Element}
 
 -- ---- compile
 
@@ -45,13 +45,13 @@ check_answer_for reals code n = verdict_answer (verdict_in reals (instructions c
 -- ---- run
 
 -- 2 and 15, in this order
-abbrev pub given_goal_of_for : Bool → List ℕ → Found → Goal
-given_goal_of_for reals index (Found.In b e) = cond (index_passes_for reals index e) (to b e) (none 15)
-given_goal_of_for reals index Found.Other = none 2
+abbrev pub given_goal_of_for : Bool → List ℕ → Option (Bank × Element) → Goal
+given_goal_of_for reals index (Some (b, e)) = cond (index_passes_for reals index e) (to b e) (none 15)
+given_goal_of_for reals index None = none 2
 
-abbrev pub goal_of_for : Bool → List ℕ → Verdict → Found → Goal
-goal_of_for reals index v (Found.In b e) = cond (is_accepted v) (given_goal_of_for reals index (Found.In b e)) (none 15)
-goal_of_for reals index v Found.Other = none 2
+abbrev pub goal_of_for : Bool → List ℕ → Option Kind → Option (Bank × Element) → Goal
+goal_of_for reals index v (Some (b, e)) = cond (is_accepted v) (given_goal_of_for reals index (Some (b, e))) (none 15)
+goal_of_for reals index v None = none 2
 
 abbrev pub goal_for : Bool → List ℕ → ℕ → List ℕ → List ℕ → ℕ → List ℕ → Goal
 goal_for reals code n target index k m =

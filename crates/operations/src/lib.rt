@@ -1,6 +1,7 @@
 // The operations of paper 01 with the targets of paper 02: compile, compile a target, check, run, compile and run, and the two
 // halves of a run, evaluate and store. None asks anything of its caller: a bad request is refused with its number, and then nothing is written.
-// Each stands twice: `.._in` is that of the full box (reals true) or of the profile without reals (false), and behind it comes the full box's own.
+// Each stands twice: `.._in` is that of the full box (reals true) or of the profile without reals (false), and behind it comes the full box's own,
+// a call with a constant, whose contract is the one that `Promises` speaks of.
 #![tactic(auto)]
 
 ghost use Rattle.std.specs.Prelude.{◌≡◌, ◌≤◌, length};
@@ -13,13 +14,11 @@ ghost use Rattle.operations.specs.Operations.{request, request_answer, request_m
 ghost use Rattle.operations.specs.Profile.{compile_answer_for, compiled_code_for, compile_target_answer_for, compile_target_code_for, check_answer_for};
 ghost use Rattle.operations.specs.Profile.{run_answer_for, run_memory_for, evaluate_answer_for, given_answer_for, given_memory_for, request_for};
 
-use compiler::Coded;
 pub use delivery::Answer;
 use machine::Ended;
 use memory::Bank;
-use targets::{Element, Found};
+use targets::Element;
 use values::{Fault, Value};
-use verifier::Verdict;
 
 // The answer by its number, as paper 01 returns it, with the cell that paper 02 adds.
 #[derive(Clone, Copy)]
@@ -45,7 +44,7 @@ pub fn reported(a: Answer) -> Report
             element,
         },
         Answer::Fault(f, count) => Report {
-            answer: values::fault_number(f),
+            answer: u32::from(f),
             place: 0,
             value: Value::Int(0),
             count,
@@ -68,8 +67,8 @@ pub fn compile_in(text: &[u8], code: &mut [u8], reals: bool) -> Answer
     ensures code_after { code.new ≡ compiled_code_for reals text.now code.old }
 {
     match compiler::compile_in(text, 0, code, reals) {
-        Coded::Done(count) => Answer::Done(Value::Int(0), count, Bank::X, 0),
-        Coded::Refused(a, p) => Answer::Refused(a, p),
+        Ok(count) => Answer::Done(Value::Int(0), count, Bank::X, 0),
+        Err(refusal) => Answer::Refused(refusal.answer, refusal.place),
     }
 }
 
@@ -89,11 +88,11 @@ pub fn compile_target_in(target: &[u8], index: &mut [u8], reals: bool) -> Answer
         return Answer::Refused(10, 0);
     }
     match targets::compile_in(target, index, reals) {
-        Found::In(bank, element) => match element {
+        Some((bank, element)) => match element {
             Element::Is(i) => Answer::Done(Value::Int(0), 0, bank, i),
             Element::By(n) => Answer::Done(Value::Int(0), n, bank, 0),
         },
-        Found::Other => Answer::Refused(2, 0),
+        None => Answer::Refused(2, 0),
     }
 }
 
@@ -108,8 +107,8 @@ pub fn check_in(code: &[u8], n: usize, reals: bool) -> Answer
     ensures { result ≡ check_answer_for reals code.now n }
 {
     match verifier::check_in(code, n, reals) {
-        Verdict::Accepted(_) => Answer::Done(Value::Int(0), 0, Bank::X, 0),
-        Verdict::Refused => Answer::Refused(15, 0),
+        Some(_) => Answer::Done(Value::Int(0), 0, Bank::X, 0),
+        None => Answer::Refused(15, 0),
     }
 }
 
@@ -126,7 +125,7 @@ pub fn evaluate_in(code: &[u8], n: usize, memory: &[u8], tick: u32, reals: bool)
     if memory.len() != memory::IMAGE_SIZE {
         return Answer::Refused(1, 0);
     }
-    let Verdict::Accepted(_) = verifier::check_in(code, n, reals) else {
+    let Some(_) = verifier::check_in(code, n, reals) else {
         return Answer::Refused(15, 0);
     };
     let ran = machine::run_in(code, n, memory, tick, reals);
@@ -163,7 +162,7 @@ pub fn store_in(
     if memory.len() != memory::IMAGE_SIZE {
         return Answer::Refused(1, 0);
     }
-    let Found::In(bank, element) = targets::to_run_in(target, k, reals) else {
+    let Some((bank, element)) = targets::to_run_in(target, k, reals) else {
         return Answer::Refused(2, 0);
     };
     if !delivery::index_passes(element, index, reals) {
@@ -217,10 +216,10 @@ pub fn run_in(
     if memory.len() != memory::IMAGE_SIZE {
         return Answer::Refused(1, 0);
     }
-    let Found::In(bank, element) = targets::to_run_in(target, k, reals) else {
+    let Some((bank, element)) = targets::to_run_in(target, k, reals) else {
         return Answer::Refused(2, 0);
     };
-    let Verdict::Accepted(_) = verifier::check_in(code, n, reals) else {
+    let Some(_) = verifier::check_in(code, n, reals) else {
         return Answer::Refused(15, 0);
     };
     if !delivery::index_passes(element, index, reals) {
@@ -248,7 +247,7 @@ pub fn run(
 // The index's code, of a target that was found good; that of a plain cell keeps what it held.
 fn write_index(target: &[u8], element: Element, index: &mut [u8], reals: bool)
     requires in_bounds { 16384 ≤ length index.old }
-    requires target_value { (b : Bank) × (found_of (target_in reals target.now) ≡ Found.In b element) }
+    requires target_value { (b : Bank) × (found_of (target_in reals target.now) ≡ Some (b, element)) }
     ensures { index.new ≡ index_bytes index.old (target_in reals target.now) }
 {
     match element {
@@ -287,16 +286,16 @@ pub fn compile_and_run_in(
     if index.len() < compiler::LEAST_CODE {
         return Answer::Refused(10, 0);
     }
-    let Found::In(bank, element) = targets::judge_in(target, reals) else {
+    let Some((bank, element)) = targets::judge_in(target, reals) else {
         return Answer::Refused(2, 0);
     };
     match compiler::compile_in(text, 0, code, reals) {
-        Coded::Done(count) => {
+        Ok(count) => {
             write_index(target, element, index, reals);
             let ran = machine::run_in(code, count, memory, tick, reals);
             delivery::finish(memory, bank, element, index, ran, tick, reals)
         }
-        Coded::Refused(a, p) => Answer::Refused(a, p),
+        Err(refusal) => Answer::Refused(refusal.answer, refusal.place),
     }
 }
 

@@ -1,4 +1,5 @@
 -- Every operator's rule, where its operands' kinds are taken: a value of the kind known from the text, with the property Q, or a fault.
+use Rattle.std.specs.Prelude.{Option, Some, None, ℤ}
 use mathlib.Core.Bool.{not}
 use Prim.Native.Nat.{ℕ, ◌+◌, ◌*◌, ◌/◌, ◌^◌}
 use lib.Dec.{T}
@@ -11,8 +12,6 @@ use Rattle.values.specs.declared.Value.{Value}
 use Rattle.values.specs.declared.Value.TheVariants.{Int, Real}
 use Rattle.values.specs.declared.Fault.TheVariants.{OutOfRange}
 use Rattle.values.specs.declared.Outcome.TheVariants.{Done}
-use Rattle.values.specs.declared.Cut.{Cut}
-use Rattle.values.specs.declared.Cut.TheVariants.{Whole, Outside}
 use Rattle.values.specs.Values.{kind_of}
 use Rattle.values.specs.Integers.{in_range, int_arith, choice_int}
 use Rattle.values.specs.Patterns.{low_bits, shift_int, bitwise_int, since_int}
@@ -31,10 +30,10 @@ module _ (Q : Value → Type 0) (closed : Closed Q) where
   cutting-gives : (f : ℕ → ℕ) (v : Value) → Q v → Gives Q K.Int (cutting (cut_by f) v)
   cutting-gives f (Int z) q = int z q
   cutting-gives f (Real x) q =
-      let P : Cut → Type 0 = λ c. Gives Q K.Int (cut_outcome c) in
+      let P : Option ℤ → Type 0 = λ c. Gives Q K.Int (cut_outcome c) in
       let z = signed (negative x) (f (unit_count x)) in
-      let out : P Outside = stopped K.Int OutOfRange in
-      picked P (finite x) (cut z) Outside (λ h. picked P (in_range z) (Whole z) Outside (λ e. int z (closed.ranged z e)) out) out
+      let out : P None = stopped K.Int OutOfRange in
+      picked P (finite x) (cut z) None (λ h. picked P (in_range z) (Some z) None (λ e. int z (closed.ranged z e)) out) out
 
   pub unary-gives : (o : UnaryOp) (v : Value) → T (unary_takes o (kind_of v)) → Q v → Gives Q (unary_kind o (kind_of v)) (unary_rule o v)
   unary-gives Neg (Int z) t q = exact-gives Q closed (neg_ℤ z)

@@ -1,4 +1,5 @@
 -- The rules compute: examples of papers 01 and 02 on values, by `refl`. A real is compared by its pattern.
+use Rattle.std.specs.Prelude.{Ok, Err}
 use mathlib.Core.Path.{◌≡◌, refl}
 use mathlib.Core.Bool.{true, false}
 use Prim.Native.Nat.{ℕ}
@@ -15,7 +16,6 @@ use Rattle.values.specs.declared.BitOp.TheVariants.{And, Xor}
 use Rattle.values.specs.declared.ShiftOp.TheVariants.{RightZero, Right}
 use Rattle.values.specs.declared.CompareOp.TheVariants.{Eq}
 use Rattle.values.specs.declared.ChoiceOp.TheVariants.{Max}
-use Rattle.operators.specs.declared.Position.TheVariants as P
 use Rattle.operators.specs.declared.BinaryOp.TheVariants.{Arith, Power, Shift, Compare, Bits, Choice}
 use Rattle.operators.specs.declared.UnaryOp.TheVariants.{Neg, Complement, ToReal, Round, Frac}
 use Rattle.operators.specs.Operators.{unary_rule, binary_rule, index_rule}
@@ -104,35 +104,35 @@ negates : unary_rule Neg (Int (negsuc 2147483647)) ≡ Stopped Overflow
 negates = refl
 
 -- D[-0.5] is 14, as is the single below -2147483648.0; D[-0.0] is D0; 2147483648.0 is 13, and 256.0 is past the last
-below-zero : index_rule 256 (real 0xBF00_0000) ≡ P.Stopped IndexError
+below-zero : index_rule 256 (real 0xBF00_0000) ≡ Err IndexError
 unfolding Ieee.of_bits Ieee.lt
 below-zero = refl
 
-far-below : index_rule 256 (real 0xCF00_0001) ≡ P.Stopped IndexError
+far-below : index_rule 256 (real 0xCF00_0001) ≡ Err IndexError
 unfolding Ieee.of_bits Ieee.lt
 far-below = refl
 
-minus-nothing : index_rule 256 (real 0x8000_0000) ≡ P.At 0
+minus-nothing : index_rule 256 (real 0x8000_0000) ≡ Ok 0
 unfolding Ieee.of_bits Ieee.lt
 minus-nothing = refl
 
-far-above : index_rule 256 (real 0x4F00_0000) ≡ P.Stopped OutOfRange
+far-above : index_rule 256 (real 0x4F00_0000) ≡ Err OutOfRange
 unfolding Ieee.of_bits Ieee.lt
 far-above = refl
 
-past-last : index_rule 256 (real 0x4380_0000) ≡ P.Stopped IndexError
+past-last : index_rule 256 (real 0x4380_0000) ≡ Err IndexError
 unfolding Ieee.of_bits Ieee.lt
 past-last = refl
 
 -- what no formula gives: minus infinity lies below zero, and the other infinity and a NaN outside 32 bits
-minus-infinity : index_rule 256 (Real (Ieee.inf true)) ≡ P.Stopped IndexError
+minus-infinity : index_rule 256 (Real (Ieee.inf true)) ≡ Err IndexError
 unfolding Ieee.lt
 minus-infinity = refl
 
-plus-infinity : index_rule 256 (Real (Ieee.inf false)) ≡ P.Stopped OutOfRange
+plus-infinity : index_rule 256 (Real (Ieee.inf false)) ≡ Err OutOfRange
 unfolding Ieee.lt
 plus-infinity = refl
 
-not-a-number : index_rule 256 (Real Ieee.nan) ≡ P.Stopped OutOfRange
+not-a-number : index_rule 256 (Real Ieee.nan) ≡ Err OutOfRange
 unfolding Ieee.lt
 not-a-number = refl

@@ -1,4 +1,5 @@
 -- What the operators by number make of kinds: the classes of the binary ones, and what a result says.
+use Rattle.std.specs.Prelude.{Option, Some, None}
 use mathlib.Core.Path.{◌≡◌, refl}
 use mathlib.Core.Bool.{Bool, true, false, ◌&&◌}
 use Prim.Native.Nat.{ℕ, ◌%◌, ◌≤◌, ◌<◌}
@@ -7,13 +8,11 @@ use lib.Dec.{ltb}
 use borrow.Author.Rules.{rules}
 use Rattle.values.specs.declared.Kind.{Kind}
 use Rattle.values.specs.declared.Kind.TheVariants.{Int, Real}
-use Rattle.operators.specs.declared.tables.UnaryOf.{UnaryOf}
-use Rattle.operators.specs.declared.tables.UnaryOf.TheVariants as U
-use Rattle.operators.specs.declared.tables.BinaryOf.{BinaryOf}
-use Rattle.operators.specs.declared.tables.BinaryOf.TheVariants as B
 use Rattle.operators.specs.Tables.{binary_of}
 use Rattle.operators.specs.Kinds.{is_int, join, unary_kind, unary_takes, binary_kind, binary_takes, number_kind, kind_number, typed, unary_typed, binary_typed}
 use Rattle.operators.proofs.Ranges.{in-range}
+use Rattle.operators.specs.declared.BinaryOp.{BinaryOp}
+use Rattle.operators.specs.declared.UnaryOp.{UnaryOp}
 
 -- ---- the binary operator of the number o has the rule f
 
@@ -66,10 +65,10 @@ typed-small true Real = omega arith
 typed-small false Int = omega arith
 typed-small false Real = omega arith
 
-pub unary-small : (o : UnaryOf) (k : Kind) → unary_typed o k < 4
-unary-small (U.Is o) k = typed-small (unary_takes o k) (unary_kind o k)
-unary-small U.Nothing k = omega arith
+pub unary-small : (o : (Option UnaryOp)) (k : Kind) → unary_typed o k < 4
+unary-small (Some o) k = typed-small (unary_takes o k) (unary_kind o k)
+unary-small None k = omega arith
 
-pub binary-small : (o : BinaryOf) (j k : Kind) → binary_typed o j k < 4
-binary-small (B.Is o) j k = typed-small (binary_takes o j k) (binary_kind o j k)
-binary-small B.Nothing j k = omega arith
+pub binary-small : (o : (Option BinaryOp)) (j k : Kind) → binary_typed o j k < 4
+binary-small (Some o) j k = typed-small (binary_takes o j k) (binary_kind o j k)
+binary-small None j k = omega arith

@@ -1,15 +1,11 @@
 -- Kinds (paper 01): "The kind is known from the text alone." "`**` has its base's kind, bitwise and shift results are integers, whatever the operands."
-use Rattle.std.specs.Prelude.{Bool, true, false, ◌&&◌, cond, ℕ, ◌+◌, eqb}
+use Rattle.std.specs.Prelude.{Bool, true, false, ◌&&◌, cond, ℕ, ◌+◌, eqb, Option, Some, None}
 use Rattle.values.specs.declared.Kind.{Kind}
 use Rattle.values.specs.declared.Kind.TheVariants.{Int, Real}
 use Rattle.operators.specs.declared.BinaryOp.{BinaryOp}
 use Rattle.operators.specs.declared.BinaryOp.TheVariants.{Arith, Power, Shift, Compare, Bits, Choice}
 use Rattle.operators.specs.declared.UnaryOp.{UnaryOp}
 use Rattle.operators.specs.declared.UnaryOp.TheVariants.{Neg, Complement, Not, Abs, ToReal, Trunc, Round, Frac}
-use Rattle.operators.specs.declared.tables.UnaryOf.{UnaryOf}
-use Rattle.operators.specs.declared.tables.UnaryOf.TheVariants as U
-use Rattle.operators.specs.declared.tables.BinaryOf.{BinaryOf}
-use Rattle.operators.specs.declared.tables.BinaryOf.TheVariants as B
 
 abbrev pub is_int : Kind → Bool
 is_int Int = true
@@ -73,10 +69,10 @@ typed true k = kind_number k
 typed false k = 2 + kind_number k
 
 -- what an operator by number makes of its operands' kinds; 2 where the number is none's
-abbrev pub unary_typed : UnaryOf → Kind → ℕ
-unary_typed (U.Is o) k = typed (unary_takes o k) (unary_kind o k)
-unary_typed U.Nothing k = 2
+abbrev pub unary_typed : Option UnaryOp → Kind → ℕ
+unary_typed (Some o) k = typed (unary_takes o k) (unary_kind o k)
+unary_typed None k = 2
 
-abbrev pub binary_typed : BinaryOf → Kind → Kind → ℕ
-binary_typed (B.Is o) j k = typed (binary_takes o j k) (binary_kind o j k)
-binary_typed B.Nothing j k = 2
+abbrev pub binary_typed : Option BinaryOp → Kind → Kind → ℕ
+binary_typed (Some o) j k = typed (binary_takes o j k) (binary_kind o j k)
+binary_typed None j k = 2

@@ -1,5 +1,5 @@
 -- What holds of every rule, for the layers above: proofs/Laws.antt proves this record.
-use Rattle.std.specs.Prelude.{◌≡◌, Bool, true, false, ℕ, ◌<◌, T, ℤ, pos, Float}
+use Rattle.std.specs.Prelude.{◌≡◌, Bool, true, false, ℕ, ◌<◌, T, ℤ, pos, Float, Ok, Err}
 use Rattle.std.specs.Int.Signed.{lt_z}
 use Rattle.reals.specs.Singles.{Single, signed_units}
 use Rattle.values.specs.declared.Kind.{Kind}
@@ -13,7 +13,6 @@ use Rattle.values.specs.declared.Outcome.TheVariants.{Done, Stopped, WrongKind}
 use Rattle.values.specs.Values.{kind_of}
 use Rattle.values.specs.Integers.{in_range}
 use Rattle.values.specs.Patterns.{signed_of}
-use Rattle.operators.specs.declared.Position.TheVariants as P
 use Rattle.operators.specs.declared.BinaryOp.{BinaryOp}
 use Rattle.operators.specs.declared.UnaryOp.{UnaryOp}
 use Rattle.operators.specs.Operators.{unary_rule, since_rule, binary_rule, branch_rule, index_rule}
@@ -51,6 +50,6 @@ pub record RuleLaws : Type 0 where
   pub tick_proper : (t : ℕ) → Proper (Int (signed_of 32 t))
   pub branch_proper : (v : Value) (k : Kind) → Proper v → Proper (branch_rule v k)
   -- of n elements, a single below zero names none, both zeros name the first, and an element that is named is one of them
-  pub index_below_zero : (n : ℕ) (x : Float) → Single x → T (lt_z (signed_units x) (pos 0)) → index_rule n (Real x) ≡ P.Stopped IndexError
-  pub index_zero : (n : ℕ) (x : Float) → Single x → signed_units x ≡ pos 0 → 0 < n → index_rule n (Real x) ≡ P.At 0
-  pub index_element : (n : ℕ) (v : Value) (i : ℕ) → index_rule n v ≡ P.At i → i < n
+  pub index_below_zero : (n : ℕ) (x : Float) → Single x → T (lt_z (signed_units x) (pos 0)) → index_rule n (Real x) ≡ Err IndexError
+  pub index_zero : (n : ℕ) (x : Float) → Single x → signed_units x ≡ pos 0 → 0 < n → index_rule n (Real x) ≡ Ok 0
+  pub index_element : (n : ℕ) (v : Value) (i : ℕ) → index_rule n v ≡ Ok i → i < n

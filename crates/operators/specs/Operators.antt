@@ -1,6 +1,6 @@
 -- One rule for each operator of paper 01, on values of either kind, and the rule of an index. A rule gives a value, a fault, or `WrongKind` for an operand
 -- that the operator does not take (answer 9, told from the text alone). The numbers themselves are the crate values'.
-use Rattle.std.specs.Prelude.{Bool, true, false, not, cond, ℕ, ltb, ℤ, pos, negsuc, neg_ℤ, nat_abs, Float}
+use Rattle.std.specs.Prelude.{Bool, true, false, not, cond, ℕ, ltb, ℤ, pos, negsuc, neg_ℤ, nat_abs, Float, Option, Result, Some, None, Ok, Err}
 use Rattle.reals.specs.declared.ArithOp.{ArithOp}
 use Rattle.reals.specs.declared.ArithOp.TheVariants.{Rem}
 use Rattle.values.specs.declared.Kind.{Kind}
@@ -10,8 +10,6 @@ use Rattle.values.specs.declared.Value.TheVariants.{Int, Real}
 use Rattle.values.specs.declared.Fault.TheVariants.{OutOfRange, IndexError}
 use Rattle.values.specs.declared.Outcome.{Outcome}
 use Rattle.values.specs.declared.Outcome.TheVariants.{Done, Stopped, WrongKind}
-use Rattle.values.specs.declared.Cut.{Cut}
-use Rattle.values.specs.declared.Cut.TheVariants.{Whole, Outside}
 use Rattle.values.specs.declared.BitOp.{BitOp}
 use Rattle.values.specs.declared.ShiftOp.{ShiftOp}
 use Rattle.values.specs.declared.CompareOp.{CompareOp}
@@ -23,12 +21,11 @@ use Rattle.values.specs.Singles.{zero_real, one_real, real_arith, compare_real, 
 use Rattle.values.specs.Convert.{promoted, truncated, rounded}
 use Rattle.operators.specs.declared.Pair.{Pair}
 use Rattle.operators.specs.declared.Pair.TheVariants.{Ints, Reals}
-use Rattle.operators.specs.declared.Position.{Position}
-use Rattle.operators.specs.declared.Position.TheVariants as P
 use Rattle.operators.specs.declared.BinaryOp.{BinaryOp}
 use Rattle.operators.specs.declared.BinaryOp.TheVariants.{Arith, Power, Shift, Compare, Bits, Choice}
 use Rattle.operators.specs.declared.UnaryOp.{UnaryOp}
 use Rattle.operators.specs.declared.UnaryOp.TheVariants.{Neg, Complement, Not, Abs, ToReal, Trunc, Round, Frac}
+use Rattle.values.specs.declared.Fault.{Fault}
 
 -- "TOREAL promotes an integer and leaves a real as it is."
 abbrev pub as_real : Value → Float
@@ -95,12 +92,12 @@ truth_rule (Int z) = compare_int Ne z (pos 0)
 truth_rule (Real x) = compare_real Ne x zero_real
 
 -- "or 13 outside 32 bits"
-abbrev pub cut_outcome : Cut → Outcome
-cut_outcome (Whole z) = Done (Int z)
-cut_outcome Outside = Stopped OutOfRange
+abbrev pub cut_outcome : Option ℤ → Outcome
+cut_outcome (Some z) = Done (Int z)
+cut_outcome None = Stopped OutOfRange
 
 -- "TRUNC and TOINT .. ROUND .. leave an integer as it is": f on a real
-abbrev pub cutting : (Float → Cut) → Value → Outcome
+abbrev pub cutting : (Float → Option ℤ) → Value → Outcome
 cutting f (Int z) = Done (Int z)
 cutting f (Real x) = cut_outcome (f x)
 
@@ -130,16 +127,16 @@ branch_rule v K.Int = v
 branch_rule v K.Real = Real (as_real v)
 
 -- "then 14 if outside its bank": the element of a number, among n
-abbrev pub element_below : ℕ → ℤ → Position
-element_below n (pos i) = cond (ltb i n) (P.At i) (P.Stopped IndexError)
-element_below n (negsuc i) = P.Stopped IndexError
+abbrev pub element_below : ℕ → ℤ → Result ℕ Fault
+element_below n (pos i) = cond (ltb i n) (Ok i) (Err IndexError)
+element_below n (negsuc i) = Err IndexError
 
 -- "An index is truncated if real (13 outside 32 bits)"
-abbrev pub cut_below : ℕ → Cut → Position
-cut_below n (Whole z) = element_below n z
-cut_below n Outside = P.Stopped OutOfRange
+abbrev pub cut_below : ℕ → Option ℤ → Result ℕ Fault
+cut_below n (Some z) = element_below n z
+cut_below n None = Err OutOfRange
 
 -- "A real index below zero is now 14 before any truncation; -0.0 still reads element 0." (paper 02, Ask 5): the element that an index names, among n
-abbrev pub index_rule : ℕ → Value → Position
+abbrev pub index_rule : ℕ → Value → Result ℕ Fault
 index_rule n (Int z) = element_below n z
-index_rule n (Real x) = cond (compare_real Lt x zero_real) (P.Stopped IndexError) (cut_below n (truncated x))
+index_rule n (Real x) = cond (compare_real Lt x zero_real) (Err IndexError) (cut_below n (truncated x))

@@ -1,6 +1,6 @@
 -- The operators by number, in the order in which paper 01 lists them ("Grammar and grouping"), then the functions. The instruction set and the symbols of
 -- the text use these numbers.
-use Rattle.std.specs.Prelude.{cond, List, [], ◌∷◌, ℕ, ltb, get_or}
+use Rattle.std.specs.Prelude.{cond, List, [], ◌∷◌, ℕ, ltb, get_or, Option, Some, None}
 use Rattle.reals.specs.declared.ArithOp.TheVariants.{Add, Sub, Mul, Div, Rem}
 use Rattle.values.specs.declared.BitOp.TheVariants.{And, Or, Xor}
 use Rattle.values.specs.declared.ShiftOp.TheVariants.{Left, Right, RightZero}
@@ -10,10 +10,6 @@ use Rattle.operators.specs.declared.UnaryOp.{UnaryOp}
 use Rattle.operators.specs.declared.UnaryOp.TheVariants.{Neg, Complement, Not, Abs, ToReal, Trunc, Round, Frac}
 use Rattle.operators.specs.declared.BinaryOp.{BinaryOp}
 use Rattle.operators.specs.declared.BinaryOp.TheVariants.{Arith, Power, Shift, Compare, Bits, Choice}
-use Rattle.operators.specs.declared.tables.UnaryOf.{UnaryOf}
-use Rattle.operators.specs.declared.tables.UnaryOf.TheVariants as U
-use Rattle.operators.specs.declared.tables.BinaryOf.{BinaryOf}
-use Rattle.operators.specs.declared.tables.BinaryOf.TheVariants as B
 
 abbrev pub unary_ops : List UnaryOp
 unary_ops = Neg ∷ Complement ∷ Not ∷ Abs ∷ ToReal ∷ Trunc ∷ Round ∷ Frac ∷ []
@@ -23,11 +19,11 @@ binary_ops =
     Power ∷ Arith Mul ∷ Arith Div ∷ Arith Rem ∷ Arith Add ∷ Arith Sub ∷ Shift Left ∷ Shift Right ∷ Shift RightZero
     ∷ Compare Lt ∷ Compare Gt ∷ Compare Le ∷ Compare Ge ∷ Compare Eq ∷ Compare Ne ∷ Bits And ∷ Bits Xor ∷ Bits Or ∷ Choice Max ∷ Choice Min ∷ []
 
-abbrev pub unary_of : ℕ → UnaryOf
-unary_of n = cond (ltb n 8) (U.Is (get_or unary_ops n Neg)) U.Nothing
+abbrev pub unary_of : ℕ → Option UnaryOp
+unary_of n = cond (ltb n 8) (Some (get_or unary_ops n Neg)) None
 
-abbrev pub binary_of : ℕ → BinaryOf
-binary_of n = cond (ltb n 20) (B.Is (get_or binary_ops n (Arith Add))) B.Nothing
+abbrev pub binary_of : ℕ → Option BinaryOp
+binary_of n = cond (ltb n 20) (Some (get_or binary_ops n (Arith Add))) None
 
 abbrev pub unary_number : UnaryOp → ℕ
 unary_number Neg = 0

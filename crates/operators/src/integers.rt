@@ -8,7 +8,7 @@ ghost use Rattle.operators.specs.Tables.{binary_of};
 ghost use Rattle.operators.specs.private.Admitted.{admitted};
 ghost use Rattle.operators.specs.private.Numbered.{binary_numbered};
 
-use crate::{Position, UnaryOp};
+use crate::UnaryOp;
 use reals::ArithOp;
 use values::{BitOp, ChoiceOp, CompareOp, Fault, Outcome, ShiftOp, Value, integers, patterns};
 
@@ -65,16 +65,16 @@ pub fn binary(n: u8, i: i32, j: i32) -> Outcome
 }
 
 // The element of a number: one that lies outside the bank names none.
-pub fn index(z: i32, elements: u32) -> Position
+pub fn index(z: i32, elements: u32) -> Result<u32, Fault>
     ensures { result ≡ index_rule elements (Int z) }
 {
     if z < 0 {
-        return Position::Stopped(Fault::IndexError);
+        return Err(Fault::IndexError);
     }
     let i = z as u32;
     if i < elements {
-        Position::At(i)
+        Ok(i)
     } else {
-        Position::Stopped(Fault::IndexError)
+        Err(Fault::IndexError)
     }
 }

@@ -8,7 +8,7 @@ ghost use Rattle.operators.specs.Reals.{real_value, real_unary};
 ghost use Rattle.operators.specs.private.Admitted.{admitted};
 
 use reals::ArithOp;
-use values::{BitOp, ChoiceOp, CompareOp, Cut, Fault, Kind, Outcome, ShiftOp, Value};
+use values::{BitOp, ChoiceOp, CompareOp, Fault, Kind, Outcome, ShiftOp, Value};
 
 pub mod integers;
 pub mod kinds;
@@ -44,13 +44,6 @@ pub enum UnaryOp {
 pub enum Pair {
     Ints(i32, i32),
     Reals(f32, f32),
-}
-
-// What an index names: an element of its bank, or none.
-#[derive(Clone, Copy)]
-pub enum Position {
-    At(u32),
-    Stopped(Fault),
 }
 
 // A real as it is, an integer promoted.
@@ -166,12 +159,12 @@ fn absolute(v: Value) -> Outcome
     }
 }
 
-fn from_cut(c: Cut) -> Outcome
+fn from_cut(c: Option<i32>) -> Outcome
     ensures { result ≡ cut_outcome c }
 {
     match c {
-        Cut::Whole(z) => Outcome::Done(Value::Int(z)),
-        Cut::Outside => Outcome::Stopped(Fault::OutOfRange),
+        Some(z) => Outcome::Done(Value::Int(z)),
+        None => Outcome::Stopped(Fault::OutOfRange),
     }
 }
 
@@ -242,24 +235,24 @@ pub fn branch(v: Value, other: Kind) -> Value
     }
 }
 
-fn cut_below(c: Cut, elements: u32) -> Position
+fn cut_below(c: Option<i32>, elements: u32) -> Result<u32, Fault>
     ensures { result ≡ cut_below elements c }
 {
     match c {
-        Cut::Whole(z) => integers::index(z, elements),
-        Cut::Outside => Position::Stopped(Fault::OutOfRange),
+        Some(z) => integers::index(z, elements),
+        None => Err(Fault::OutOfRange),
     }
 }
 
 // The element that an index names, of a bank with so many. A real below zero names none, which a cut would hide; -0.0 is not below zero.
-pub fn index(v: Value, elements: u32) -> Position
+pub fn index(v: Value, elements: u32) -> Result<u32, Fault>
     ensures { result ≡ index_rule elements v }
 {
     match v {
         Value::Int(z) => integers::index(z, elements),
         Value::Real(x) => {
             if x < 0.0 {
-                return Position::Stopped(Fault::IndexError);
+                return Err(Fault::IndexError);
             }
             cut_below(values::convert::truncate(x), elements)
         }

@@ -27,31 +27,18 @@ pub const MAX: u8 = 18;
 
 pub const MIN: u8 = 19;
 
-#[derive(Clone, Copy)]
-pub enum UnaryOf {
-    Is(UnaryOp),
-    Nothing,
-}
-
-// What `binary_of` of the definitions gives.
-#[derive(Clone, Copy)]
-pub enum BinaryOf {
-    Is(BinaryOp),
-    Nothing,
-}
-
-pub fn unary_of(n: u8) -> UnaryOf
+pub fn unary_of(n: u8) -> Option<UnaryOp>
     ensures { result ≡ unary_of n }
 {
     match n {
-        NEG => UnaryOf::Is(UnaryOp::Neg),
-        COMPLEMENT => UnaryOf::Is(UnaryOp::Complement),
-        NOT => UnaryOf::Is(UnaryOp::Not),
-        ABS => UnaryOf::Is(UnaryOp::Abs),
-        TO_REAL => UnaryOf::Is(UnaryOp::ToReal),
-        TRUNC => UnaryOf::Is(UnaryOp::Trunc),
-        ROUND => UnaryOf::Is(UnaryOp::Round),
-        FRAC => UnaryOf::Is(UnaryOp::Frac),
-        _ => UnaryOf::Nothing,
+        NEG => Some(UnaryOp::Neg),
+        COMPLEMENT => Some(UnaryOp::Complement),
+        NOT => Some(UnaryOp::Not),
+        ABS => Some(UnaryOp::Abs),
+        TO_REAL => Some(UnaryOp::ToReal),
+        TRUNC => Some(UnaryOp::Trunc),
+        ROUND => Some(UnaryOp::Round),
+        FRAC => Some(UnaryOp::Frac),
+        _ => None,
     }
 }

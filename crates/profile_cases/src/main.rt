@@ -4,6 +4,7 @@
 // tests/host/expected/profiles.rs has what is expected.
 #![tactic(auto)]
 
+use case_lines::Shown;
 use memory::IMAGE_SIZE;
 use operations::Answer;
 use std::io;
@@ -12,8 +13,11 @@ const SENTINEL: u8 = 195;
 
 const CODE_BYTES: usize = 16384;
 
+const SHORT: usize = IMAGE_SIZE - 1;
+
 const TICK: u32 = 0x8000_0005;
 
+// Kinds by number, as `store_in` takes them from C.
 const INTEGER: u32 = 0;
 
 const REAL: u32 = 1;
@@ -21,15 +25,16 @@ const REAL: u32 = 1;
 // The code of the formula 7.
 const SEVEN: [u8; 8] = [1, 0, 0, 0, 7, 0, 0, 0];
 
-// Prime, so that the bytes of neighbouring cells differ.
-fn count_up(memory: &mut [u8]) {
-    let mut i: usize = 0;
-    while i < memory.len() {
-        memory[i] = (i % 251) as u8;
-        i += 1;
+// A memory whose bytes count up. The modulus is prime, so that the bytes of neighbouring cells differ.
+fn counted<const SIZE: usize>() -> [u8; SIZE] {
+    let mut memory = [0; SIZE];
+    for (i, b) in memory.iter_mut().enumerate() {
+        *b = (i % 251) as u8;
     }
+    memory
 }
 
+// Of the buffers those that an operation does not take are empty.
 fn tell(
     rt: &impl Print,
     a: Answer,
@@ -38,41 +43,43 @@ fn tell(
     index_code: &[u8],
 ) -> io::Result<()> {
     let r = operations::reported(a);
-    let value = r.value;
-    let bank = r.bank;
-    let mut line = [0u8; 512];
-    let answered = case_lines::put_decimal(&mut line, 0, r.answer as u64);
-    let placed = case_lines::put_number(&mut line, answered, r.place as u64);
-    let spaced = case_lines::put(&mut line, placed, b' ');
-    let valued = case_lines::put_value(&mut line, spaced, value);
-    let counted = case_lines::put_number(&mut line, valued, r.count as u64);
-    let banked = case_lines::put_number(
-        &mut line,
-        counted,
-        memory::numbers::bank_number(bank) as u64,
-    );
-    let stored = case_lines::put_number(&mut line, banked, r.element as u64);
-    let a = case_lines::put_number(&mut line, stored, case_lines::sum_of(memory));
-    let b = case_lines::put_number(&mut line, a, case_lines::sum_of(code));
-    let end = case_lines::put_number(&mut line, b, case_lines::sum_of(index_code));
-    case_lines::write(rt, &mut line, end)
+    let bank = u8::from(r.bank);
+    print!(rt;
+        "{} {} {} {} {bank} {}",
+        r.answer,
+        r.place,
+        Shown(r.value),
+        r.count,
+        r.element
+    )?;
+    for sum in [
+        case_lines::sum_of(memory),
+        case_lines::sum_of(code),
+        case_lines::sum_of(index_code),
+    ] {
+        print!(rt; " {sum}")?;
+    }
+    println!(rt; "")
+}
+
+// The buffers are parameters of their own: of a struct the check does not let `tell` read all of them at once.
+fn run_formula(
+    rt: &impl Print,
+    target: &[u8],
+    expr: &[u8],
+    memory: &mut [u8],
+    code: &mut [u8],
+    index_code: &mut [u8],
+) -> io::Result<()> {
+    let a = operations::compile_and_run_in(target, expr, memory, code, index_code, TICK, false);
+    tell(rt, a, memory, code, index_code)
 }
 
 fn compile_and_run(rt: &impl Print, target: &[u8], expr: &[u8]) -> io::Result<()> {
-    let mut memory = [0u8; IMAGE_SIZE];
-    count_up(&mut memory);
+    let mut memory = counted::<IMAGE_SIZE>();
     let mut code = [SENTINEL; CODE_BYTES];
     let mut index_code = [SENTINEL; CODE_BYTES];
-    let a = operations::compile_and_run_in(
-        target,
-        expr,
-        &mut memory,
-        &mut code,
-        &mut index_code,
-        TICK,
-        false,
-    );
-    tell(rt, a, &memory, &code, &index_code)
+    run_formula(rt, target, expr, &mut memory, &mut code, &mut index_code)
 }
 
 fn on_text(rt: &impl Print, expr: &[u8]) -> io::Result<()> {
@@ -90,8 +97,7 @@ fn on_target(rt: &impl Print, target: &[u8]) -> io::Result<()> {
 }
 
 fn run(rt: &impl Print, code: &[u8], target: &[u8], index_code: &[u8]) -> io::Result<()> {
-    let mut memory = [0u8; IMAGE_SIZE];
-    count_up(&mut memory);
+    let mut memory = counted::<IMAGE_SIZE>();
     let a = operations::run_in(
         code,
         code.len() / 8,
@@ -113,7 +119,6 @@ fn store(
     target: &[u8],
     index_code: &[u8],
 ) -> io::Result<()> {
-    count_up(memory);
     let a = operations::store_in(
         kind,
         bits,
@@ -128,73 +133,59 @@ fn store(
 }
 
 // An integer, 1.0, an infinity, and a real of a kind that no value has.
+const STORED: [(u32, u32); 4] = [
+    (INTEGER, 0x8000_0001),
+    (REAL, 0x3F80_0000),
+    (REAL, 0x7F80_0000),
+    (77, 0),
+];
+
 fn on_run_target(rt: &impl Print, target: &[u8], index_code: &[u8]) -> io::Result<()> {
     run(rt, &SEVEN, target, index_code)?;
-    let mut memory = [0u8; IMAGE_SIZE];
-    store(rt, INTEGER, 0x8000_0001, &mut memory, target, index_code)?;
-    store(rt, REAL, 0x3F80_0000, &mut memory, target, index_code)?;
-    store(rt, REAL, 0x7F80_0000, &mut memory, target, index_code)?;
-    store(rt, 77, 0, &mut memory, target, index_code)
+    for (kind, bits) in STORED {
+        let mut memory = counted::<IMAGE_SIZE>();
+        store(rt, kind, bits, &mut memory, target, index_code)?;
+    }
+    Ok(())
 }
 
 fn on_code(rt: &impl Print, code: &[u8]) -> io::Result<()> {
     let a = operations::check_in(code, code.len() / 8, false);
     tell(rt, a, b"", code, b"")?;
-    let mut memory = [0u8; IMAGE_SIZE];
-    count_up(&mut memory);
+    let mut memory = counted::<IMAGE_SIZE>();
     let b = operations::evaluate_in(code, code.len() / 8, &memory, TICK, false);
     tell(rt, b, &memory, code, b"")?;
     run(rt, code, b"D0", b"")
 }
 
-// The first n bytes are a code, or with a target that of its index.
-fn with_first(rt: &impl Print, code: &[u8; 16448], n: usize, target: &[u8]) -> io::Result<()> {
-    let whole: &[u8] = code;
-    if n <= whole.len() {
-        if target.len() == 0 {
-            on_code(rt, &whole[..n])?;
-        } else {
-            on_run_target(rt, target, &whole[..n])?;
-        }
-    }
-    Ok(())
-}
-
+// The digits are those of a code, or with a target of that of its index.
 fn with_code(rt: &impl Print, digits: &[u8], target: &[u8]) -> io::Result<()> {
     let mut code = [0u8; 16448];
     let n = case_lines::bytes_of(digits, &mut code);
-    with_first(rt, &code, n, target)
+    if target.is_empty() {
+        on_code(rt, &code[..n])
+    } else {
+        on_run_target(rt, target, &code[..n])
+    }
 }
 
 fn one_case(rt: &impl Print, line: &[u8]) -> io::Result<()> {
-    if line.len() == 0 {
-        return Ok(());
-    }
-    let first = line[0];
-    match first {
-        b'=' => on_text(rt, &line[1..]),
-        b'@' => on_target(rt, &line[1..]),
-        b'#' => with_code(rt, &line[1..], b""),
-        _ => {
-            let end = case_lines::find(line, 1, b' ');
-            with_code(rt, &line[case_lines::behind(line, end)..], &line[1..end])
+    match line {
+        [] => Ok(()),
+        [b'=', expr @ ..] => on_text(rt, expr),
+        [b'@', target @ ..] => on_target(rt, target),
+        [b'#', digits @ ..] => with_code(rt, digits, b""),
+        [_, rest @ ..] => {
+            let mut parts = rest.splitn(2, |b| *b == b' ');
+            let target = parts.next().unwrap_or(b"");
+            with_code(rt, parts.next().unwrap_or(b""), target)
         }
     }
-}
-
-fn every_line(rt: &impl Print, input: &[u8]) -> io::Result<()> {
-    let mut at: usize = 0;
-    while at < input.len() {
-        let end = case_lines::find(input, at, b'\n');
-        one_case(rt, &input[at..end])?;
-        at = end + 1;
-    }
-    Ok(())
 }
 
 // 1 and 10 come before 2 and 19.
 fn sizes(rt: &impl Print) -> io::Result<()> {
-    let mut short = [0u8; IMAGE_SIZE - 1];
+    let mut short = counted::<SHORT>();
     store(rt, REAL, 0x3F80_0000, &mut short, b"R0", b"")?;
     let mut code = [SENTINEL; CODE_BYTES - 1];
     let a = operations::compile_in(b"R0", &mut code, false);
@@ -202,32 +193,16 @@ fn sizes(rt: &impl Print) -> io::Result<()> {
     let b = operations::compile_target_in(b"R0", &mut code, false);
     tell(rt, b, b"", b"", &code)?;
     let mut index_code = [SENTINEL; CODE_BYTES];
-    let c = operations::compile_and_run_in(
-        b"R0",
-        b"R0",
-        &mut short,
-        &mut index_code,
-        &mut code,
-        TICK,
-        false,
-    );
-    tell(rt, c, &short, &index_code, &code)?;
+    run_formula(rt, b"R0", b"R0", &mut short, &mut index_code, &mut code)?;
     let mut memory = [0u8; IMAGE_SIZE];
-    let d = operations::compile_and_run_in(
-        b"R0",
-        b"R0",
-        &mut memory,
-        &mut index_code,
-        &mut code,
-        TICK,
-        false,
-    );
-    tell(rt, d, &memory, &index_code, &code)
+    run_formula(rt, b"R0", b"R0", &mut memory, &mut index_code, &mut code)
 }
 
 fn main(rt: HostRuntime) -> io::Result<()> {
     let mut input = [0u8; 65536];
     let n = inputs::read_full(&mut rt.stdin(), &mut input);
-    every_line(&rt, &input[..n])?;
+    for line in input[..n].split_inclusive(|b| *b == b'\n') {
+        one_case(&rt, line.strip_suffix(b"\n").unwrap_or(line))?;
+    }
     sizes(&rt)
 }

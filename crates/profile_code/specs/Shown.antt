@@ -1,5 +1,5 @@
 -- Code in the profile, with what its check says: docs/DECISIONS.md has the reading of "holds". proofs/Shown.antt computes them.
-use Rattle.std.specs.Prelude.{◌≡◌, true, false, List, [], ◌∷◌, pos}
+use Rattle.std.specs.Prelude.{◌≡◌, true, false, List, [], ◌∷◌, pos, Option, Some, None}
 use Rattle.values.specs.declared.Kind.TheVariants.{Int}
 use Rattle.values.specs.declared.CompareOp.TheVariants.{Gt}
 use Rattle.values.specs.declared.ChoiceOp.TheVariants.{Max, Min}
@@ -10,9 +10,8 @@ use Rattle.totals.specs.declared.TotalOp.TheVariants as T'
 use Rattle.totals.specs.declared.MatchOp.TheVariants as M'
 use Rattle.code.specs.declared.Instr.{Instr}
 use Rattle.code.specs.declared.Instr.TheVariants.{PushInt, PushReal, Load, LoadIndexed, Unary, Jump, Total, Match}
-use Rattle.verifier.specs.declared.Verdict.{Verdict}
-use Rattle.verifier.specs.declared.Verdict.TheVariants.{Accepted, Refused}
 use Rattle.verifier.specs.Profile.{verdict_in}
+use Rattle.values.specs.declared.Kind.{Kind}
 
 abbrev one : Instr
 one = PushInt (pos 1)
@@ -24,16 +23,16 @@ pub data Sample : Type 0 where
 
 -- the verdicts of both checks
 pub record Verdicts : Type 0 where
-  pub profile : Verdict
-  pub full : Verdict
+  pub profile : Option Kind
+  pub full : Option Kind
 
 abbrev pub verdicts : List Instr → Verdicts
 verdicts c = record { profile = verdict_in false c; full = verdict_in true c }
 
 -- each ends with an integer, and the full box accepts it
 abbrev pub Holds : Sample → Type 0
-Holds (accepts c) = verdicts c ≡ record { profile = Accepted Int; full = Accepted Int }
-Holds (refuses c) = verdicts c ≡ record { profile = Refused; full = Accepted Int }
+Holds (accepts c) = verdicts c ≡ record { profile = Some Int; full = Some Int }
+Holds (refuses c) = verdicts c ≡ record { profile = None; full = Some Int }
 
 abbrev pub AllShown : List Sample → Type 0
 AllShown [] = Unit {0}

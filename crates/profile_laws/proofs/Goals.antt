@@ -1,4 +1,5 @@
 -- Run and store: where both have a goal it is one, and what they do there is the same.
+use Rattle.std.specs.Prelude.{Option, Some, None}
 use mathlib.Core.Path.{◌≡◌, refl, sym, ap, ◌∙◌, subst}
 use mathlib.Core.Logic.{inl, inr}
 use mathlib.Core.Bool.{Bool, true, false, cond}
@@ -17,11 +18,8 @@ use Rattle.code.specs.Instructions.{instructions}
 use Rattle.machine.specs.declared.Ran.{Ran}
 use Rattle.machine.specs.Machine.{runs_at}
 use Rattle.machine.specs.Profile.{runs_in}
-use Rattle.verifier.specs.declared.Verdict.{Verdict}
 use Rattle.targets.specs.declared.Element.{Element}
 use Rattle.targets.specs.declared.Element.TheVariants.{Is, By}
-use Rattle.targets.specs.declared.Found.{Found}
-use Rattle.targets.specs.declared.Found.TheVariants.{In, Other}
 use Rattle.targets.specs.Found.{found_to_run, taken_found, run_target_in}
 use Rattle.delivery.specs.declared.Answer.{Answer}
 use Rattle.delivery.specs.declared.Answer.TheVariants.{Refused}
@@ -36,6 +34,7 @@ use Rattle.operations.proofs.Full.{arrival-same}
 use Rattle.profile_laws.specs.Results.{OfProfile}
 use Rattle.profile_laws.specs.Theorems.{IntegerCode, IntegerIndex}
 use Rattle.profile_laws.proofs.Verdicts.{BothChecks, passes, fails, both-checks, same_runs}
+use Rattle.values.specs.declared.Kind.{Kind}
 
 pub two : OfProfile 2
 two = inl refl
@@ -60,33 +59,33 @@ pub data Goals (index : List ℕ) (P : Type 0) : Goal → Goal → Type 0 where
   both_go : (b : Bank) (e : Element) → P → Indexed index e → Goals index P (to b e) (to b e)
 
 module _ (index : List ℕ) where
-  by_code : (b : Bank) (k : ℕ) {v w : Verdict} {P : Type 0} → P → BothChecks (instructions index k) v w
+  by_code : (b : Bank) (k : ℕ) {v w : (Option Kind)} {P : Type 0} → P → BothChecks (instructions index k) v w
       → Goals index P (cond (is_accepted v) (to b (By k)) (none 15)) (cond (is_accepted w) (to b (By k)) (none 15))
   by_code b k p (passes a) = both_go b (By k) p (coded a)
   by_code b k p (fails w) = stops-alone 15 (cond (is_accepted w) (to b (By k)) (none 15)) fifteen
 
-  of-element : (b : Bank) (e : Element) {P : Type 0} → P → Goals index P (given_goal_of_for false index (In b e)) (given_goal_of index (In b e))
+  of-element : (b : Bank) (e : Element) {P : Type 0} → P → Goals index P (given_goal_of_for false index (Some (b, e))) (given_goal_of index (Some (b, e)))
   of-element b (Is i) p = both_go b (Is i) p plain
   of-element b (By k) p = by_code b k p (both-checks (instructions index k))
 
-  of-given : (f : Found) → Goals index (Unit {0}) (given_goal_of_for false index (taken_found false f)) (given_goal_of index f)
-  of-given Other = both_stop 2
-  of-given (In b e) = by (real_bank b)
+  of-given : (f : (Option (Bank × Element))) → Goals index (Unit {0}) (given_goal_of_for false index (taken_found false f)) (given_goal_of index f)
+  of-given None = both_stop 2
+  of-given (Some (b, e)) = by (real_bank b)
     where
-      by : (r : Bool) → Goals index (Unit {0}) (given_goal_of_for false index (cond r Other (In b e))) (given_goal_of index (In b e))
-      by true = stops-alone 2 (given_goal_of index (In b e)) two
+      by : (r : Bool) → Goals index (Unit {0}) (given_goal_of_for false index (cond r None (Some (b, e)))) (given_goal_of index (Some (b, e)))
+      by true = stops-alone 2 (given_goal_of index (Some (b, e))) two
       by false = of-element b e tt
 
-  of-run : (c : List Instr) (f : Found) {v w : Verdict} → BothChecks c v w
+  of-run : (c : List Instr) (f : (Option (Bank × Element))) {v w : (Option Kind)} → BothChecks c v w
       → Goals index (AcceptsIn false c K.Int) (goal_of_for false index v (taken_found false f)) (goal_of index w f)
-  of-run c Other h = both_stop 2
-  of-run c (In b e) {v} {w} h = by (real_bank b) h
+  of-run c None h = both_stop 2
+  of-run c (Some (b, e)) {v} {w} h = by (real_bank b) h
     where
-      by : (r : Bool) {v w : Verdict} → BothChecks c v w
-          → Goals index (AcceptsIn false c K.Int) (goal_of_for false index v (cond r Other (In b e))) (goal_of index w (In b e))
-      by true {w = w} h = stops-alone 2 (goal_of index w (In b e)) two
+      by : (r : Bool) {v w : (Option Kind)} → BothChecks c v w
+          → Goals index (AcceptsIn false c K.Int) (goal_of_for false index v (cond r None (Some (b, e)))) (goal_of index w (Some (b, e)))
+      by true {w = w} h = stops-alone 2 (goal_of index w (Some (b, e))) two
       by false (passes a) = of-element b e a
-      by false (fails w) = stops-alone 15 (goal_of index w (In b e)) fifteen
+      by false (fails w) = stops-alone 15 (goal_of index w (Some (b, e))) fifteen
 
   sized : (b : Bool) {P : Type 0} {g h : Goal} → Goals index P g h → Goals index P (cond b g (none 1)) (cond b h (none 1))
   sized true x = x
@@ -152,25 +151,25 @@ not-one (inr (inr e)) i = omega arith
 passes-code : (c : List Instr) → AcceptsIn false c K.Int → is_accepted (verdict_in false c) ≡ true
 passes-code c a = ap is_accepted ((profile-verdicts.exact false c K.Int).1 a)
 
-module _ (index : List ℕ) (f : Found) (taken : taken_found false f ≡ Other → ⊥)
-    (by_index : (b : Bank) (j : ℕ) → taken_found false f ≡ In b (By j) → IntegerCode index j) where
-  given_to : (x : Found) → taken_found false f ≡ x → (a : ℕ) → given_goal_of_for false index x ≡ none a → ⊥
-  given_to (In b (Is i)) e a h = to-not h
-  given_to (In b (By j)) e a h =
+module _ (index : List ℕ) (f : (Option (Bank × Element))) (taken : taken_found false f ≡ None → ⊥)
+    (by_index : (b : Bank) (j : ℕ) → taken_found false f ≡ Some (b, By j) → IntegerCode index j) where
+  given_to : (x : (Option (Bank × Element))) → taken_found false f ≡ x → (a : ℕ) → given_goal_of_for false index x ≡ none a → ⊥
+  given_to (Some (b, Is i)) e a h = to-not h
+  given_to (Some (b, By j)) e a h =
       to-not (sym (ap (λ (x : Bool). cond x (to b (By j)) (none 15)) (passes-code (instructions index j) (by_index b j e))) ∙ h)
-  given_to Other e a h = taken e
+  given_to None e a h = taken e
 
-  run-to : (c : List Instr) → AcceptsIn false c K.Int → (x : Found) → taken_found false f ≡ x → (a : ℕ)
+  run-to : (c : List Instr) → AcceptsIn false c K.Int → (x : (Option (Bank × Element))) → taken_found false f ≡ x → (a : ℕ)
       → goal_of_for false index (verdict_in false c) x ≡ none a → ⊥
-  run-to c p (In b e) i a h =
-      given_to (In b e) i a (sym (ap (λ (x : Bool). cond x (given_goal_of_for false index (In b e)) (none 15)) (passes-code c p)) ∙ h)
-  run-to c p Other i a h = taken i
+  run-to c p (Some (b, e)) i a h =
+      given_to (Some (b, e)) i a (sym (ap (λ (x : Bool). cond x (given_goal_of_for false index (Some (b, e))) (none 15)) (passes-code c p)) ∙ h)
+  run-to c p None i a h = taken i
 
 wrong_size : (b : Bool) (g : Goal) (a : ℕ) → OfProfile a → ((r : ℕ) → g ≡ none r → ⊥) → cond b g (none 1) ≡ none a → ⊥
 wrong_size true g a o n e = n a e
 wrong_size false g a o n e = not-one o (none-same e)
 
-module _ (target index m : List ℕ) (k : ℕ) (by_index : IntegerIndex k target index) (taken : run_target_in false k target ≡ Other → ⊥) where
+module _ (target index m : List ℕ) (k : ℕ) (by_index : IntegerIndex k target index) (taken : run_target_in false k target ≡ None → ⊥) where
   pub run-goes : (code : List ℕ) (n : ℕ) → IntegerCode code n → (a : ℕ) → OfProfile a → goal_for false code n target index k m ≡ none a → ⊥
   run-goes code n p a o =
       wrong_size (eqb (length m) image_size) (goal_of_for false index (verdict_in false (instructions code n)) (run_target_in false k target)) a o

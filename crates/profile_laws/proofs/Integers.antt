@@ -1,4 +1,5 @@
 -- The value of every report of the profile is an integer: a run gives no other, and on a refusal and a fault it is integer 0.
+use Rattle.std.specs.Prelude.{Option, Result, Some, None, Ok, Err, ⊤}
 use mathlib.Core.Path.{◌≡◌, refl, ap, subst, ◌∙◌}
 use mathlib.Core.Bool.{Bool, true, false, not, cond}
 use mathlib.Core.List.{List}
@@ -9,13 +10,12 @@ use lib.ListN.{length}
 use Rattle.values.specs.declared.Kind.{Kind}
 use Rattle.values.specs.declared.Kind.TheVariants as K
 use Rattle.values.specs.declared.Value.{Value}
+use Rattle.values.specs.declared.Fault.{Fault as FaultName}
 use Rattle.values.specs.declared.Fault.TheVariants.{OutOfRange}
 use Rattle.values.specs.declared.Outcome.{Outcome}
 use Rattle.operators.specs.Kinds.{is_int}
 use Rattle.operators.specs.Laws.{OfKind, done, stopped}
 use Rattle.memory.specs.declared.Bank.{Bank}
-use Rattle.memory.specs.declared.store.Stored.{Stored}
-use Rattle.memory.specs.declared.store.Stored.TheVariants as Stored
 use Rattle.memory.specs.Layout.{image_size}
 use Rattle.memory.specs.Store.{is_finite, store_answer}
 use Rattle.memory.specs.Environment.{memory_at}
@@ -32,8 +32,6 @@ use Rattle.machine.specs.declared.Ran.{Ran}
 use Rattle.machine.specs.Machine.{runs_at, end_of}
 use Rattle.machine.specs.Profile.{runs_in}
 use Rattle.machine.proofs.Profile.{profile-runs}
-use Rattle.verifier.specs.declared.Verdict.{Verdict}
-use Rattle.verifier.specs.declared.Verdict.TheVariants as Verdict
 use Rattle.verifier.specs.Profile.{verdict_in}
 use Rattle.tree_code.specs.Code.{code_of}
 use Rattle.compiler.specs.Compile.{coded_bytes, compiling_in}
@@ -64,16 +62,16 @@ of-target false (to_cell b i) = refl
 of-target false (to_indexed b t) = refl
 of-target false no_target = refl
 
-of-verdict : (v : Verdict) → OfInteger (verdict_answer v)
-of-verdict (Verdict.Accepted k) = refl
-of-verdict Verdict.Refused = refl
+of-verdict : (v : Option Kind) → OfInteger (verdict_answer v)
+of-verdict (Some k) = refl
+of-verdict None = refl
 
 -- ---- what follows an integer
 
 module _ (m : List ℕ) (v : Value) (whole : real_value v ≡ false) where
-  after_store_lem : (n : ℕ) (b : Bank) (i : ℕ) (s : Stored) → OfInteger (after_store v n b i s)
-  after_store_lem n b i Stored.Done = whole
-  after_store_lem n b i (Stored.Stopped f) = refl
+  after_store_lem : (n : ℕ) (b : Bank) (i : ℕ) (s : (Result ⊤ FaultName)) → OfInteger (after_store v n b i s)
+  after_store_lem n b i (Ok _) = whole
+  after_store_lem n b i (Err f) = refl
 
   arrived : (n : ℕ) (d : Destination) → OfInteger (arrived_answer m v n d)
   arrived n (cell b i) = after_store_lem n b i (store_answer m b i v)
@@ -105,11 +103,11 @@ of-run : (tick : ℕ) (index m : List ℕ) (x : Ran) → WholeEnd x.end → (g :
 of-run tick index m x h (to b e) = ended m (arrival_for false tick index m b e) x.count x.end h
 of-run tick index m x h (none a) = refl
 
-of-value : (x : Ran) (v : Verdict) (e : Ended) → x.end ≡ e → WholeEnd e → OfInteger (value_answer x v)
-of-value x Verdict.Refused e q h = refl
-of-value x (Verdict.Accepted k) (Ended.Done v) q h = rw q (h v refl)
-of-value x (Verdict.Accepted k) (Ended.Stopped f) q h = rw q refl
-of-value x (Verdict.Accepted k) Ended.Stuck q h = rw q refl
+of-value : (x : Ran) (v : (Option Kind)) (e : Ended) → x.end ≡ e → WholeEnd e → OfInteger (value_answer x v)
+of-value x None e q h = refl
+of-value x (Some k) (Ended.Done v) q h = rw q (h v refl)
+of-value x (Some k) (Ended.Stopped f) q h = rw q refl
+of-value x (Some k) Ended.Stuck q h = rw q refl
 
 of-store : (tick : ℕ) (index m : List ℕ) (v : Value) (g : Goal) → OfInteger (gave_answer_for false tick v index m g)
 of-store tick index m v (to b e) = by (real_value v) refl

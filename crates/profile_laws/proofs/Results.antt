@@ -1,4 +1,5 @@
 -- The result of each operation: in the full box, in the profile, and what demand 1 says of the profile's.
+use Rattle.std.specs.Prelude.{Option, Some}
 use mathlib.Core.Path.{◌≡◌, refl, sym, ap, ◌∙◌, subst}
 use mathlib.Core.Logic.{◌⊎◌, inl, inr}
 use mathlib.Core.Bool.{Bool, true, false, cond}
@@ -20,8 +21,6 @@ use Rattle.code.specs.Instructions.{instructions}
 use Rattle.machine.specs.declared.Ran.{Ran}
 use Rattle.machine.specs.Machine.{runs_at}
 use Rattle.machine.specs.Profile.{runs_in}
-use Rattle.verifier.specs.declared.Verdict.{Verdict}
-use Rattle.verifier.specs.declared.Verdict.TheVariants as Verdict
 use Rattle.compiler.specs.Compile.{coded_bytes}
 use Rattle.targets.specs.Found.{index_bytes}
 use Rattle.delivery.specs.declared.Answer.{Answer}
@@ -43,6 +42,7 @@ use Rattle.profile_laws.proofs.Goals.{two, fifteen, nineteen, Goals, both_stop, 
 use Rattle.profile_laws.proofs.Goals.{alone, ran-alike, gave-alike}
 use Rattle.profile_laws.proofs.Asked.{Judgements, one-judgement, real-found, both-compile, Targets, one-target, none-taken, both-target}
 use Rattle.profile_laws.proofs.Asked.{Requests, one-request, stops-before, both-requests}
+use Rattle.values.specs.declared.Kind.{Kind}
 
 -- the memory and the answer alone
 abbrev leaves : List ℕ → List ℕ → Answer → List ℕ → OperationResult
@@ -85,7 +85,7 @@ module _ (m code index : List ℕ) where
   of-target true (none-taken g) = as_full refl
   of-target false (none-taken g) = refuses 2 0 two refl
 
-  of-check : {c : List Instr} {v w : Verdict} → BothChecks c v w
+  of-check : {c : List Instr} {v w : (Option Kind)} → BothChecks c v w
       → Profiled m code index (leaves code index (verdict_answer v) m) (leaves code index (verdict_answer w) m)
   of-check (passes a) = as_full refl
   of-check (fails w) = refuses 15 0 fifteen refl
@@ -125,11 +125,11 @@ pub either_evaluate : (code m : List ℕ) (n tick : ℕ)
     → (evaluate_answer_for false tick code n m ≡ evaluate_answer tick code n m) ⊎ (evaluate_answer_for false tick code n m ≡ Refused 15 0)
 either_evaluate code m n tick = by (eqb (length m) image_size) (both-checks (instructions code n))
   where
-    by : (b : Bool) {v w : Verdict} → BothChecks (instructions code n) v w
+    by : (b : Bool) {v w : (Option Kind)} → BothChecks (instructions code n) v w
         → (cond b (value_answer (runs_in false tick code n m) v) (Refused 1 0) ≡ cond b (value_answer (runs_at tick code n m) w) (Refused 1 0))
         ⊎ (cond b (value_answer (runs_in false tick code n m) v) (Refused 1 0) ≡ Refused 15 0)
     by false h = inl refl
-    by true (passes a) = inl (ap (λ (x : Ran). value_answer x (Verdict.Accepted K.Int)) (same_runs tick code n m a))
+    by true (passes a) = inl (ap (λ (x : Ran). value_answer x (Some K.Int)) (same_runs tick code n m a))
     by true (fails w) = inr refl
 
 -- ---- demand 1

@@ -1,4 +1,5 @@
 -- `ProfileTheorems`, from its parts.
+use Rattle.std.specs.Prelude.{Option}
 use mathlib.Core.Path.{◌≡◌, sym, ap, ◌∙◌}
 use mathlib.Core.Bool.{false, cond}
 use mathlib.Core.List.{List}
@@ -10,7 +11,6 @@ use Rattle.memory.specs.Layout.{image_size}
 use Rattle.code.specs.Instructions.{instructions}
 use Rattle.machine.specs.declared.Ran.{Ran}
 use Rattle.machine.specs.Machine.{runs_at}
-use Rattle.verifier.specs.declared.Verdict.{Verdict}
 use Rattle.verifier.proofs.Verdicts.{verdict-laws}
 use Rattle.compiler.specs.Compile.{coded_bytes}
 use Rattle.delivery.specs.declared.Answer.TheVariants.{Refused}
@@ -29,6 +29,7 @@ use Rattle.profile_laws.proofs.Results.{performs, full, either, either_evaluate,
 use Rattle.profile_laws.proofs.Integers.{integers, integers_evaluate}
 use Rattle.profile_laws.proofs.Faithful.{compiles, compiles_index, faithful, faithful_index, safe}
 use Rattle.profile_laws.proofs.Taken.{taken_run, store_real}
+use Rattle.values.specs.declared.Kind.{Kind}
 
 -- ---- evaluate
 
@@ -36,7 +37,7 @@ same_evaluate : (code m : List ℕ) (n tick : ℕ) → IntegerCode code n → ev
 same_evaluate code m n tick a =
     let c = instructions code n in
     ap (λ (x : Ran). cond (eqb (length m) image_size) (value_answer x (verdict_in false c)) (Refused 1 0)) (same_runs tick code n m a)
-    ∙ ap (λ (v : Verdict). cond (eqb (length m) image_size) (value_answer (runs_at tick code n m) v) (Refused 1 0))
+    ∙ ap (λ (v : (Option Kind)). cond (eqb (length m) image_size) (value_answer (runs_at tick code n m) v) (Refused 1 0))
     ((profile-verdicts.exact false c K.Int).1 a ∙ sym ((verdict-laws.exact c K.Int).1 ((profile-code.checked c K.Int).0 a).0))
 
 -- ---- all of it

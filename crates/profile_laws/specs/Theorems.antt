@@ -1,6 +1,6 @@
 -- The profile and the full box (paper 02, Ask 12): "on every such formula, into a target that the feeder takes, the feeder and the full box give the same
 -- answer, value, bytes and count". proofs/Theorems.antt proves the record.
-use Rattle.std.specs.Prelude.{◌≡◌, ◌↔◌, ◌⊎◌, Bool, true, false, List, ℕ, ◌+◌, ◌*◌, ◌≤◌, ℤ, pos, length, Float}
+use Rattle.std.specs.Prelude.{◌≡◌, ◌↔◌, ◌⊎◌, Bool, true, false, List, ℕ, ◌+◌, ◌*◌, ◌≤◌, ℤ, pos, length, Float, Some, None}
 use Rattle.values.specs.declared.Kind.{Kind}
 use Rattle.values.specs.declared.Kind.TheVariants as K
 use Rattle.values.specs.declared.Value.TheVariants.{Int, Real}
@@ -20,7 +20,6 @@ use Rattle.tree_code.specs.Code.{code_of}
 use Rattle.tree_code.specs.Demand.{range_calls}
 use Rattle.targets.specs.declared.Element.{Element}
 use Rattle.targets.specs.declared.Element.TheVariants.{By}
-use Rattle.targets.specs.declared.Found.TheVariants.{In, Other}
 use Rattle.targets.specs.Found.{found_to_run, run_target_in}
 use Rattle.delivery.specs.declared.Answer.TheVariants.{Done, Refused}
 use Rattle.operations.specs.Operations.{report_of, done_with, compile_target_answer, compile_target_code, run_answer, run_memory, evaluate_answer, given_answer}
@@ -42,7 +41,7 @@ IntegerCode code n = AcceptsIn false (instructions code n) K.Int
 
 -- and where run's target is a bank, it accepts the index code too
 abbrev pub IntegerIndex : ℕ → List ℕ → List ℕ → Type 0
-IntegerIndex k target index = (b : Bank) (j : ℕ) → run_target_in false k target ≡ In b (By j) → IntegerCode index j
+IntegerIndex k target index = (b : Bank) (j : ℕ) → run_target_in false k target ≡ Some (b, By j) → IntegerCode index j
 
 -- demand 3 in the profile, of n instructions compiled from a text whose tree is t
 pub record IntegerFaithful (text : List ℕ) (t : Tree) (code : List ℕ) (n : ℕ) : Type 0 where
@@ -80,7 +79,7 @@ pub record ProfileTheorems : Type 0 where
       × ((tick : ℕ) (m : List ℕ) → runs_in false tick code n m ≡ runs_at tick code n m)
   -- "an R target .. is 2": of run's targets, and store's, just those are taken whose bank is not R
   pub taken_run : (k : ℕ) (s : List ℕ) (b : Bank) (e : Element)
-      → run_target_in false k s ≡ In b e ↔ ((found_to_run k s ≡ In b e) × (real_bank b ≡ false))
+      → run_target_in false k s ≡ Some (b, e) ↔ ((found_to_run k s ≡ Some (b, e)) × (real_bank b ≡ false))
   -- a real that is given to be stored is 19, where neither 1, 2 nor 15 holds, and nothing is written
   pub store_real : (x : Float) (target index m : List ℕ) (k tick : ℕ) (b : Bank) (e : Element) → given_goal_for false target index k m ≡ to b e
       → (given_answer_for false tick (Real x) target index k m ≡ Refused 19 0) × (given_memory_for false tick (Real x) target index k m ≡ m)
@@ -92,11 +91,11 @@ pub record ProfileTheorems : Type 0 where
       → (target_in false target ≡ no_target → ⊥)
       → result_for false (compile-and-run text tick) target m code index ≡ result_of (compile-and-run text tick) target m code index
   -- run, evaluate, and store of an integer
-  pub same_run : (code target index m : List ℕ) (n k tick : ℕ) → IntegerCode code n → IntegerIndex k target index → (run_target_in false k target ≡ Other → ⊥)
+  pub same_run : (code target index m : List ℕ) (n k tick : ℕ) → IntegerCode code n → IntegerIndex k target index → (run_target_in false k target ≡ None → ⊥)
       → (run_answer_for false tick code n target index k m ≡ run_answer tick code n target index k m)
       × (run_memory_for false tick code n target index k m ≡ run_memory tick code n target index k m)
   pub same_evaluate : (code m : List ℕ) (n tick : ℕ) → IntegerCode code n → evaluate_answer_for false tick code n m ≡ evaluate_answer tick code n m
-  pub same_store : (z : ℤ) (target index m : List ℕ) (k tick : ℕ) → IntegerIndex k target index → (run_target_in false k target ≡ Other → ⊥)
+  pub same_store : (z : ℤ) (target index m : List ℕ) (k tick : ℕ) → IntegerIndex k target index → (run_target_in false k target ≡ None → ⊥)
       → (given_answer_for false tick (Int z) target index k m ≡ given_answer tick (Int z) target index k m)
       × (given_memory_for false tick (Int z) target index k m ≡ given_memory tick (Int z) target index k m)
   -- compile, and compile of a target

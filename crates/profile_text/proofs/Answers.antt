@@ -1,18 +1,13 @@
 -- The refusals of bytes that are no token are 4 to 6.
+use Rattle.std.specs.Prelude.{Option, Result, Some, None, Ok, Err}
 use mathlib.Core.Path.{◌≡◌}
 use mathlib.Core.Bool.{Bool, true, false, cond}
 use mathlib.Core.List.{List, [], ◌∷◌}
 use Prim.Native.Nat.{ℕ, ◌≤◌}
 use native.Mathlib.Omega.{arith}
-use Rattle.memory.specs.declared.names.Letter.{Letter}
-use Rattle.memory.specs.declared.names.Letter.TheVariants as L
-use Rattle.memory.specs.declared.names.Named.{Named}
-use Rattle.memory.specs.declared.names.Named.TheVariants as A
 use Rattle.memory.specs.Names.{letter_bank, named_rule}
 use Rattle.tokens.specs.declared.Function.{Function}
 use Rattle.tokens.specs.declared.Token.{Token}
-use Rattle.tokens.specs.declared.Scanned.{Scanned}
-use Rattle.tokens.specs.declared.Scanned.TheVariants.{Good, Bad}
 use Rattle.tokens.specs.Symbols.{equal_bytes}
 use Rattle.tokens.specs.Words.{name_of, function_named, functions, letter_word, cell_word, other_word, word_token}
 use Rattle.tokens.specs.Scan.{Tok, Scan, tokens, wrong, cons_token, scan}
@@ -21,27 +16,28 @@ use Rattle.tokens.specs.Theorems as T'
 use Rattle.tokens.proofs.Theorems.{token-theorems}
 use Rattle.tokens.proofs.numerals.Values.{NumberOrRefused, number-or-refused}
 use Rattle.tokens.proofs.numerals.Values as Values
+use Rattle.memory.specs.declared.Bank.{Bank}
 
-abbrev Few : Scanned → Type 0
-Few x = (a : ℕ) → x ≡ Bad a → a ≤ 6
+abbrev Few : Result Token ℕ → Type 0
+Few x = (a : ℕ) → x ≡ Err a → a ≤ 6
 
-few-good : (t : Token) → Few (Good t)
+few-good : (t : Token) → Few (Ok t)
 few-good t a e = let z : ◌≡◌ {A = ℕ} 0 1 = cc in absurd (omega arith)
 
-few-six : Few (Bad 6)
+few-six : Few (Err 6)
 few-six a e = let z : a ≡ 6 = cc in omega arith
 
-few-numeral : {x : Scanned} → NumberOrRefused x → Few x
+few-numeral : {x : (Result Token ℕ)} → NumberOrRefused x → Few x
 few-numeral (Values.number v) = few-good _
 few-numeral (Values.refused b l h) = λ a e. let z : a ≡ b = cc in omega (arith, l, h)
 
-few-letter : (l : Letter) → Few (letter_word l)
-few-letter (L.Of b) = few-good _
-few-letter L.Other = few-six
+few-letter : (l : Option Bank) → Few (letter_word l)
+few-letter (Some b) = few-good _
+few-letter None = few-six
 
-few-cell : (n : Named) → Few (cell_word n)
-few-cell (A.Cell b i) = few-good _
-few-cell A.Other = few-six
+few-cell : (n : (Option (Bank × ℕ))) → Few (cell_word n)
+few-cell (Some (b, i)) = few-good _
+few-cell None = few-six
 
 few-other : (cs : List ℕ) → Few (other_word cs)
 unfolding other_word
@@ -49,11 +45,11 @@ few-other [] = few-six
 few-other (c ∷ []) = few-letter (letter_bank c)
 few-other (c ∷ d ∷ cs) = few-cell (named_rule (c ∷ d ∷ cs))
 
-few-cond : (b : Bool) {x y : Scanned} → Few x → Few y → Few (cond b x y)
+few-cond : (b : Bool) {x y : (Result Token ℕ)} → Few x → Few y → Few (cond b x y)
 few-cond true h k = h
 few-cond false h k = k
 
-few-name : (fs : List Function) (cs : List ℕ) {o : Scanned} → Few o → Few (function_named fs cs o)
+few-name : (fs : List Function) (cs : List ℕ) {o : (Result Token ℕ)} → Few o → Few (function_named fs cs o)
 few-name [] cs h = h
 few-name (f ∷ fs) cs h = few-cond (equal_bytes (name_of f) cs) (few-good _) (few-name fs cs h)
 
@@ -61,7 +57,7 @@ few-word : (cs : List ℕ) → Few (word_token cs)
 unfolding word_token
 few-word cs = few-name functions cs (few-other cs)
 
-few-lexeme : {w r : List ℕ} {x : Scanned} → LongestLexeme w r x → Few x
+few-lexeme : {w r : List ℕ} {x : (Result Token ℕ)} → LongestLexeme w r x → Few x
 few-lexeme {w} (T'.word h) = few-word w
 few-lexeme {w} (T'.numeral h) = few-numeral (number-or-refused w)
 few-lexeme (T'.symbol n e h) = few-good _

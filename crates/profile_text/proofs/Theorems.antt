@@ -1,12 +1,11 @@
 -- `ProfileTexts`, from its parts.
+use Rattle.std.specs.Prelude.{Option, Some, None}
 use mathlib.Core.Path.{◌≡◌, refl, sym, ap, ◌∙◌, subst}
 use mathlib.Core.Bool.{Bool, true, false, not, ◌&&◌, cond}
 use mathlib.Core.List.{List, ◌∷◌, ◌++◌}
 use Prim.Native.Nat.{ℕ, ◌≤◌}
 use native.Mathlib.Omega.{arith}
 use Rattle.memory.specs.declared.Bank.{Bank}
-use Rattle.memory.specs.declared.names.Letter.{Letter}
-use Rattle.memory.specs.declared.names.Letter.TheVariants as L
 use Rattle.tokens.specs.Scan.{Tok, tokens, scan}
 use Rattle.grammar.specs.Tree.{Tree}
 use Rattle.grammar.specs.Parse.{most_open}
@@ -95,13 +94,13 @@ module _ (d : ℕ) (few : d ≤ most_open) (s : List ℕ) where
 module _ (b : Bank) where
   -- an index t of the full box's judgement, and what the profile makes of it
   index-taken : (real : Bool) (t : Tree) (q : Bool) (j : Judgement) → (q ≡ true → j ≡ accepted t) → ((u : Tree) → j ≡ accepted u → q ≡ true)
-      → cond (not real && q) (to_indexed b t) no_target ≡ indexed_by (cond real L.Other (L.Of b)) j
+      → cond (not real && q) (to_indexed b t) no_target ≡ indexed_by (cond real None (Some b)) j
   index-taken true t q j f g = refl
   index-taken false t true j f g = rw (f refl) refl
   index-taken false t false (accepted u) f g = let z : false ≡ true = g u refl in let n : ◌≡◌ {A = ℕ} 0 1 = cc in absurd (omega arith)
   index-taken false t false (refused a p) f g = refl
 
-  no_index : (real : Bool) (j : Judgement) → ((u : Tree) → j ≡ accepted u → ⊥) → no_target ≡ indexed_by (cond real L.Other (L.Of b)) j
+  no_index : (real : Bool) (j : Judgement) → ((u : Tree) → j ≡ accepted u → ⊥) → no_target ≡ indexed_by (cond real None (Some b)) j
   no_index true j g = refl
   no_index false (accepted u) g = absurd (g u refl)
   no_index false (refused a p) g = refl
@@ -143,18 +142,18 @@ indexed-all g b t e f i = rw e (rw (f, i) refl)
 open-one : 1 ≤ most_open
 open-one = omega arith
 
-index-profile : (l : Letter) (s : List ℕ) → taken_target false (indexed_by l (judge_from 1 s)) ≡ indexed_by (bank_in false l) (judge_in false 1 s)
+index-profile : (l : (Option Bank)) (s : List ℕ) → taken_target false (indexed_by l (judge_from 1 s)) ≡ indexed_by (bank_in false l) (judge_in false 1 s)
 unfolding integer_target
-index-profile L.Other s = refl
-index-profile (L.Of b) s = by (judge_from 1 s) refl
+index-profile None s = refl
+index-profile (Some b) s = by (judge_from 1 s) refl
   where
-    by : (j : Judgement) → judge_from 1 s ≡ j → taken_target false (indexed_by (L.Of b) j) ≡ indexed_by (cond (real_bank b) L.Other (L.Of b)) (judge_in false 1 s)
+    by : (j : Judgement) → judge_from 1 s ≡ j → taken_target false (indexed_by (Some b) j) ≡ indexed_by (cond (real_bank b) None (Some b)) (judge_in false 1 s)
     by (accepted t) e =
         index-taken b (real_bank b) t (integer_only t) (judge_in false 1 s) (λ i. accepts-all 1 open-one s t e i)
         (λ u f. let h = accepts-only 1 open-one s u f in subst (λ (v : Tree). integer_only v ≡ true) (sym (same-tree (sym e ∙ h.0))) h.1)
     by (refused a p) e = no_index b (real_bank b) (judge_in false 1 s) (λ u f. refused-not (sym e ∙ (accepts-only 1 open-one s u f).0))
 
-index_judged : (reals : Bool) (l : Letter) (s : List ℕ) → taken_target reals (indexed_by l (judge_from 1 s)) ≡ indexed_by (bank_in reals l) (judge_in reals 1 s)
+index_judged : (reals : Bool) (l : (Option Bank)) (s : List ℕ) → taken_target reals (indexed_by l (judge_from 1 s)) ≡ indexed_by (bank_in reals l) (judge_in reals 1 s)
 index_judged true l s = ap (indexed_by l) (sym (full 1 s))
 index_judged false l s = index-profile l s
 

@@ -1,11 +1,10 @@
 -- What the profile takes and refuses (paper 02, Ask 12: "a profile that accepts exactly the formulas in which no part is real"), and that with reals all is
 -- as it was. proofs/Theorems.antt proves the record.
-use Rattle.std.specs.Prelude.{◌≡◌, ◌↔◌, Bool, true, false, List, ◌∷◌, ◌++◌, ℕ, ◌≤◌, ℤ}
+use Rattle.std.specs.Prelude.{◌≡◌, ◌↔◌, Bool, true, false, List, ◌∷◌, ◌++◌, ℕ, ◌≤◌, ℤ, Option}
 use Rattle.values.specs.declared.Kind.TheVariants.{Int}
 use Rattle.operators.specs.declared.UnaryOp.{UnaryOp}
 use Rattle.operators.specs.declared.BinaryOp.{BinaryOp}
 use Rattle.memory.specs.declared.Bank.{Bank}
-use Rattle.memory.specs.declared.names.Letter.{Letter}
 use Rattle.totals.specs.declared.MatchOp.{MatchOp}
 use Rattle.tokens.specs.Scan.{Tok, tokens, scan}
 use Rattle.grammar.specs.Tree.{Tree, indexed, unary, binary, logic, choice, since, matching, at, tree_kind, diagnostic_of}
@@ -66,7 +65,7 @@ pub record ProfileTexts : Type 0 where
   pub taken_indexed : (s : List ℕ) (b : Bank) (t : Tree)
       → target_in false s ≡ to_indexed b t ↔ ((target_of s ≡ to_indexed b t) × ((real_bank b ≡ false) × (integer_only t ≡ true)))
   -- a target's index is taken exactly if the profile accepts it, with its bracket open before it
-  pub index_judged : (reals : Bool) (l : Letter) (s : List ℕ)
+  pub index_judged : (reals : Bool) (l : (Option Bank)) (s : List ℕ)
       → taken_target reals (indexed_by l (judge_from 1 s)) ≡ indexed_by (bank_in reals l) (judge_in reals 1 s)
   -- no operand is of a wrong kind: what such a tree shows to be wrong is a count, and 9 is no answer of the profile
   pub late_six : (t : Tree) (p a : ℕ) → integer_only t ≡ true → diagnostic_of t ≡ at p a → a ≡ 6

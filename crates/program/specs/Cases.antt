@@ -1,32 +1,24 @@
 -- The lines of a case (paper 01): "The program reads lines of key=value from standard input: cells (R as its pattern), then target, then expr. Lines of any
 -- other form are skipped." The order of lines is not enforced, and a later line for the same key wins.
-use Rattle.std.specs.Prelude.{cond, List, [], ◌∷◌, ℕ, ltb, length, replicate}
+use Rattle.std.specs.Prelude.{cond, List, [], ◌∷◌, ℕ, ltb, length, replicate, Option, Some, None}
 use Rattle.memory.specs.declared.Bank.{Bank}
-use Rattle.memory.specs.declared.names.Named.{Named}
 use Rattle.memory.specs.Layout.{image_size, packed}
 use Rattle.memory.specs.Names.{named_rule}
 use Rattle.tokens.specs.Symbols.{equal_bytes}
-use Rattle.lines.specs.declared.forms.Form.{Form}
-use Rattle.lines.specs.declared.forms.Form.TheVariants.{Pattern, Other}
 use Rattle.lines.specs.Lines.{lines, key_length, key_of, value_of}
 use Rattle.lines.specs.Forms.{cell_pattern}
 use Rattle.words.specs.Ascii.{ascii}
-
--- what the lines say
-pub record Case : Type 0 where
-  pub memory : List ℕ
-  pub target : List ℕ
-  pub text : List ℕ
+use Rattle.program.specs.declared.case.Case.{Case}
 
 -- the cell holds the pattern, every other cell is as it was
-abbrev pub put_form : List ℕ → Bank → ℕ → Form → List ℕ
-put_form m b i (Pattern n) = packed.put m b i n
-put_form m b i Other = m
+abbrev pub put_form : List ℕ → Bank → ℕ → Option ℕ → List ℕ
+put_form m b i (Some n) = packed.put m b i n
+put_form m b i None = m
 
 -- a key that names a cell, of X too, and a value of the bank's form; "Lines of any other form are skipped"
-abbrev pub set_cell : List ℕ → List ℕ → Named → List ℕ
-set_cell m v (Named.Cell b i) = put_form m b i (cell_pattern b v)
-set_cell m v Named.Other = m
+abbrev pub set_cell : List ℕ → List ℕ → Option (Bank × ℕ) → List ℕ
+set_cell m v (Some (b, i)) = put_form m b i (cell_pattern b v)
+set_cell m v None = m
 
 -- `target`
 abbrev pub target_key : List ℕ

@@ -1,3 +1,4 @@
 pub mod Cases
+pub mod Codes
 pub mod Reply
 pub mod Stream

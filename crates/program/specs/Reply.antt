@@ -10,7 +10,8 @@ use Rattle.delivery.specs.declared.Answer.{Answer}
 use Rattle.delivery.specs.declared.Answer.TheVariants.{Done, Fault, Refused}
 use Rattle.operations.specs.declared.Report.{Report}
 use Rattle.operations.specs.Operations.{report_of, Request, request, request_answer, request_memory}
-use Rattle.program.specs.Cases.{Case, zeros, case_of}
+use Rattle.program.specs.declared.case.Case.{Case}
+use Rattle.program.specs.Cases.{zeros, case_of}
 use Rattle.lines.specs.Printing.{decimal_text, cell_text, cell_name}
 use Rattle.words.specs.Ascii.{ascii}
 

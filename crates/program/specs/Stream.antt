@@ -2,11 +2,10 @@
 -- kept gives the reply to the whole of it.
 use Rattle.std.specs.Prelude.{◌≡◌, cond, List, [], ◌∷◌, ◌++◌, ℕ, ◌≤◌, eqb, length, take}
 use Rattle.memory.specs.Layout.{image_size}
-use Rattle.program.specs.declared.case.Lengths.{Lengths}
-use Rattle.program.specs.declared.stream.Receipt.{Receipt}
-use Rattle.program.specs.declared.stream.Receipt.TheVariants.{All, Unread}
+use Rattle.program.specs.declared.case.Case.{Case}
+use Rattle.program.specs.declared.stream.Progress.{Progress}
 use Rattle.operations.specs.Operations.{Request, request}
-use Rattle.program.specs.Cases.{Case, empty_case, zeros, after_line, case_of}
+use Rattle.program.specs.Cases.{empty_case, zeros, after_line, case_of}
 use Rattle.program.specs.Reply.{reply_to, reply, write_text, written_length, HasPrefix}
 use Rattle.words.specs.Ascii.{byte}
 
@@ -15,11 +14,7 @@ use Rattle.words.specs.Ascii.{byte}
 abbrev pub kept_bytes : ℕ
 kept_bytes = 1032
 
--- what is kept: the case of the lines that have ended, and the line in progress
-pub record Progress : Type 0 where
-  pub case : Case
-  pub line : List ℕ
-
+-- before the first byte
 abbrev pub no_progress : Progress
 no_progress = record { case = empty_case (zeros image_size); line = [] }
 
@@ -49,46 +44,10 @@ pub record StreamLaws : Type 0 where
   -- so it is enough for the reply
   pub exact : (input : List ℕ) → reply_to (case_at_end (after_bytes no_progress input)) ≡ reply input
 
--- ---- in the buffers
-abbrev pub no_lengths : Lengths
-no_lengths = record { target = 0; text = 0; line = 0 }
-
-abbrev pub case_in : List ℕ → List ℕ → List ℕ → Lengths → Case
-case_in m t x n = record { memory = m; target = take n.target t; text = take n.text x }
-
-abbrev pub progress_in : List ℕ → List ℕ → List ℕ → List ℕ → Lengths → Progress
-progress_in m t x l n = record { case = case_in m t x n; line = take n.line l }
-
--- the lengths lie within the buffers
-pub record LengthsInside (t x : List ℕ) (n : Lengths) : Type 0 where
-  pub target : n.target ≤ length t
-  pub text : n.text ≤ length x
-
--- the buffers have their sizes, and the lengths lie within them
-pub record StreamBuffers (m t x l : List ℕ) (n : Lengths) : Type 0 where
-  pub image : length m ≡ image_size
-  pub targets : length t ≡ kept_bytes
-  pub texts : length x ≡ kept_bytes
-  pub lines : length l ≡ kept_bytes
-  pub inside : LengthsInside t x n
-  pub line : n.line ≤ kept_bytes
-
--- before the first byte: an image of zero bytes, and room for what is kept of a line
-pub record BlankBuffers (m t x : List ℕ) : Type 0 where
-  pub image : m ≡ zeros image_size
-  pub targets : length t ≡ kept_bytes
-  pub texts : length x ≡ kept_bytes
-
--- the buffers hold the case of an input that has ended
-pub record HoldsCase (m t x : List ℕ) (n : Lengths) (input : List ℕ) : Type 0 where
-  pub image : length m ≡ image_size
-  pub inside : LengthsInside t x n
-  pub case : case_in m t x n ≡ case_at_end (after_bytes no_progress input)
-
--- the buffers hold the case of some input, or the input was not read
-pub data Receives (m t x : List ℕ) : Receipt → Type 0 where
-  all : {n : Lengths} (input : List ℕ) → HoldsCase m t x n input → Receives m t x (All n)
-  missed : Receives m t x Unread
+-- the case that some input leaves
+pub record Received (c : Case) : Type 0 where
+  pub input : List ℕ
+  pub held : c ≡ case_at_end (after_bytes no_progress input)
 
 -- the reply to a case goes to the front of a lent slice, and 64 bytes have room for it
 pub record Replies (s : Case) (out : List ℕ) (n : ℕ) (new : List ℕ) : Type 0 where

@@ -5,27 +5,28 @@ ghost use Rattle.std.specs.Prelude.{◌≡◌, ◌≤◌, length};
 ghost use Rattle.memory.specs.Layout.{image_size};
 ghost use Rattle.program.specs.Cases.{zeros};
 ghost use Rattle.program.specs.Reply.{reply, write_text, written_length, HasPrefix, Outputs};
-ghost use Rattle.program.specs.Stream.{kept_bytes};
 
-use crate::stream::{KEPT_BYTES, Receipt};
 use memory::IMAGE_SIZE;
 use std::io::Read;
 
 pub mod case;
+pub mod codes;
+pub mod kept;
 pub mod reply;
 pub mod stream;
 
-// The zero bytes come from functions: their contracts name the lists, which a literal would write out in every step of the proofs below.
+// N zero bytes. They come from a function: its contract names the list, which a literal would write out in every step of a proof.
+pub fn zeros<const N: usize>() -> [u8; N]
+    ensures size { N ≡ length result }
+    ensures value { result ≡ zeros N }
+{
+    [0; N]
+}
+
 pub fn blank_image() -> [u8; IMAGE_SIZE]
     ensures { (image_size ≡ length result) × (result ≡ zeros image_size) }
 {
-    [0; IMAGE_SIZE]
-}
-
-pub fn blank_text() -> [u8; KEPT_BYTES]
-    ensures { kept_bytes ≡ length result }
-{
-    [0; KEPT_BYTES]
+    zeros()
 }
 
 // The whole input is one case. An output of 64 bytes has room for every reply; in one that is too short nothing is written, and 0 is returned.
@@ -35,13 +36,8 @@ pub fn respond(input: &[u8], output: &mut [u8]) -> usize
     ensures input_len_bound { length (reply input.now) ≤ 64 }
     ensures has_prefix { HasPrefix result output.new }
 {
-    let mut memory = blank_image();
-    let mut target = blank_text();
-    let mut text = blank_text();
-    let n = stream::take_case(input, &mut memory, &mut target, &mut text);
-    let a = n.target;
-    let b = n.text;
-    reply::write_reply(&mut memory, &target[..a], &text[..b], output)
+    let mut case = stream::take_case(input);
+    case.reply(output)
 }
 
 // The same of an input that is read to its end. If a read fails there is no answer, and the one line `error=read` says so.
@@ -49,15 +45,8 @@ pub fn respond_from<R: Read>(input: &mut R, output: &mut [u8]) -> usize
     ensures outputs { Outputs output.old result output.new }
     ensures has_prefix { HasPrefix result output.new }
 {
-    let mut memory = blank_image();
-    let mut target = blank_text();
-    let mut text = blank_text();
-    match stream::receive_case(input, &mut memory, &mut target, &mut text) {
-        Receipt::All(n) => {
-            let a = n.target;
-            let b = n.text;
-            reply::write_reply(&mut memory, &target[..a], &text[..b], output)
-        }
-        Receipt::Unread => reply::write_text(b"error=read\n", output),
+    match stream::receive_case(input) {
+        Some(mut case) => case.reply(output),
+        None => reply::write_text(b"error=read\n", output),
     }
 }

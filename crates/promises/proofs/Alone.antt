@@ -1,4 +1,5 @@
 -- Each half for itself: the refusals of evaluate and of store, and what they answer where none holds.
+use Rattle.std.specs.Prelude.{Option, Some, None}
 use mathlib.Core.Path.{◌≡◌, refl, sym, ap, subst, subst⁻¹}
 use mathlib.Core.Bool.{true, false}
 use mathlib.Core.List.{List}
@@ -21,8 +22,6 @@ use Rattle.machine.specs.declared.Ended.{Ended}
 use Rattle.machine.specs.declared.Ended.TheVariants as Ended
 use Rattle.machine.specs.declared.Ran.{Ran}
 use Rattle.machine.specs.Machine.{runs_at, end_of}
-use Rattle.verifier.specs.declared.Verdict.{Verdict}
-use Rattle.verifier.specs.declared.Verdict.TheVariants as Verdict
 use Rattle.verifier.specs.Accepts.{Accepts}
 use Rattle.verifier.specs.Safety.{EndsWell}
 use Rattle.verifier.specs.Safety as EndsWell
@@ -31,7 +30,6 @@ use Rattle.verifier.proofs.Safe.{safe}
 use Rattle.verifier.proofs.Verdicts.{verdict-laws}
 use Rattle.targets.specs.declared.Element.{Element}
 use Rattle.targets.specs.declared.Element.TheVariants.{By}
-use Rattle.targets.specs.declared.Found.TheVariants.{Other}
 use Rattle.targets.specs.Found.{found_to_run}
 use Rattle.delivery.specs.declared.Answer.{Answer}
 use Rattle.delivery.specs.declared.Answer.TheVariants.{Fault, Refused}
@@ -49,7 +47,7 @@ use Rattle.promises.proofs.Codes.{faithful}
 
 -- ---- evaluate
 
-of_end : {k : Kind} {e : Ended} (n : ℕ) → EndsWell k e → ValueOrFault e n (value_answer (record { end = e; count = n }) (Verdict.Accepted k))
+of_end : {k : Kind} {e : Ended} (n : ℕ) → EndsWell k e → ValueOrFault e n (value_answer (record { end = e; count = n }) (Some k))
 of_end n (EndsWell.value v q) = value
 of_end n (EndsWell.fault f) = fault
 
@@ -76,9 +74,9 @@ module _ (code m : List ℕ) (n tick : ℕ) where
   pub evaluate_listed : answer_number (evaluate_answer tick code n m) ≤ 15
   evaluate_listed = by (ℕ_discrete (length m) image_size)
     where
-      of : length m ≡ image_size → (v : Verdict) → verdict (instructions code n) ≡ v → answer_number (evaluate_answer tick code n m) ≤ 15
-      of h (Verdict.Accepted k) q = listed (evaluates h (ap verdict_answer q))
-      of h Verdict.Refused q = subst (λ r. answer_number r ≤ 15) (given.evaluates tick code n m h q refl refl) (omega arith)
+      of : length m ≡ image_size → (v : Option Kind) → verdict (instructions code n) ≡ v → answer_number (evaluate_answer tick code n m) ≤ 15
+      of h (Some k) q = listed (evaluates h (ap verdict_answer q))
+      of h None q = subst (λ r. answer_number r ≤ 15) (given.evaluates tick code n m h q refl refl) (omega arith)
 
       by : Dec (length m ≡ image_size) → answer_number (evaluate_answer tick code n m) ≤ 15
       by (yes h) = of h (verdict (instructions code n)) refl
@@ -100,7 +98,7 @@ module _ (v : Value) (target index m : List ℕ) (k tick : ℕ) where
   pub store_wrong_memory : (length m ≡ image_size → ⊥) → given_answer tick v target index k m ≡ Refused 1 0
   store_wrong_memory h = ap (gave_answer tick v index m) (given.no-image tick v target index k m h)
 
-  pub store_bad_target : length m ≡ image_size → found_to_run k target ≡ Other → given_answer tick v target index k m ≡ Refused 2 0
+  pub store_bad_target : length m ≡ image_size → found_to_run k target ≡ None → given_answer tick v target index k m ≡ Refused 2 0
   store_bad_target h e = ap (gave_answer tick v index m) (given.found tick v target index k m h e)
 
   pub store_wrong_index : {b : Bank} (j : ℕ) → ReadyToRun k target m b (By j) → ((i : Kind) → Accepts (instructions index j) i → ⊥)

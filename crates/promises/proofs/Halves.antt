@@ -1,4 +1,5 @@
 -- Run is its two halves in turn, by the definitions; the counts are added.
+use Rattle.std.specs.Prelude.{Option, Result, Some, None, Ok, Err, ⊤}
 use mathlib.Core.Path.{◌≡◌, refl, sym, ap, ap₂, subst⁻¹, ◌∙◌}
 use mathlib.Core.Bool.{Bool, true, false, cond}
 use mathlib.Core.List.{List}
@@ -17,8 +18,6 @@ use Rattle.values.proofs.Laws.{pattern-laws}
 use Rattle.operators.specs.Laws.{Proper, int, real}
 use Rattle.memory.specs.declared.Bank.{Bank}
 use Rattle.memory.specs.declared.Bank.TheVariants.{X}
-use Rattle.memory.specs.declared.store.Stored.{Stored}
-use Rattle.memory.specs.declared.store.Stored.TheVariants as Stored
 use Rattle.memory.specs.Layout.{image_size}
 use Rattle.memory.specs.Store.{is_finite, with_flag, store_answer}
 use Rattle.memory.specs.Environment.{memory_at}
@@ -30,13 +29,9 @@ use Rattle.machine.specs.declared.Ended.{Ended}
 use Rattle.machine.specs.declared.Ended.TheVariants as Ended
 use Rattle.machine.specs.declared.Ran.{Ran}
 use Rattle.machine.specs.Machine.{runs_at, end_of}
-use Rattle.verifier.specs.declared.Verdict.{Verdict}
-use Rattle.verifier.specs.declared.Verdict.TheVariants as Verdict
 use Rattle.verifier.specs.Verdicts.{verdict}
 use Rattle.tree_code.specs.Code.{code_of}
 use Rattle.targets.specs.declared.Element.{Element}
-use Rattle.targets.specs.declared.Found.{Found}
-use Rattle.targets.specs.declared.Found.TheVariants as Found
 use Rattle.targets.specs.Found.{found_to_run}
 use Rattle.delivery.specs.declared.Answer.{Answer}
 use Rattle.delivery.specs.declared.Answer.TheVariants.{Done, Fault, Refused}
@@ -52,12 +47,13 @@ use Rattle.promises.proofs.Finite.{finite_code}
 use Rattle.promises.proofs.Running.{desk_and_box}
 use Rattle.promises.proofs.Alone.{evaluate_wrong_memory, evaluate_wrong_code, evaluates, evaluates_formula, evaluate_listed}
 use Rattle.promises.proofs.Alone.{store_wrong_memory, store_bad_target, store_wrong_index, stores_given, stores_infinite}
+use Rattle.values.specs.declared.Kind.{Kind}
 
 -- ---- the counts are added
 
-after-counted : (c n : ℕ) (v : Value) (b : Bank) (i : ℕ) (s : Stored) → after_store v (c + n) b i s ≡ counted c (after_store v n b i s)
-after-counted c n v b i Stored.Done = refl
-after-counted c n v b i (Stored.Stopped f) = refl
+after-counted : (c n : ℕ) (v : Value) (b : Bank) (i : ℕ) (s : (Result ⊤ FaultName)) → after_store v (c + n) b i s ≡ counted c (after_store v n b i s)
+after-counted c n v b i (Ok _) = refl
+after-counted c n v b i (Err f) = refl
 
 arrived-counted : (m : List ℕ) (v : Value) (c n : ℕ) (d : Destination) → arrived_answer m v (c + n) d ≡ counted c (arrived_answer m v n d)
 arrived-counted m v c n (cell b i) = after-counted c n v b i (store_answer m b i v)
@@ -84,29 +80,29 @@ module _ (index m : List ℕ) (tick : ℕ) where
     either w v c q r true = rw (q, r) (follow-counted m v c (arrival tick index m b e), refl)
     either w v c q r false = (refl, refl)
 
-  gave : (d : Ended) (o : ℕ) (v : Value) (c : ℕ) (t : Bool) (u : Verdict) (F : Found)
+  gave : (d : Ended) (o : ℕ) (v : Value) (c : ℕ) (t : Bool) (u : (Option Kind)) (F : (Option (Bank × Element)))
       → let x : Ran = record { end = d; count = o } in
       cond t (value_answer x u) (Refused 1 0) ≡ Done v c X 0
       → (ran_answer tick index m x (cond t (goal_of index u F) (none 1)) ≡ counted c (gave_answer tick v index m (cond t (given_goal_of index F) (none 1))))
       × (ran_memory tick index m x (cond t (goal_of index u F) (none 1)) ≡ gave_memory tick v index m (cond t (given_goal_of index F) (none 1)))
   gave d o v c false u F q = let z : ◌≡◌ {A = ℕ} 0 1 = cc in absurd (omega arith)
-  gave d o v c true Verdict.Refused F q = let z : ◌≡◌ {A = ℕ} 0 1 = cc in absurd (omega arith)
-  gave (Ended.Done w) o v c true (Verdict.Accepted j) Found.Other q = (refl, refl)
-  gave (Ended.Done w) o v c true (Verdict.Accepted j) (Found.In b e) q =
+  gave d o v c true None F q = let z : ◌≡◌ {A = ℕ} 0 1 = cc in absurd (omega arith)
+  gave (Ended.Done w) o v c true (Some j) None q = (refl, refl)
+  gave (Ended.Done w) o v c true (Some j) (Some (b, e)) q =
       let p : w ≡ v = cc in
       let r : o ≡ c = cc in
       either o b e w v c p r (index_passes index e)
-  gave (Ended.Stopped f) o v c true (Verdict.Accepted j) F q = let z : ◌≡◌ {A = ℕ} 0 1 = cc in absurd (omega arith)
-  gave Ended.Stuck o v c true (Verdict.Accepted j) F q = let z : ◌≡◌ {A = ℕ} 0 1 = cc in absurd (omega arith)
+  gave (Ended.Stopped f) o v c true (Some j) F q = let z : ◌≡◌ {A = ℕ} 0 1 = cc in absurd (omega arith)
+  gave Ended.Stuck o v c true (Some j) F q = let z : ◌≡◌ {A = ℕ} 0 1 = cc in absurd (omega arith)
 
 -- a fault of the first half is the run's end
-stopped : (d : Ended) (o : ℕ) (f : FaultName) (c : ℕ) (t : Bool) (u : Verdict)
+stopped : (d : Ended) (o : ℕ) (f : FaultName) (c : ℕ) (t : Bool) (u : Option Kind)
     → cond t (value_answer (record { end = d; count = o }) u) (Refused 1 0) ≡ Fault f c → (d ≡ Ended.Stopped f) × (o ≡ c)
 stopped d o f c false u q = let z : ◌≡◌ {A = ℕ} 0 1 = cc in absurd (omega arith)
-stopped d o f c true Verdict.Refused q = let z : ◌≡◌ {A = ℕ} 0 1 = cc in absurd (omega arith)
-stopped (Ended.Done w) o f c true (Verdict.Accepted j) q = let z : ◌≡◌ {A = ℕ} 0 1 = cc in absurd (omega arith)
-stopped (Ended.Stopped g) o f c true (Verdict.Accepted j) q = (let p : g ≡ f = cc in ap Ended.Stopped p, cc)
-stopped Ended.Stuck o f c true (Verdict.Accepted j) q = let z : ◌≡◌ {A = ℕ} 0 1 = cc in absurd (omega arith)
+stopped d o f c true None q = let z : ◌≡◌ {A = ℕ} 0 1 = cc in absurd (omega arith)
+stopped (Ended.Done w) o f c true (Some j) q = let z : ◌≡◌ {A = ℕ} 0 1 = cc in absurd (omega arith)
+stopped (Ended.Stopped g) o f c true (Some j) q = (let p : g ≡ f = cc in ap Ended.Stopped p, cc)
+stopped Ended.Stuck o f c true (Some j) q = let z : ◌≡◌ {A = ℕ} 0 1 = cc in absurd (omega arith)
 
 module _ (code target index m : List ℕ) (n k tick : ℕ) where
   abbrev x : Ran
@@ -125,13 +121,13 @@ module _ (code target index m : List ℕ) (n k tick : ℕ) where
       (ap (ran_answer tick index m x) g ∙ ap₂ (finished m a) w.0 w.1, ap (ran_memory tick index m x) g ∙ ap (memory_after m a) w.0)
 
   -- the first half's value is proper
-  ended : (d : Ended) (o : ℕ) (v : Value) (c : ℕ) (t : Bool) (u : Verdict)
+  ended : (d : Ended) (o : ℕ) (v : Value) (c : ℕ) (t : Bool) (u : Option Kind)
       → cond t (value_answer (record { end = d; count = o }) u) (Refused 1 0) ≡ Done v c X 0 → d ≡ Ended.Done v
   ended d o v c false u q = let z : ◌≡◌ {A = ℕ} 0 1 = cc in absurd (omega arith)
-  ended d o v c true Verdict.Refused q = let z : ◌≡◌ {A = ℕ} 0 1 = cc in absurd (omega arith)
-  ended (Ended.Done w) o v c true (Verdict.Accepted j) q = let p : w ≡ v = cc in ap Ended.Done p
-  ended (Ended.Stopped g) o v c true (Verdict.Accepted j) q = let z : ◌≡◌ {A = ℕ} 0 1 = cc in absurd (omega arith)
-  ended Ended.Stuck o v c true (Verdict.Accepted j) q = let z : ◌≡◌ {A = ℕ} 0 1 = cc in absurd (omega arith)
+  ended d o v c true None q = let z : ◌≡◌ {A = ℕ} 0 1 = cc in absurd (omega arith)
+  ended (Ended.Done w) o v c true (Some j) q = let p : w ≡ v = cc in ap Ended.Done p
+  ended (Ended.Stopped g) o v c true (Some j) q = let z : ◌≡◌ {A = ℕ} 0 1 = cc in absurd (omega arith)
+  ended Ended.Stuck o v c true (Some j) q = let z : ◌≡◌ {A = ℕ} 0 1 = cc in absurd (omega arith)
 
 -- ---- a value as a kind and a pattern
 

@@ -1,4 +1,5 @@
 -- Demand 1: every answer of every operation is one of three sorts, and what each sort leaves; and the cell that an answer names.
+use Rattle.std.specs.Prelude.{Option, Some, None, Ok}
 use mathlib.Core.Path.{◌≡◌, refl, ap, subst, subst⁻¹}
 use mathlib.Core.Bool.{Bool, true, false, cond}
 use mathlib.Core.Logic.{◌⊎◌, inl, inr, ⊎_elim}
@@ -13,7 +14,6 @@ use Rattle.values.specs.declared.Kind.{Kind}
 use Rattle.values.specs.declared.Value.{Value}
 use Rattle.values.specs.declared.Fault.{Fault as FaultName}
 use Rattle.memory.specs.declared.Bank.{Bank}
-use Rattle.memory.specs.declared.store.Encoded.TheVariants.{Pattern}
 use Rattle.memory.specs.Layout.{image_size, flag_at, packed, has_cell}
 use Rattle.memory.specs.Store.{encode_cell}
 use Rattle.memory.specs.Environment.{memory_at}
@@ -25,8 +25,6 @@ use Rattle.text.proofs.Theorems.{text-theorems}
 use Rattle.code.specs.Instructions.{instructions}
 use Rattle.machine.specs.declared.Ended.{Ended}
 use Rattle.machine.specs.Machine.{runs_at}
-use Rattle.verifier.specs.declared.Verdict.{Verdict}
-use Rattle.verifier.specs.declared.Verdict.TheVariants as Verdict
 use Rattle.verifier.specs.Safety.{value}
 use Rattle.verifier.specs.Verdicts.{verdict}
 use Rattle.verifier.proofs.Safe.{safe}
@@ -35,8 +33,6 @@ use Rattle.compiler.specs.Compile.{coded_bytes, encode_all}
 use Rattle.compiler.proofs.Theorems.{compile-theorems}
 use Rattle.tree_code.specs.Code.{code_of}
 use Rattle.targets.specs.declared.Element.{Element}
-use Rattle.targets.specs.declared.Found.{Found}
-use Rattle.targets.specs.declared.Found.TheVariants.{In, Other}
 use Rattle.targets.specs.Found.{found_of, found_to_run, index_bytes}
 use Rattle.delivery.specs.declared.Answer.{Answer}
 use Rattle.delivery.specs.declared.Answer.TheVariants.{Done, Fault, Refused}
@@ -55,7 +51,7 @@ use Rattle.promises.proofs.Numbers.{either, Numbered, formula, three-to-nine, nu
 use Rattle.promises.proofs.Endings.{run_sound, target_sound, ends-well, gives, names-run, names-target}
 
 -- a number put into a cell
-put_only : (m : List ℕ) (b : Bank) (i p : ℕ) (v : Value) → T (has_cell m b i) → encode_cell b v ≡ Pattern p → SameBut b i m (packed.put m b i p)
+put_only : (m : List ℕ) (b : Bank) (i p : ℕ) (v : Value) → T (has_cell m b i) → encode_cell b v ≡ Ok p → SameBut b i m (packed.put m b i p)
 put_only m b i p v h e =
     let size = has-size packed m b i h in
     let there = has-element packed m b i h in
@@ -159,9 +155,9 @@ module _ (m code index : List ℕ) where
   sorted-check : (n : ℕ) → Sorted AnyCell m code index (check_answer code n) m code index
   sorted-check n = by (verdict (instructions code n))
     where
-      by : (v : Verdict) → Sorted AnyCell m code index (verdict_answer v) m code index
-      by (Verdict.Accepted k) = done (record { cells = λ c j l d. refl; flags = λ f. refl }) tt refl refl refl
-      by Verdict.Refused = refusal 15 0 (omega arith, inr refl)
+      by : (v : Option Kind) → Sorted AnyCell m code index (verdict_answer v) m code index
+      by (Some k) = done (record { cells = λ c j l d. refl; flags = λ f. refl }) tt refl refl refl
+      by None = refusal 15 0 (omega arith, inr refl)
 
   module _ (target : List ℕ) (n k tick : ℕ) where
     abbrev Ran : Goal → Type 0
@@ -169,10 +165,10 @@ module _ (m code index : List ℕ) where
         let x = runs_at tick code n m in
         Sorted (Names (found_to_run k target)) m code index (ran_answer tick index m x g) (ran_memory tick index m x g) code index
 
-    sorted-goal : length m ≡ image_size → (v : Verdict) → verdict (instructions code n) ≡ v → (x : Found) → found_to_run k target ≡ x → Ran (goal_of index v x)
-    sorted-goal h v q Other f = low 2 0 (omega arith) (omega arith)
-    sorted-goal h Verdict.Refused q (In b e) f = refusal 15 0 (omega arith, inr refl)
-    sorted-goal h (Verdict.Accepted j) q (In b e) f = by (index_passes index e) refl
+    sorted-goal : length m ≡ image_size → (v : Option Kind) → verdict (instructions code n) ≡ v → (x : (Option (Bank × Element))) → found_to_run k target ≡ x → Ran (goal_of index v x)
+    sorted-goal h v q None f = low 2 0 (omega arith) (omega arith)
+    sorted-goal h None q (Some (b, e)) f = refusal 15 0 (omega arith, inr refl)
+    sorted-goal h (Some j) q (Some (b, e)) f = by (index_passes index e) refl
       where
         by : (p : Bool) → index_passes index e ≡ p → Ran (cond p (to b e) (none 15))
         by true p =
@@ -194,9 +190,9 @@ module _ (m code index : List ℕ) where
     abbrev Gave : Goal → Type 0
     Gave g = Sorted (Names (found_to_run k target)) m code index (gave_answer tick v index m g) (gave_memory tick v index m g) code index
 
-    sorted-found : length m ≡ image_size → (x : Found) → found_to_run k target ≡ x → Gave (given_goal_of index x)
-    sorted-found h Other f = low 2 0 (omega arith) (omega arith)
-    sorted-found h (In b e) f = by (index_passes index e) refl
+    sorted-found : length m ≡ image_size → (x : (Option (Bank × Element))) → found_to_run k target ≡ x → Gave (given_goal_of index x)
+    sorted-found h None f = low 2 0 (omega arith) (omega arith)
+    sorted-found h (Some (b, e)) f = by (index_passes index e) refl
       where
         by : (p : Bool) → index_passes index e ≡ p → Gave (cond p (to b e) (none 15))
         by true p =
@@ -218,7 +214,7 @@ module _ (m code index : List ℕ) where
     Performs q = Sorted (Names (found_of (target_of target))) m code index (request_answer tick m q) (request_memory tick m q) (request_code code q)
         (request_index index q)
 
-    sorted-text : {b : Bank} {e : Element} → length m ≡ image_size → (g : Target) → target_of target ≡ g → found_of g ≡ In b e → (j : Judgement) → judge text ≡ j
+    sorted-text : {b : Bank} {e : Element} → length m ≡ image_size → (g : Target) → target_of target ≡ g → found_of g ≡ Some (b, e) → (j : Judgement) → judge text ≡ j
         → Performs (of_text code index g j)
     sorted-text l g q f (accepted t) r =
         let kind = (compile-theorems.demand text t r).kind (memory_at tick m) (kinded tick m) in

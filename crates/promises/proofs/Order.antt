@@ -1,4 +1,5 @@
 -- The refusals that are no text's, in paper 01's order: each is given where none before it holds.
+use Rattle.std.specs.Prelude.{Option, Some, None}
 use mathlib.Core.Path.{◌≡◌, refl, ap, ◌∙◌}
 use mathlib.Core.Bool.{true, false}
 use mathlib.Core.List.{List}
@@ -11,14 +12,11 @@ use Rattle.memory.specs.Layout.{image_size}
 use Rattle.text.specs.Targets.{no_target, target_of}
 use Rattle.code.specs.Instructions.{instructions}
 use Rattle.machine.specs.Machine.{runs_at}
-use Rattle.verifier.specs.declared.Verdict.{Verdict}
-use Rattle.verifier.specs.declared.Verdict.TheVariants as Verdict
 use Rattle.verifier.specs.Accepts.{Accepts}
 use Rattle.verifier.specs.Verdicts.{verdict}
 use Rattle.verifier.proofs.Verdicts.{verdict-laws}
 use Rattle.targets.specs.declared.Element.{Element}
 use Rattle.targets.specs.declared.Element.TheVariants.{By}
-use Rattle.targets.specs.declared.Found.TheVariants.{Other}
 use Rattle.targets.specs.Found.{found_to_run}
 use Rattle.delivery.specs.declared.Answer.TheVariants.{Refused}
 use Rattle.operations.specs.Operations.{done_with, verdict_answer, check_answer, target_answer, compile_target_answer, is_accepted, ran_answer, run_answer}
@@ -52,16 +50,16 @@ module _ (text code index target m : List ℕ) (n k tick : ℕ) where
     λ h room. ap (request_answer tick m) (request.named target text m code index h room l e),
   )
 
-  pub bad_run_target : length m ≡ image_size → found_to_run k target ≡ Other → run_answer tick code n target index k m ≡ Refused 2 0
+  pub bad_run_target : length m ≡ image_size → found_to_run k target ≡ None → run_answer tick code n target index k m ≡ Refused 2 0
   bad_run_target h e = ap (ran_answer tick index m (runs_at tick code n m)) (run.named code n target index k m h e refl)
 
 -- the check's verdict on code that is not accepted
-pub refused : (code : List ℕ) (n : ℕ) → ((k : Kind) → Accepts (instructions code n) k → ⊥) → verdict (instructions code n) ≡ Verdict.Refused
+pub refused : (code : List ℕ) (n : ℕ) → ((k : Kind) → Accepts (instructions code n) k → ⊥) → verdict (instructions code n) ≡ None
 refused code n h = by (verdict (instructions code n)) refl
   where
-    by : (v : Verdict) → verdict (instructions code n) ≡ v → v ≡ Verdict.Refused
-    by (Verdict.Accepted k) e = absurd (h k ((verdict-laws.exact (instructions code n) k).0 e))
-    by Verdict.Refused e = refl
+    by : (v : Option Kind) → verdict (instructions code n) ≡ v → v ≡ None
+    by (Some k) e = absurd (h k ((verdict-laws.exact (instructions code n) k).0 e))
+    by None e = refl
 
 module _ (code index : List ℕ) (n k tick : ℕ) {target m : List ℕ} {b : Bank} where
   pub wrong_code : {e : Element} → ReadyToRun k target m b e → ((j : Kind) → Accepts (instructions code n) j → ⊥)

@@ -1,4 +1,5 @@
 -- What run gives for accepted code, and that compiling, then running, is compile-and-run.
+use Rattle.std.specs.Prelude.{Some}
 use mathlib.Core.Path.{◌≡◌, refl, sym, ap, ap₂, subst⁻¹, ◌∙◌}
 use mathlib.Core.Bool.{true}
 use mathlib.Core.List.{List}
@@ -22,7 +23,6 @@ use Rattle.compiler.proofs.Bytes.{encoded-length}
 use Rattle.compiler.proofs.Theorems as Compile
 use Rattle.targets.specs.declared.Element.{Element}
 use Rattle.targets.specs.declared.Element.TheVariants.{Is, By}
-use Rattle.targets.specs.declared.Found.TheVariants.{In}
 use Rattle.targets.specs.Found.{found_of, found_to_run, index_bytes}
 use Rattle.targets.proofs.Theorems.{indexed, target-theorems}
 use Rattle.operations.specs.Operations.{done_with, check_answer, to, goal, arrival, arrival_of, is_accepted, index_passes, finished, memory_after}
@@ -35,6 +35,7 @@ use Rattle.promises.specs.Promises.{run, compile-and-run, result_of, Agree, text
 use Rattle.promises.proofs.Endings.{run_sound, gives}
 use Rattle.promises.proofs.Texts.{is-formula, formula, written, index-code, the-tree}
 use Rattle.promises.proofs.Codes.{faithful, faithful_index}
+use Rattle.targets.proofs.Pairs.{first, second}
 
 -- a formula's instructions stand at the front of the buffer, whatever it held
 front : (d : ℕ) (text code : List ℕ) (t : Tree) → judge_from d text ≡ accepted t → Room code
@@ -72,38 +73,38 @@ module _ {target m : List ℕ} {b : Bank} {e : Element} (k tick : ℕ) (ready : 
 
 module _ {target m : List ℕ} {b : Bank} {e : Element} (tick : ℕ) (ready : Ready target m b e) where
   -- what run is given names the same element
-  given : (g : Target) → target_of target ≡ g → found_of g ≡ In b e → found_to_run (count_to_run e) (text_to_run target e) ≡ In b e
+  given : (g : Target) → target_of target ≡ g → found_of g ≡ Some (b, e) → found_to_run (count_to_run e) (text_to_run target e) ≡ Some (b, e)
   given (to_cell c i) q f =
-      let p : c ≡ b = cc in
-      let r : Is i ≡ e = cc in
+      let p : c ≡ b = first f in
+      let r : Is i ≡ e = second f in
       rw (← r, ← p) (target-theorems.runs_to_cell 0 target c i q)
   given (to_indexed c t) q f =
-      let p : c ≡ b = cc in
-      let r : By (length (code_of t)) ≡ e = cc in
+      let p : c ≡ b = first f in
+      let r : By (length (code_of t)) ≡ e = second f in
       rw (← r, ← p) (target-theorems.runs_to_bank (length (code_of t)) target c t q)
   given no_target q f = let z : ◌≡◌ {A = ℕ} 0 1 = cc in absurd (omega arith)
 
   -- the check accepts the index's code
-  index-passes : (index : List ℕ) → Room index → (g : Target) → target_of target ≡ g → found_of g ≡ In b e → index_passes (index_bytes index g) e ≡ true
-  index-passes index room (to_cell c i) q f = let r : Is i ≡ e = cc in rw (← r)
+  index-passes : (index : List ℕ) → Room index → (g : Target) → target_of target ≡ g → found_of g ≡ Some (b, e) → index_passes (index_bytes index g) e ≡ true
+  index-passes index room (to_cell c i) q f = let r : Is i ≡ e = second f in rw (← r)
   index-passes index room (to_indexed c t) q f =
-      let r : By (length (code_of t)) ≡ e = cc in
+      let r : By (length (code_of t)) ≡ e = second f in
       let there = (Compile.compile-theorems-from 1).there (index_text target) index t (indexed target q).judged room in
       let good = ((Compile.compile-theorems-from 1).demand (index_text target) t (indexed target q).judged).accepted in
       rw (← r, there) (ap is_accepted ((verdict-laws.exact (code_of t) _).1 good))
   index-passes index room no_target q f = let z : ◌≡◌ {A = ℕ} 0 1 = cc in absurd (omega arith)
 
   -- the same instructions, whatever the buffers held
-  same_index : (desk box : List ℕ) → Room desk → Room box → (g : Target) → target_of target ≡ g → found_of g ≡ In b e
+  same_index : (desk box : List ℕ) → Room desk → Room box → (g : Target) → target_of target ≡ g → found_of g ≡ Some (b, e)
       → take (8 * count_to_run e) (index_bytes desk g) ≡ take (8 * count_to_run e) (index_bytes box g)
-  same_index desk box d x (to_cell c i) q f = let r : Is i ≡ e = cc in rw (← r)
+  same_index desk box d x (to_cell c i) q f = let r : Is i ≡ e = second f in rw (← r)
   same_index desk box d x (to_indexed c t) q f =
-      let r : By (length (code_of t)) ≡ e = cc in
+      let r : By (length (code_of t)) ≡ e = second f in
       rw (← r) (front 1 (index_text target) desk t (indexed target q).judged d ∙ sym (front 1 (index_text target) box t (indexed target q).judged x))
   same_index desk box d x no_target q f = let z : ◌≡◌ {A = ℕ} 0 1 = cc in absurd (omega arith)
 
   -- and the same way to the element
-  same-arrival : (desk box : List ℕ) → Room desk → Room box → (g : Target) → target_of target ≡ g → found_of g ≡ In b e
+  same-arrival : (desk box : List ℕ) → Room desk → Room box → (g : Target) → target_of target ≡ g → found_of g ≡ Some (b, e)
       → arrival_of tick (index_bytes desk g) m g ≡ arrival_of tick (index_bytes box g) m g
   same-arrival desk box d x (to_cell c i) q f = refl
   same-arrival desk box d x (to_indexed c t) q f =

@@ -1,4 +1,5 @@
 -- Which texts are targets, from the two forms, and compile_target's answer for each.
+use Rattle.std.specs.Prelude.{Option, Some, None}
 use mathlib.Core.Path.{◌≡◌, refl, sym, ap, ap₂, subst, subst⁻¹, ◌∙◌}
 use mathlib.Core.Bool.{Bool, true, false, ◌&&◌, cond, and-eq-true_iff}
 use mathlib.Core.Logic.{◌↔◌}
@@ -14,10 +15,6 @@ use Rattle.words.specs.Ascii.{byte}
 use Rattle.values.specs.declared.Value.TheVariants.{Int}
 use Rattle.memory.specs.declared.Bank.{Bank}
 use Rattle.memory.specs.declared.Bank.TheVariants.{X, C, «V», N, D, R}
-use Rattle.memory.specs.declared.names.Letter.{Letter}
-use Rattle.memory.specs.declared.names.Letter.TheVariants as L
-use Rattle.memory.specs.declared.names.Named.{Named}
-use Rattle.memory.specs.declared.names.Named.TheVariants.{Cell, Other}
 use Rattle.memory.specs.Layout.{layout_of}
 use Rattle.memory.specs.Names.{letter_bank, all_digits, no_leading_zero, decimal_value, number_below, cell_after_letter, named_rule, storable, target_rule}
 use Rattle.grammar.specs.Tree.{Tree}
@@ -35,10 +32,11 @@ use Rattle.operations.proofs.Requests.{with-room}
 use Rattle.promises.specs.Terms.{compile_answer_of, compiled_code, Room}
 use Rattle.promises.specs.Targets.{StoredLetter, letter_C, letter_V, letter_N, letter_D, letter_R, CellTarget, IndexedTarget, TargetPromises}
 use Rattle.promises.proofs.Texts.{is-formula, index-code}
+use Rattle.targets.proofs.Pairs.{first, second}
 
 -- ---- the letter
 
-of-letter : {c : ℕ} {b : Bank} → StoredLetter c b → stored_bank (letter_bank c) ≡ L.Of b
+of-letter : {c : ℕ} {b : Bank} → StoredLetter c b → stored_bank (letter_bank c) ≡ Some b
 unfolding letter_bank
 of-letter letter_C = refl
 of-letter letter_V = refl
@@ -47,18 +45,18 @@ of-letter letter_D = refl
 of-letter letter_R = refl
 
 module _ {c : ℕ} {b : Bank} where
-  it-is : {x : ℕ} {d : Bank} → StoredLetter x d → eqb c x ≡ true → L.Of d ≡ L.Of b → StoredLetter c b
+  it-is : {x : ℕ} {d : Bank} → StoredLetter x d → eqb c x ≡ true → Some d ≡ Some b → StoredLetter c b
   it-is {x} {d} w e q = let p : d ≡ b = cc in subst (StoredLetter c) p (subst⁻¹ (λ y. StoredLetter y d) (eqb-true c x e) w)
 
-  no-bank : L.Other ≡ L.Of b → StoredLetter c b
+  no-bank : None ≡ Some b → StoredLetter c b
   no-bank e = let z : ◌≡◌ {A = ℕ} 0 1 = cc in absurd (omega arith)
 
-  letter-of : stored_bank (letter_bank c) ≡ L.Of b → StoredLetter c b
+  letter-of : stored_bank (letter_bank c) ≡ Some b → StoredLetter c b
   unfolding letter_bank
   letter-of = by (eqb c (byte "X")) (eqb c (byte "C")) (eqb c (byte "V")) (eqb c (byte "N")) (eqb c (byte "D")) (eqb c (byte "R")) refl refl refl refl refl
     where
       by : (x y v n d r : Bool) → eqb c (byte "C") ≡ y → eqb c (byte "V") ≡ v → eqb c (byte "N") ≡ n → eqb c (byte "D") ≡ d → eqb c (byte "R") ≡ r
-          → stored_bank (cond x (L.Of X) (cond y (L.Of C) (cond v (L.Of «V») (cond n (L.Of N) (cond d (L.Of D) (cond r (L.Of R) L.Other)))))) ≡ L.Of b
+          → stored_bank (cond x (Some X) (cond y (Some C) (cond v (Some «V») (cond n (Some N) (cond d (Some D) (cond r (Some R) None)))))) ≡ Some b
           → StoredLetter c b
       by true y v n d r ey ev en ed er q = no-bank q
       by false true v n d r ey ev en ed er q = it-is letter_C ey q
@@ -70,21 +68,21 @@ module _ {c : ℕ} {b : Bank} where
 
 -- ---- a plain cell
 
-stored-cell : (d : Bank) {b : Bank} {n i : ℕ} → storable (Cell d n) ≡ Cell b i → (stored_bank (L.Of d) ≡ L.Of b) × (n ≡ i)
+stored-cell : (d : Bank) {b : Bank} {n i : ℕ} → storable (Some (d, n)) ≡ Some (b, i) → (stored_bank (Some d) ≡ Some b) × (n ≡ i)
 stored-cell X e = let z : ◌≡◌ {A = ℕ} 0 1 = cc in absurd (omega arith)
-stored-cell C {b} e = (let p : C ≡ b = cc in ap L.Of p, cc)
-stored-cell «V» {b} e = (let p : «V» ≡ b = cc in ap L.Of p, cc)
-stored-cell N {b} e = (let p : N ≡ b = cc in ap L.Of p, cc)
-stored-cell D {b} e = (let p : D ≡ b = cc in ap L.Of p, cc)
-stored-cell R {b} e = (let p : R ≡ b = cc in ap L.Of p, cc)
+stored-cell C e = (ap Some (first e), second e)
+stored-cell «V» e = (ap Some (first e), second e)
+stored-cell N e = (ap Some (first e), second e)
+stored-cell D e = (ap Some (first e), second e)
+stored-cell R e = (ap Some (first e), second e)
 
-cell-form : (s : List ℕ) {b : Bank} {i : ℕ} → i < (layout_of b).elements → target_rule s ≡ Cell b i → CellTarget s b i
+cell-form : (s : List ℕ) {b : Bank} {i : ℕ} → i < (layout_of b).elements → target_rule s ≡ Some (b, i) → CellTarget s b i
 unfolding named_rule
 cell-form [] h e = let z : ◌≡◌ {A = ℕ} 0 1 = cc in absurd (omega arith)
 cell-form (c ∷ cs) {b} {i} h e = by (letter_bank c) refl e
   where
-    of : (d : Bank) (t : Bool) → letter_bank c ≡ L.Of d → number_below (layout_of d).elements cs ≡ t
-        → storable (cond t (Cell d (decimal_value cs)) Other) ≡ Cell b i → CellTarget (c ∷ cs) b i
+    of : (d : Bank) (t : Bool) → letter_bank c ≡ Some d → number_below (layout_of d).elements cs ≡ t
+        → storable (cond t (Some (d, decimal_value cs)) None) ≡ Some (b, i) → CellTarget (c ∷ cs) b i
     of d true q n e =
         let w = stored-cell d e in
         let digits = (and-eq-true_iff (no_leading_zero cs) (all_digits cs)).0 ((and-eq-true_iff (no_leading_zero cs && all_digits cs) _).0 n).0 in
@@ -100,12 +98,12 @@ cell-form (c ∷ cs) {b} {i} h e = by (letter_bank c) refl e
         }
     of d false q n e = let z : ◌≡◌ {A = ℕ} 0 1 = cc in absurd (omega arith)
 
-    by : (l : Letter) → letter_bank c ≡ l → storable (cell_after_letter cs l) ≡ Cell b i → CellTarget (c ∷ cs) b i
-    by (L.Of d) q e = of d (number_below (layout_of d).elements cs) q refl e
-    by L.Other q e = let z : ◌≡◌ {A = ℕ} 0 1 = cc in absurd (omega arith)
+    by : (l : Option Bank) → letter_bank c ≡ l → storable (cell_after_letter cs l) ≡ Some (b, i) → CellTarget (c ∷ cs) b i
+    by (Some d) q e = of d (number_below (layout_of d).elements cs) q refl e
+    by None q e = let z : ◌≡◌ {A = ℕ} 0 1 = cc in absurd (omega arith)
 
 cell-rule : {c : ℕ} {b : Bank} → StoredLetter c b → (ds : List ℕ) → number_below (layout_of b).elements ds ≡ true
-    → target_rule (c ∷ ds) ≡ Cell b (decimal_value ds)
+    → target_rule (c ∷ ds) ≡ Some (b, decimal_value ds)
 unfolding letter_bank named_rule
 cell-rule letter_C ds n = rw n
 cell-rule letter_V ds n = rw n
@@ -119,7 +117,7 @@ module _ (s : List ℕ) (b : Bank) (i : ℕ) where
       let i' = decimal_value w.digits in
       let below : i' < (layout_of b).elements = subst⁻¹ (λ n. n < (layout_of b).elements) w.number w.inside in
       let good : number_below (layout_of b).elements w.digits ≡ true = rw (w.unpadded, w.decimal) (lt-ltb i' (layout_of b).elements below) in
-      from-plain s (ap target_rule w.form ∙ cell-rule w.bank w.digits good ∙ ap (Cell b) w.number)
+      from-plain s (ap target_rule w.form ∙ cell-rule w.bank w.digits good ∙ ap (λ (n : ℕ). Some (b, n)) w.number)
 
   cells : target_of s ≡ to_cell b i ↔ CellTarget s b i
   cells = (λ e. cell-form s (target-theorems.cell-inside s b i e) (plain s e), is-cell)
@@ -149,12 +147,12 @@ bracketed (a ∷ c ∷ d ∷ r) e =
 record Encloses (s : List ℕ) (b : Bank) : Type 0 where
   short : length s ≤ 1024
   brackets : is_enclosed s ≡ true
-  letter : stored_bank (letter_bank (get_or s 0 0)) ≡ L.Of b
+  letter : stored_bank (letter_bank (get_or s 0 0)) ≡ Some b
 
-encloses : (s : List ℕ) {b : Bank} → enclosed_bank s ≡ L.Of b → Encloses s b
+encloses : (s : List ℕ) {b : Bank} → enclosed_bank s ≡ Some b → Encloses s b
 encloses s {b} = by (leb (length s) 1024) (is_enclosed s) refl refl
   where
-    by : (x y : Bool) → leb (length s) 1024 ≡ x → is_enclosed s ≡ y → cond (x && y) (stored_bank (letter_bank (get_or s 0 0))) L.Other ≡ L.Of b → Encloses s b
+    by : (x y : Bool) → leb (length s) 1024 ≡ x → is_enclosed s ≡ y → cond (x && y) (stored_bank (letter_bank (get_or s 0 0))) None ≡ Some b → Encloses s b
     by true true p q e = record { short = leb-true (length s) 1024 p; brackets = q; letter = e }
     by true false p q e = let z : ◌≡◌ {A = ℕ} 0 1 = cc in absurd (omega arith)
     by false y p q e = let z : ◌≡◌ {A = ℕ} 0 1 = cc in absurd (omega arith)
@@ -178,16 +176,16 @@ module _ (c : ℕ) (u : List ℕ) where
       ap (λ k. get_or text k 0) n ∙ get_or-append_seam u (byte "]") [] 0
 
   -- no number begins with a bracket
-  no_number : (l : Letter) (r : List ℕ) → storable (cell_after_letter (byte "[" ∷ r) l) ≡ Other
-  no_number (L.Of b) [] = refl
-  no_number (L.Of b) (x ∷ r) = refl
-  no_number L.Other r = refl
+  no_number : (l : (Option Bank)) (r : List ℕ) → storable (cell_after_letter (byte "[" ∷ r) l) ≡ None
+  no_number (Some b) [] = refl
+  no_number (Some b) (x ∷ r) = refl
+  no_number None r = refl
 
-  no_cell : target_rule text ≡ Other
+  no_cell : target_rule text ≡ None
   unfolding named_rule
   no_cell = no_number (letter_bank c) (u ++ byte "]" ∷ [])
 
-  enclosed : {b : Bank} → StoredLetter c b → length text ≤ 1024 → enclosed_bank text ≡ L.Of b
+  enclosed : {b : Bank} → StoredLetter c b → length text ≤ 1024 → enclosed_bank text ≡ Some b
   enclosed w h = rw (le-leb (length text) 1024 h, eq-eqb (get_or text (length text - 1) 0) (byte "]") closed) (of-letter w)
 
   is-indexed : {b : Bank} {t : Tree} → StoredLetter c b → length text ≤ 1024 → judge_from 1 u ≡ accepted t → target_of text ≡ to_indexed b t

@@ -1,7 +1,7 @@
 -- Request 8: "Split run into working out a value, which writes nothing, flags included, and storing a given value into a target .. The old run tests its
 -- refusals first, then becomes the two in turn, turns on the flag where the first half faults, and answers exactly as before." proofs/Halves.antt proves
 -- `Halves`.
-use Rattle.std.specs.Prelude.{◌≡◌, true, false, List, ℕ, ◌+◌, ◌≤◌, length, set}
+use Rattle.std.specs.Prelude.{◌≡◌, true, false, List, ℕ, ◌+◌, ◌≤◌, length, set, None}
 use Rattle.words.specs.Laws.{Bytes}
 use Rattle.values.specs.declared.Kind.{Kind}
 use Rattle.values.specs.declared.Value.{Value}
@@ -25,7 +25,6 @@ use Rattle.verifier.specs.Accepts as Code
 use Rattle.tree_code.specs.Code.{code_of}
 use Rattle.targets.specs.declared.Element.{Element}
 use Rattle.targets.specs.declared.Element.TheVariants.{By}
-use Rattle.targets.specs.declared.Found.TheVariants.{Other}
 use Rattle.targets.specs.Found.{found_to_run}
 use Rattle.delivery.specs.declared.Answer.{Answer}
 use Rattle.delivery.specs.declared.Answer.TheVariants.{Done, Fault, Refused}
@@ -62,7 +61,7 @@ pub record Halves : Type 0 where
   pub evaluate_listed : (code m : List ℕ) (n tick : ℕ) → answer_number (evaluate_answer tick code n m) ≤ 15
   -- "storing a given value into a target": store's refusals, in their order
   pub store_wrong_memory : (v : Value) (target index m : List ℕ) (k tick : ℕ) → (length m ≡ image_size → ⊥) → given_answer tick v target index k m ≡ Refused 1 0
-  pub store_bad_target : (v : Value) (target index m : List ℕ) (k tick : ℕ) → length m ≡ image_size → found_to_run k target ≡ Other
+  pub store_bad_target : (v : Value) (target index m : List ℕ) (k tick : ℕ) → length m ≡ image_size → found_to_run k target ≡ None
       → given_answer tick v target index k m ≡ Refused 2 0
   pub store_wrong_index : (v : Value) (index : List ℕ) (k j tick : ℕ) {target m : List ℕ} {b : Bank} → ReadyToRun k target m b (By j)
       → ((i : Kind) → Code.Accepts (instructions index j) i → ⊥) → given_answer tick v target index k m ≡ Refused 15 0

@@ -1,7 +1,7 @@
 -- The user's three demands, as theorems about the operations: read this first. `result_of` gathers the contracts of the crate operations; that each of
 -- them ends, whatever it is given, is part of every function's proof. What is written, the demands' word, is `AcceptedFormula` and `HasJudgement` for texts,
 -- `CellTarget` and `IndexedTarget` of Targets.antt for targets, `eval` for trees and `Code.Accepts` for code. proofs/Promises.antt proves `Promises`.
-use Rattle.std.specs.Prelude.{◌≡◌, true, ◌↔◌, List, ℕ, ◌+◌, ◌*◌, ◌≤◌, ◌<◌, length, get_or, set, take}
+use Rattle.std.specs.Prelude.{◌≡◌, true, ◌↔◌, List, ℕ, ◌+◌, ◌*◌, ◌≤◌, ◌<◌, length, get_or, set, take, None}
 use Rattle.words.specs.Laws.{Bytes}
 use Rattle.values.specs.declared.Kind.{Kind}
 use Rattle.values.specs.declared.Fault.{Fault}
@@ -21,7 +21,6 @@ use Rattle.verifier.specs.Accepts as Code
 use Rattle.tree_code.specs.Demand.{range_calls}
 use Rattle.targets.specs.declared.Element.{Element}
 use Rattle.targets.specs.declared.Element.TheVariants.{Is, By}
-use Rattle.targets.specs.declared.Found.TheVariants.{Other}
 use Rattle.targets.specs.Found.{found_of, found_to_run}
 use Rattle.delivery.specs.declared.Answer.{Answer}
 use Rattle.delivery.specs.declared.Answer.TheVariants.{Refused}
@@ -135,7 +134,7 @@ pub record Promises : Type 0 where
   pub bad_target : (text code index target m : List ℕ) (tick : ℕ) → Room index → target_of target ≡ no_target
       → (compile_target_answer index target ≡ Refused 2 0)
       × (length m ≡ image_size → Room code → (result_of (compile-and-run text tick) target m code index).answer ≡ Refused 2 0)
-  pub bad_run_target : (code index target m : List ℕ) (n k tick : ℕ) → length m ≡ image_size → found_to_run k target ≡ Other
+  pub bad_run_target : (code index target m : List ℕ) (n k tick : ℕ) → length m ≡ image_size → found_to_run k target ≡ None
       → (result_of (run n k tick) target m code index).answer ≡ Refused 2 0
   pub wrong_code : (code index : List ℕ) (n k tick : ℕ) {target m : List ℕ} {b : Bank} {e : Element} → ReadyToRun k target m b e
       → ((j : Kind) → Code.Accepts (instructions code n) j → ⊥)

@@ -1,13 +1,11 @@
 -- The words that the promises use.
-use Rattle.std.specs.Prelude.{◌≡◌, true, false, ◌⊎◌, List, ℕ, ◌+◌, ◌≤◌, ◌<◌, T, length, get_or, set}
+use Rattle.std.specs.Prelude.{◌≡◌, true, false, ◌⊎◌, List, ℕ, ◌+◌, ◌≤◌, ◌<◌, T, length, get_or, set, Option, Some, Ok, Err}
 use Rattle.values.specs.declared.Kind.{Kind}
 use Rattle.values.specs.declared.Value.{Value}
 use Rattle.values.specs.declared.Fault.{Fault as FaultName}
 use Rattle.values.specs.declared.Fault.TheVariants.{OutOfRange}
 use Rattle.operators.specs.Laws.{Proper}
 use Rattle.memory.specs.declared.Bank.{Bank}
-use Rattle.memory.specs.declared.names.Named.TheVariants as Named
-use Rattle.memory.specs.declared.store.Encoded.TheVariants as Encoded
 use Rattle.memory.specs.Layout.{image_size, layout_of, flag_at, packed, has_cell}
 use Rattle.memory.specs.Laws.{Distinct}
 use Rattle.memory.specs.Names.{target_rule}
@@ -23,8 +21,6 @@ use Rattle.verifier.specs.Safety.{EndsWell}
 use Rattle.compiler.specs.Compile.{compiling, coded_bytes}
 use Rattle.targets.specs.declared.Element.{Element}
 use Rattle.targets.specs.declared.Element.TheVariants.{Is, By}
-use Rattle.targets.specs.declared.Found.{Found}
-use Rattle.targets.specs.declared.Found.TheVariants.{In}
 use Rattle.targets.specs.Found.{found_of, found_to_run}
 use Rattle.delivery.specs.declared.Answer.{Answer}
 use Rattle.delivery.specs.declared.Answer.TheVariants.{Done, Fault, Refused}
@@ -48,26 +44,26 @@ Refusal a = (1 ≤ a) × ((a ≤ 10) ⊎ (a ≡ 15))
 -- neither 1 nor 2 holds of compile-and-run: the target is the element e of the bank b
 pub record Ready (target m : List ℕ) (b : Bank) (e : Element) : Type 0 where
   pub memory : length m ≡ image_size
-  pub goal : found_of (target_of target) ≡ In b e
+  pub goal : found_of (target_of target) ≡ Some (b, e)
 
 -- the same of run, which is given k instructions for an index
 pub record ReadyToRun (k : ℕ) (target m : List ℕ) (b : Bank) (e : Element) : Type 0 where
   pub memory : length m ≡ image_size
-  pub goal : found_to_run k target ≡ In b e
+  pub goal : found_to_run k target ≡ Some (b, e)
 
 -- and the target is a plain cell, as paper 01 has it
 pub record Plain (target m : List ℕ) (b : Bank) (i : ℕ) : Type 0 where
   pub memory : length m ≡ image_size
-  pub cell : target_rule target ≡ Named.Cell b i
+  pub cell : target_rule target ≡ Some (b, i)
 
 -- 10 does not hold
 abbrev pub Room : List ℕ → Type 0
 Room code = 16384 ≤ length code
 
 -- the cell that an answer names is the target's own, or one of the bank whose element the index gives
-pub data Names : Found → Bank → ℕ → Type 0 where
-  own_cell : {b : Bank} {i : ℕ} → Names (In b (Is i)) b i
-  of-bank : {b : Bank} {i k : ℕ} → Names (In b (By k)) b i
+pub data Names : Option (Bank × Element) → Bank → ℕ → Type 0 where
+  own_cell : {b : Bank} {i : ℕ} → Names (Some (b, Is i)) b i
+  of-bank : {b : Bank} {i k : ℕ} → Names (Some (b, By k)) b i
 
 -- every cell but one holds the number that it held, and every flag's byte is what it was. Cells and flags are all of a memory: `Promises.covered`
 pub record SameBut (b : Bank) (i : ℕ) (m m' : List ℕ) : Type 0 where
@@ -77,9 +73,9 @@ pub record SameBut (b : Bank) (i : ℕ) (m m' : List ℕ) : Type 0 where
 -- what a run's end makes of the memory m, and its answer, with the count n, where the value arrives at a: the value is in the cell; or it does not fit
 -- there, or it is infinite or NaN, or its index or the run met a fault, and that flag is set
 pub data StoredOrFault (m : List ℕ) (n : ℕ) (a : Arrival) : Ended → Answer → List ℕ → Type 0 where
-  stored : {v : Value} {b : Bank} {i p : ℕ} → a.destination ≡ cell b i → T (has_cell m b i) → encode_cell b v ≡ Encoded.Pattern p
+  stored : {v : Value} {b : Bank} {i p : ℕ} → a.destination ≡ cell b i → T (has_cell m b i) → encode_cell b v ≡ Ok p
       → StoredOrFault m n a (Ended.Done v) (Done v (n + a.count) b i) (packed.put m b i p)
-  unstored : {v : Value} {b : Bank} {i : ℕ} {f : FaultName} → is_finite v ≡ true → a.destination ≡ cell b i → encode_cell b v ≡ Encoded.Stopped f
+  unstored : {v : Value} {b : Bank} {i : ℕ} {f : FaultName} → is_finite v ≡ true → a.destination ≡ cell b i → encode_cell b v ≡ Err f
       → StoredOrFault m n a (Ended.Done v) (Fault f (n + a.count)) (set m (flag_at f) 1)
   no_element : {v : Value} {f : FaultName} → is_finite v ≡ true → a.destination ≡ fault f
       → StoredOrFault m n a (Ended.Done v) (Fault f (n + a.count)) (set m (flag_at f) 1)

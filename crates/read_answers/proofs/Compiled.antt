@@ -1,4 +1,5 @@
 -- The list of what compile and compile_target leave is the formula's; and what is said of a set is said of its list.
+use Rattle.std.specs.Prelude.{Option, Some, None}
 use mathlib.Core.Path.{◌≡◌, refl, sym, ap, ◌∙◌}
 use mathlib.Core.Bool.{Bool, true, false, ◌||◌, cond}
 use mathlib.Core.List.{List, [], ◌∷◌}
@@ -10,10 +11,6 @@ use lib.ListN.{length}
 use borrow.Author.Tests.{ltb-false, le-ltb}
 use Rattle.values.specs.declared.Value.TheVariants.{Int}
 use Rattle.memory.specs.declared.Bank.{Bank}
-use Rattle.memory.specs.declared.names.Letter.{Letter}
-use Rattle.memory.specs.declared.names.Letter.TheVariants as L
-use Rattle.memory.specs.declared.names.Named.{Named}
-use Rattle.memory.specs.declared.names.Named.TheVariants as Named
 use Rattle.memory.specs.Layout.{packed}
 use Rattle.memory.specs.Names.{letter_bank, target_rule}
 use Rattle.grammar.specs.Tree.{Tree}
@@ -55,14 +52,14 @@ found-fewer : (index : List ℕ) (k : ℕ) (target : List ℕ) (b : Bank) (i : �
 found-fewer index k [] b i e = nowhere e
 found-fewer index k (c ∷ []) b i e = by (stored_bank (letter_bank c)) e
   where
-    by : (l : Letter) → found_cells index (by_letter k l) b i ≡ true → code_cells (instructions index k) b i ≡ true
-    by (L.Of x) q = q
-    by L.Other q = nowhere q
+    by : (l : Option Bank) → found_cells index (by_letter k l) b i ≡ true → code_cells (instructions index k) b i ≡ true
+    by (Some x) q = q
+    by None q = nowhere q
 found-fewer index k (c ∷ (d ∷ cs)) b i e = by (target_rule (c ∷ d ∷ cs)) e
   where
-    by : (x : Named) → found_cells index (by_name x) b i ≡ true → code_cells (instructions index k) b i ≡ true
-    by (Named.Cell y j) q = nowhere q
-    by Named.Other q = nowhere q
+    by : (x : (Option (Bank × ℕ))) → found_cells index (by_name x) b i ≡ true → code_cells (instructions index k) b i ≡ true
+    by (Some (y, j)) q = nowhere q
+    by None q = nowhere q
 
 module _ (tick : ℕ) (m m' : List ℕ) where
   pub ran_listed : (code : List ℕ) (n : ℕ) (target index : List ℕ) (k : ℕ) → AgreeOnListed packed (read_by code n index k) m m'

@@ -1,4 +1,5 @@
 -- A run's end, its count and where its value goes are read from the listed cells, and the store asks for the memory's size alone.
+use Rattle.std.specs.Prelude.{Option, Result, Some, None, ⊤}
 use mathlib.Core.Path.{◌≡◌, refl, sym, ap, ◌∙◌}
 use mathlib.Core.Bool.{Bool, true, false, cond}
 use mathlib.Core.List.{List}
@@ -6,10 +7,10 @@ use Prim.Native.Nat.{ℕ, ◌+◌}
 use lib.ListN.{length}
 use borrow.Author.Tests.{eq-eqb}
 use Rattle.values.specs.declared.Value.{Value}
+use Rattle.values.specs.declared.Fault.{Fault as FaultName}
 use Rattle.values.specs.declared.Fault.TheVariants.{OutOfRange}
 use Rattle.values.specs.declared.Outcome.{Outcome}
 use Rattle.memory.specs.declared.Bank.{Bank}
-use Rattle.memory.specs.declared.store.Stored.{Stored}
 use Rattle.memory.specs.Layout.{image_size, packed}
 use Rattle.memory.specs.Store.{is_finite, store_answer}
 use Rattle.memory.specs.Environment.{Environment, memory_at}
@@ -19,8 +20,6 @@ use Rattle.machine.specs.declared.Ended.{Ended}
 use Rattle.machine.specs.declared.Ended.TheVariants as Ended
 use Rattle.machine.specs.declared.Ran.{Ran}
 use Rattle.machine.specs.Machine.{runs_at, end_of}
-use Rattle.verifier.specs.declared.Verdict.{Verdict}
-use Rattle.verifier.specs.declared.Verdict.TheVariants as Verdict
 use Rattle.verifier.specs.Verdicts.{verdict}
 use Rattle.read_set.specs.Cells.{code_cells}
 use Rattle.read_laws.specs.Formulas.{target_cells}
@@ -29,8 +28,6 @@ use Rattle.read_laws.proofs.Environments.{first, second}
 use Rattle.read_laws.proofs.Laws.{read-theorems}
 use Rattle.targets.specs.declared.Element.{Element}
 use Rattle.targets.specs.declared.Element.TheVariants.{Is, By}
-use Rattle.targets.specs.declared.Found.{Found}
-use Rattle.targets.specs.declared.Found.TheVariants as Found
 use Rattle.targets.specs.Found.{found_to_run}
 use Rattle.delivery.specs.declared.Answer.{Answer}
 use Rattle.delivery.specs.declared.Answer.TheVariants.{Fault}
@@ -39,6 +36,7 @@ use Rattle.operations.specs.Operations.{follow_answer, finished}
 use Rattle.operations.specs.Operations.{Goal, to, none, index_passes, goal_of, goal, ran_answer, run_answer, request}
 use Rattle.operations.specs.Operations.{value_answer, evaluate_answer, given_goal_of, given_goal, gave_answer, given_answer}
 use Rattle.read_answers.specs.Answers.{element_cells, found_cells, run_cells}
+use Rattle.values.specs.declared.Kind.{Kind}
 
 pub element : (E F : Environment) (g : Target) → AlikeOn (target_cells g) E F → destination_of E g ≡ destination_of F g
 element E F (to_cell b i) a = refl
@@ -55,7 +53,7 @@ module _ (m m' : List ℕ) (h : length m ≡ image_size) (h' : length m' ≡ ima
   store_same b i v = rw (eq-eqb (length m) image_size h, eq-eqb (length m') image_size h')
 
   arrived-same : (v : Value) (n : ℕ) (d : Destination) → arrived_answer m v n d ≡ arrived_answer m' v n d
-  arrived-same v n (cell b i) = ap (λ (s : Stored). after_store v n b i s) (store_same b i v)
+  arrived-same v n (cell b i) = ap (λ (s : (Result ⊤ FaultName)). after_store v n b i s) (store_same b i v)
   arrived-same v n (fault f) = refl
   arrived-same v n lost = refl
 
@@ -76,28 +74,28 @@ module _ (m m' : List ℕ) (h : length m ≡ image_size) (h' : length m' ≡ ima
         ap (λ (x : Ran). record { destination = reached b x.end; count = x.count })
         (read-theorems.run (memory_at tick m) (memory_at tick m') (instructions index k) a)
 
-    goal-same : (x : Ran) (v : Verdict) (f : Found) → AlikeOn (found_cells index f) (memory_at tick m) (memory_at tick m')
+    goal-same : (x : Ran) (v : (Option Kind)) (f : (Option (Bank × Element))) → AlikeOn (found_cells index f) (memory_at tick m) (memory_at tick m')
         → ran_answer tick index m x (goal_of index v f) ≡ ran_answer tick index m' x (goal_of index v f)
-    goal-same x (Verdict.Accepted j) (Found.In b e) a = by (index_passes index e)
+    goal-same x (Some j) (Some (b, e)) a = by (index_passes index e)
       where
         by : (t : Bool) → ran_answer tick index m x (cond t (to b e) (none 15)) ≡ ran_answer tick index m' x (cond t (to b e) (none 15))
         by true =
             ap (λ (r : Arrival). finished m r x.end x.count) (arrival-same b e a)
             ∙ finished-same (arrival tick index m' b e) x.end x.count
         by false = refl
-    goal-same x Verdict.Refused (Found.In b e) a = refl
-    goal-same x (Verdict.Accepted j) Found.Other a = refl
-    goal-same x Verdict.Refused Found.Other a = refl
+    goal-same x None (Some (b, e)) a = refl
+    goal-same x (Some j) None a = refl
+    goal-same x None None a = refl
 
     -- ---- store
-    gave-same : (v : Value) (f : Found) → AlikeOn (found_cells index f) (memory_at tick m) (memory_at tick m')
+    gave-same : (v : Value) (f : (Option (Bank × Element))) → AlikeOn (found_cells index f) (memory_at tick m) (memory_at tick m')
         → gave_answer tick v index m (given_goal_of index f) ≡ gave_answer tick v index m' (given_goal_of index f)
-    gave-same v (Found.In b e) a = by (index_passes index e)
+    gave-same v (Some (b, e)) a = by (index_passes index e)
       where
         by : (t : Bool) → gave_answer tick v index m (cond t (to b e) (none 15)) ≡ gave_answer tick v index m' (cond t (to b e) (none 15))
         by true = ap (follow_answer m v 0) (arrival-same b e a) ∙ follow-same v 0 (arrival tick index m' b e)
         by false = refl
-    gave-same v Found.Other a = refl
+    gave-same v None a = refl
 
 -- a memory of the right size leaves code and target to be judged
 pub goal-is : (code : List ℕ) (n : ℕ) (target index : List ℕ) (k : ℕ) (m : List ℕ) → length m ≡ image_size

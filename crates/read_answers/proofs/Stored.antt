@@ -1,4 +1,5 @@
 -- What run, store and compile-and-run make of two memories that agree is one effect.
+use Rattle.std.specs.Prelude.{Option, Result, Some, None, Ok, Err}
 use mathlib.Core.Path.{◌≡◌, refl, sym, ap, ◌∙◌, subst}
 use mathlib.Core.Bool.{Bool, true, false, cond}
 use mathlib.Core.List.{List}
@@ -11,8 +12,6 @@ use Rattle.values.specs.declared.Value.{Value}
 use Rattle.values.specs.declared.Fault.{Fault as FaultName}
 use Rattle.values.specs.declared.Fault.TheVariants.{OutOfRange, IndexError}
 use Rattle.memory.specs.declared.Bank.{Bank}
-use Rattle.memory.specs.declared.store.Encoded.{Encoded}
-use Rattle.memory.specs.declared.store.Encoded.TheVariants as Encoded
 use Rattle.memory.specs.Layout.{image_size, layout_of, packed}
 use Rattle.memory.specs.Store.{encode_cell, is_finite, with_flag, store_image}
 use Rattle.memory.specs.Environment.{memory_at}
@@ -23,8 +22,6 @@ use Rattle.machine.specs.declared.Ended.{Ended}
 use Rattle.machine.specs.declared.Ended.TheVariants as Ended
 use Rattle.machine.specs.declared.Ran.{Ran}
 use Rattle.machine.specs.Machine.{runs_at, end_of}
-use Rattle.verifier.specs.declared.Verdict.{Verdict}
-use Rattle.verifier.specs.declared.Verdict.TheVariants as Verdict
 use Rattle.verifier.specs.Verdicts.{verdict}
 use Rattle.tree_code.specs.Code.{code_of}
 use Rattle.read_set.specs.Cells.{code_cells}
@@ -33,8 +30,6 @@ use Rattle.read_laws.specs.Theorems.{AlikeOn, AgreeOn}
 use Rattle.read_laws.proofs.Environments.{first, second}
 use Rattle.read_laws.proofs.Laws.{read-theorems}
 use Rattle.targets.specs.declared.Element.{Element}
-use Rattle.targets.specs.declared.Found.{Found}
-use Rattle.targets.specs.declared.Found.TheVariants as Found
 use Rattle.targets.specs.Found.{found_to_run}
 use Rattle.delivery.specs.declared.Answer.{Answer}
 use Rattle.delivery.specs.declared.Answer.TheVariants.{Done, Fault, Refused}
@@ -46,6 +41,7 @@ use Rattle.read_answers.specs.Answers.{found_cells, run_cells, request_cells}
 use Rattle.read_answers.specs.After.{Leaves, StoredTheorems}
 use Rattle.read_answers.proofs.Effects.{NoCell, Does, nothing, flag, put, leaves}
 use Rattle.read_answers.proofs.Runs.{element, arrival-same, goal-is, given-goal-is}
+use Rattle.values.specs.declared.Kind.{Kind}
 
 no-fault : {f : FaultName} {k : ℕ} → NoCell (Fault f k)
 no-fault v n b i e = let z : ◌≡◌ {A = ℕ} 0 1 = cc in omega arith
@@ -70,12 +66,12 @@ module _ (m m' : List ℕ) (h : length m ≡ image_size) (h' : length m' ≡ ima
   store_both : (b : Bank) (i : ℕ) (v : Value) (n : ℕ) → Both (stored_answer m b i v n) (store_image m b i v) (store_image m' b i v)
   store_both b i v n = by (ltb i (layout_of b).elements) refl (encode_cell b v) refl
     where
-      by : (t : Bool) → ltb i (layout_of b).elements ≡ t → (x : Encoded) → encode_cell b v ≡ x
+      by : (t : Bool) → ltb i (layout_of b).elements ≡ t → (x : (Result ℕ FaultName)) → encode_cell b v ≡ x
           → Both (stored_answer m b i v n) (store_image m b i v) (store_image m' b i v)
-      by true e (Encoded.Pattern p) q =
+      by true e (Ok p) q =
           put {v = v} {n = n} b i p (ltb-true i (layout_of b).elements e) (memory-laws.holdable b v p q) (rw (eq-eqb (length m) image_size h, e, q))
           (rw (eq-eqb (length m) image_size h, e, q)) (rw (eq-eqb (length m') image_size h', e, q))
-      by true e (Encoded.Stopped f) q =
+      by true e (Err f) q =
           faulted f n (rw (eq-eqb (length m) image_size h, e, q)) (rw (eq-eqb (length m) image_size h, e, q) (flagged m h f))
           (rw (eq-eqb (length m') image_size h', e, q) (flagged m' h' f))
       by false e x q =
@@ -110,29 +106,29 @@ module _ (m m' : List ℕ) (h : length m ≡ image_size) (h' : length m' ≡ ima
         → (arrival tick index m b e).destination ≡ (arrival tick index m' b e).destination
     arrives b e q = ap (λ (a : Arrival). a.destination) q
 
-    goal-both : (x : Ran) (v : Verdict) (f : Found) → AlikeOn (found_cells index f) (memory_at tick m) (memory_at tick m')
+    goal-both : (x : Ran) (v : (Option Kind)) (f : (Option (Bank × Element))) → AlikeOn (found_cells index f) (memory_at tick m) (memory_at tick m')
         → Both (ran_answer tick index m x (goal_of index v f)) (ran_memory tick index m x (goal_of index v f)) (ran_memory tick index m' x (goal_of index v f))
-    goal-both x (Verdict.Accepted j) (Found.In b e) a = by (index_passes index e)
+    goal-both x (Some j) (Some (b, e)) a = by (index_passes index e)
       where
         by : (t : Bool) → Both (ran_answer tick index m x (cond t (to b e) (none 15))) (ran_memory tick index m x (cond t (to b e) (none 15)))
             (ran_memory tick index m' x (cond t (to b e) (none 15)))
         by true =
             finished-both (arrival tick index m b e) (arrival tick index m' b e) (arrives b e (arrival-same m m' h h' tick index b e a)) x.end x.count
         by false = refused 15 0
-    goal-both x Verdict.Refused (Found.In b e) a = refused 15 0
-    goal-both x (Verdict.Accepted j) Found.Other a = refused 2 0
-    goal-both x Verdict.Refused Found.Other a = refused 2 0
+    goal-both x None (Some (b, e)) a = refused 15 0
+    goal-both x (Some j) None a = refused 2 0
+    goal-both x None None a = refused 2 0
 
-    gave-both : (v : Value) (f : Found) → AlikeOn (found_cells index f) (memory_at tick m) (memory_at tick m')
+    gave-both : (v : Value) (f : (Option (Bank × Element))) → AlikeOn (found_cells index f) (memory_at tick m) (memory_at tick m')
         → Both (gave_answer tick v index m (given_goal_of index f)) (gave_memory tick v index m (given_goal_of index f))
         (gave_memory tick v index m' (given_goal_of index f))
-    gave-both v (Found.In b e) a = by (index_passes index e)
+    gave-both v (Some (b, e)) a = by (index_passes index e)
       where
         by : (t : Bool) → Both (gave_answer tick v index m (cond t (to b e) (none 15))) (gave_memory tick v index m (cond t (to b e) (none 15)))
             (gave_memory tick v index m' (cond t (to b e) (none 15)))
         by true = follow-both (arrival tick index m b e) (arrival tick index m' b e) (arrives b e (arrival-same m m' h h' tick index b e a)) v 0
         by false = refused 15 0
-    gave-both v Found.Other a = refused 2 0
+    gave-both v None a = refused 2 0
 
 -- the same of what the definitions come to
 module _ {m m' : List ℕ} {a b : Answer} {s s' t t' : List ℕ} where

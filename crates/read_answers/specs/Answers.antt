@@ -1,7 +1,7 @@
 -- Which cells an operation reads (paper 02, Ask 11), and that nothing else matters to its answer: "two memories of the right size that agree on the listed
 -- cells give the same value, answer and count, whatever the rest holds. For a stored run the target's own index counts as read." proofs/Laws.antt proves the
 -- record.
-use Rattle.std.specs.Prelude.{◌≡◌, List, ℕ, pos, length}
+use Rattle.std.specs.Prelude.{◌≡◌, List, ℕ, pos, length, Option, Some, None}
 use Rattle.values.specs.declared.Value.{Value}
 use Rattle.values.specs.declared.Value.TheVariants.{Int}
 use Rattle.memory.specs.declared.Bank.{Bank}
@@ -17,8 +17,6 @@ use Rattle.read_laws.specs.Theorems.{AlikeOn, AgreeOn, AgreeOnListed}
 use Rattle.compiler.specs.Compile.{compiling, coded_bytes}
 use Rattle.targets.specs.declared.Element.{Element}
 use Rattle.targets.specs.declared.Element.TheVariants.{Is, By}
-use Rattle.targets.specs.declared.Found.{Found}
-use Rattle.targets.specs.declared.Found.TheVariants as Found
 use Rattle.targets.specs.Found.{found_to_run}
 use Rattle.delivery.specs.declared.Answer.TheVariants.{Done}
 use Rattle.operations.specs.Operations.{done_with, compile_answer, compile_target_answer, compile_target_code, destination_of, run_answer, evaluate_answer, given_answer}
@@ -29,9 +27,9 @@ abbrev pub element_cells : List ℕ → Element → Cells
 element_cells index (Is i) = nothing
 element_cells index (By k) = code_cells (instructions index k)
 
-abbrev pub found_cells : List ℕ → Found → Cells
-found_cells index (Found.In b e) = element_cells index e
-found_cells index Found.Other = nothing
+abbrev pub found_cells : List ℕ → Option (Bank × Element) → Cells
+found_cells index (Some (b, e)) = element_cells index e
+found_cells index None = nothing
 
 abbrev pub run_cells : List ℕ → ℕ → List ℕ → List ℕ → ℕ → Cells
 run_cells code n target index k = union (code_cells (instructions code n)) (found_cells index (found_to_run k target))

@@ -1,4 +1,5 @@
 -- Non-interference: by induction on the tree and on the code, over what an environment is asked for.
+use Rattle.std.specs.Prelude.{Result, Ok, Err}
 use mathlib.Core.Path.{◌≡◌, refl, sym, ap, ◌∙◌}
 use mathlib.Core.Bool.{Bool, true, false, ◌||◌, cond}
 use mathlib.Core.List.{List, [], ◌∷◌}
@@ -11,8 +12,6 @@ use Rattle.values.specs.declared.Value.TheVariants.{Int}
 use Rattle.values.specs.declared.Outcome.{Outcome}
 use Rattle.values.specs.declared.Outcome.TheVariants as Outcome
 use Rattle.values.specs.Patterns.{signed_of}
-use Rattle.operators.specs.declared.Position.{Position}
-use Rattle.operators.specs.declared.Position.TheVariants as P
 use Rattle.operators.specs.Operators.{since_rule, truth_rule, branch_rule}
 use Rattle.memory.specs.declared.Bank.{Bank}
 use Rattle.memory.specs.Cells.{position_rule, at_position}
@@ -31,6 +30,7 @@ use Rattle.read_set.specs.Cells.{Cells, nothing, one_cell, cell_range, whole_ban
 use Rattle.read_set.proofs.Intervals.{bank-same}
 use Rattle.read_laws.specs.Formulas.{tree_cells}
 use Rattle.read_laws.specs.Theorems.{AlikeOn}
+use Rattle.values.specs.declared.Fault.{Fault}
 
 -- ---- sets
 pub or_left : (a b : Bool) → a ≡ true → (a || b) ≡ true
@@ -58,9 +58,9 @@ module _ {E F : Environment} where
   second f g a = narrow (λ b i e. or_right (f b i) (g b i) e) a
 
   -- an index may name any element of its bank
-  at-any : (b : Bank) (p : Position) → AlikeOn (whole_bank b) E F → at_position (E.cell b) p ≡ at_position (F.cell b) p
-  at-any b (P.At i) a = a.cells b i (bank-same b)
-  at-any b (P.Stopped f) a = refl
+  at-any : (b : Bank) (p : (Result ℕ Fault)) → AlikeOn (whole_bank b) E F → at_position (E.cell b) p ≡ at_position (F.cell b) p
+  at-any b (Ok i) a = a.cells b i (bank-same b)
+  at-any b (Err f) a = refl
 
   indexed-alike : (b : Bank) (v : Value) → AlikeOn (whole_bank b) E F → indexed_cell E b v ≡ indexed_cell F b v
   indexed-alike b v a = at-any b (position_rule b v) a

@@ -3,15 +3,13 @@
 
 ghost use Rattle.std.specs.Prelude.{◌≡◌, ◌+◌, ◌*◌, ◌≤◌, ◌<◌, length};
 ghost use Rattle.lines.specs.private.Steps.{Puts};
-ghost use Rattle.compiler.specs.Compile.{compiling};
 ghost use Rattle.read_set.specs.Cells.{cell_count, read_by};
 ghost use Rattle.read_reply.specs.Listing.{cell_lines, listing};
-ghost use Rattle.read_reply.specs.private.Numbers.{numbered_bank, number_text, number_lines, CellNumbers, text_lines};
+ghost use Rattle.read_reply.specs.private.Numbers.{numbered_bank, number_text, number_lines, CellNumbers};
 
 use lines::printing;
 use memory::Bank;
-use operations::Answer;
-use program::{reply, stream};
+use program::{codes, reply, stream};
 use read_set::CELLS;
 
 pub mod respond;
@@ -23,28 +21,21 @@ pub const MOST_BYTES: usize = 5760;
 pub fn blank_reply() -> [u8; MOST_BYTES]
     ensures { 5760 ≡ length result }
 {
-    [0; MOST_BYTES]
+    program::zeros()
 }
 
+// The bank whose cells have the number: each begins at its `first_number`.
 fn bank_of(number: usize) -> Bank
     ensures { result ≡ numbered_bank number }
 {
-    if number < read_set::first_number(Bank::C) {
-        return Bank::X;
+    match number {
+        0..=63 => Bank::X,
+        64..=127 => Bank::C,
+        128..=383 => Bank::V,
+        384..=639 => Bank::N,
+        640..=895 => Bank::D,
+        _ => Bank::R,
     }
-    if number < read_set::first_number(Bank::V) {
-        return Bank::C;
-    }
-    if number < read_set::first_number(Bank::N) {
-        return Bank::V;
-    }
-    if number < read_set::first_number(Bank::D) {
-        return Bank::N;
-    }
-    if number < read_set::first_number(Bank::R) {
-        return Bank::D;
-    }
-    Bank::R
 }
 
 // A cell's name on a line of its own.
@@ -60,12 +51,6 @@ fn put_line(out: &mut [u8], at: usize, number: usize) -> usize
     printing::put_all(out, end, b"\n")
 }
 
-fn wide(n: u16) -> usize
-    ensures { result ≡ n }
-{
-    n as usize
-}
-
 fn put_lines(out: &mut [u8], list: &[u16]) -> usize
     requires cell_numbers { CellNumbers list.now }
     requires list_in_bounds { 5 * length list.now ≤ length out.old }
@@ -73,15 +58,13 @@ fn put_lines(out: &mut [u8], list: &[u16]) -> usize
     ensures upper_bound { result ≤ 5 * length list.now }
 {
     let mut at = 0;
-    let mut k = 0;
-    while k < list.len() {
-        at = put_line(out, at, wide(list[k]));
-        k += 1;
+    for number in list {
+        at = put_line(out, at, usize::from(*number));
     }
     at
 }
 
-// The same of the list.
+// The same of the list, whose elements are no bytes.
 fn no_cells() -> [u16; CELLS]
     ensures { 1152 ≡ length result }
 {
@@ -98,31 +81,15 @@ fn put_cells(out: &mut [u8], code: &[u8], n: usize, index: &[u8], k: usize) -> u
     put_lines(out, &list[..found])
 }
 
-// The target is good, and its index has k instructions.
-fn reply_to_text(text: &[u8], index: &[u8], k: usize, out: &mut [u8]) -> usize
-    requires { 5760 ≤ length out.old }
-    ensures puts { Puts out.old 0 out.new result (text_lines index.now k (compiling 16384 text.now)) }
-    ensures upper_bound { result ≤ 5760 }
-{
-    let mut code = stream::blank_code();
-    let answer = operations::compile(text, &mut code);
-    match answer {
-        Answer::Done(_, n, _, _) => put_cells(out, &code, n, index, k),
-        Answer::Fault(_, _) => reply::put_report(out, operations::reported(answer)),
-        Answer::Refused(_, _) => reply::put_report(out, operations::reported(answer)),
-    }
-}
-
 pub fn reply(target: &[u8], text: &[u8], out: &mut [u8]) -> usize
     requires { 5760 ≤ length out.old }
     ensures puts { Puts out.old 0 out.new result (listing target.now text.now) }
     ensures upper_bound { result ≤ 5760 }
 {
+    let mut code = stream::blank_code();
     let mut index = stream::blank_code();
-    let answer = operations::compile_target(target, &mut index);
-    match answer {
-        Answer::Done(_, k, _, _) => reply_to_text(text, &index, k, out),
-        Answer::Fault(_, _) => reply::put_report(out, operations::reported(answer)),
-        Answer::Refused(_, _) => reply::put_report(out, operations::reported(answer)),
+    match codes::compile_both(target, text, &mut code, &mut index) {
+        Ok(n) => put_cells(out, &code, n.code, &index, n.index),
+        Err(answer) => reply::put_report(out, operations::reported(answer)),
     }
 }

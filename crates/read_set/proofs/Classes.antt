@@ -1,4 +1,5 @@
 -- What an instruction reads, by its class.
+use Rattle.std.specs.Prelude.{Option, Some, None}
 use mathlib.Core.Path.{◌≡◌, refl, sym, ap, ◌∙◌, subst}
 use mathlib.Core.Bool.{Bool, true, false, cond}
 use Prim.Native.Nat.{ℕ, ◌+◌}
@@ -8,16 +9,11 @@ use lib.Ieee.{Float, nan, inf, fin, binary32}
 use lib.Ieee as Ieee
 use borrow.Author.Tests.{ltb-true, ltb-false, le-leb, lt-leb, ne_eqb, eq-eqb}
 use Rattle.memory.specs.declared.Bank.{Bank}
-use Rattle.memory.specs.declared.numbers.BankOf.{BankOf}
 use Rattle.memory.specs.Layout.{layout_of}
 use Rattle.memory.specs.Numbers.{bank_numbered}
-use Rattle.operators.specs.declared.tables.UnaryOf.{UnaryOf}
-use Rattle.operators.specs.declared.tables.BinaryOf.{BinaryOf}
 use Rattle.operators.specs.Tables.{unary_of, binary_of}
 use Rattle.totals.specs.declared.TotalOp.{TotalOp}
 use Rattle.totals.specs.declared.MatchOp.{MatchOp}
-use Rattle.totals.specs.declared.tables.TotalOf.{TotalOf}
-use Rattle.totals.specs.declared.tables.MatchOf.{MatchOf}
 use Rattle.totals.specs.Totals.{good_range}
 use Rattle.code.specs.declared.Instr.{Instr}
 use Rattle.code.specs.declared.Instr.TheVariants.{Load, LoadIndexed, Unary, Binary, Tick, Since, Total, Match, Unknown}
@@ -30,6 +26,8 @@ use Rattle.read_set.specs.declared.Interval.{Interval}
 use Rattle.read_set.specs.Cells.{cell_range, instr_cells}
 use Rattle.read_set.specs.private.Intervals.{empty, within, Reads, RangeReads}
 use Rattle.read_set.proofs.Intervals.{nothing_read, range-read, cell-range, bank-range, bank-good}
+use Rattle.operators.specs.declared.BinaryOp.{BinaryOp}
+use Rattle.operators.specs.declared.UnaryOp.{UnaryOp}
 
 -- ---- instructions that read nothing
 unknown-reads : Reads Unknown empty
@@ -45,13 +43,13 @@ finite-reads nan = unknown-reads
 finite-reads (inf s) = unknown-reads
 finite-reads (fin s m e) = nothing_read (instr_cells (finite_only (fin s m e))) (λ c j. refl)
 
-unary-reads : (u : UnaryOf) (w : ℕ) → Reads (of_unary u w) empty
-unary-reads (UnaryOf.Is o) w = zero-only (eqb w 0) (Unary o) (nothing_read (instr_cells (Unary o)) (λ c j. refl))
-unary-reads UnaryOf.Nothing w = unknown-reads
+unary-reads : (u : (Option UnaryOp)) (w : ℕ) → Reads (of_unary u w) empty
+unary-reads (Some o) w = zero-only (eqb w 0) (Unary o) (nothing_read (instr_cells (Unary o)) (λ c j. refl))
+unary-reads None w = unknown-reads
 
-binary-reads : (u : BinaryOf) (w : ℕ) → Reads (of_binary u w) empty
-binary-reads (BinaryOf.Is o) w = zero-only (eqb w 0) (Binary o) (nothing_read (instr_cells (Binary o)) (λ c j. refl))
-binary-reads BinaryOf.Nothing w = unknown-reads
+binary-reads : (u : (Option BinaryOp)) (w : ℕ) → Reads (of_binary u w) empty
+binary-reads (Some o) w = zero-only (eqb w 0) (Binary o) (nothing_read (instr_cells (Binary o)) (λ c j. refl))
+binary-reads None w = unknown-reads
 
 -- the classes that read nothing
 pub data Silent : Class → Type 0 where
@@ -95,37 +93,37 @@ element-reads b w = by (ltb w (layout_of b).elements) refl
 pub found : {A : Type 0} {x y : A} (f : ℕ → A) {k n : ℕ} → k ≡ n → x ≡ f k → x ≡ y → f n ≡ y
 found f e q r = ap f (sym e) ∙ sym q ∙ r
 
-module _ {x : BankOf} {r : Interval} where
-  pub cell-known : {b : Bank} (v w : ℕ) → x ≡ BankOf.Is b → v ≡ w → r ≡ within b v 1 → Reads (of_bank load_element x w) r
+module _ {x : (Option Bank)} {r : Interval} where
+  pub cell-known : {b : Bank} (v w : ℕ) → x ≡ Some b → v ≡ w → r ≡ within b v 1 → Reads (of_bank load_element x w) r
   cell-known {b} v w e z q = rw (e, q ∙ ap (λ (n : ℕ). within b n 1) z) (element-reads b w)
 
-  pub bank-none : (f : Bank → ℕ → Instr) (w : ℕ) → x ≡ BankOf.Nothing → r ≡ empty → Reads (of_bank f x w) r
+  pub bank-none : (f : Bank → ℕ → Instr) (w : ℕ) → x ≡ None → r ≡ empty → Reads (of_bank f x w) r
   bank-none f w e q = rw (e, q) unknown-reads
 
 -- ---- a bank
-module _ {x : BankOf} {r : Interval} where
-  pub bank-known : {b : Bank} (v w n : ℕ) → v ≡ w → v ≡ 0 → n ≡ (layout_of b).elements → x ≡ BankOf.Is b → r ≡ within b 0 n → Reads (of_bank load_indexed x w) r
+module _ {x : (Option Bank)} {r : Interval} where
+  pub bank-known : {b : Bank} (v w n : ℕ) → v ≡ w → v ≡ 0 → n ≡ (layout_of b).elements → x ≡ Some b → r ≡ within b 0 n → Reads (of_bank load_indexed x w) r
   bank-known {b} v w n y z l e q =
       rw (e, q ∙ ap (within b 0) l, eq-eqb w 0 (sym y ∙ z))
       (range-read (instr_cells (LoadIndexed b)) b 0 (layout_of b).elements (bank-good b) (λ c j h. bank-range b c j h))
 
-pub bank-unknown : {r : Interval} (x : BankOf) (v w : ℕ) → v ≡ w → (v ≡ 0 → ⊥) → r ≡ empty → Reads (of_bank load_indexed x w) r
+pub bank-unknown : {r : Interval} (x : (Option Bank)) (v w : ℕ) → v ≡ w → (v ≡ 0 → ⊥) → r ≡ empty → Reads (of_bank load_indexed x w) r
 bank-unknown {r} x v w y z q = rw q (by x)
   where
-    by : (b : BankOf) → Reads (of_bank load_indexed b w) empty
-    by (BankOf.Is b) = rw (ne_eqb w 0 (λ e. z (y ∙ e))) unknown-reads
-    by BankOf.Nothing = unknown-reads
+    by : (b : Option Bank) → Reads (of_bank load_indexed b w) empty
+    by (Some b) = rw (ne_eqb w 0 (λ e. z (y ∙ e))) unknown-reads
+    by None = unknown-reads
 
 -- ---- a range
 good-reads : (f : Bank → ℕ → ℕ → Instr) → ((b : Bank) (i n : ℕ) (c : Bank) (j : ℕ) → instr_cells (f b i n) c j ≡ cell_range b i n c j) → (b : Bank) (i n : ℕ)
-    → Reads (over_range f (BankOf.Is b) i n) (within b i n)
+    → Reads (over_range f (Some b) i n) (within b i n)
 good-reads f h b i n = by (good_range b i n) refl
   where
     by : (t : Bool) → good_range b i n ≡ t → Reads (cond t (f b i n) Unknown) (within b i n)
     by true g = range-read (instr_cells (f b i n)) b i n g (λ c j l. h b i n c j)
     by false g = rw g unknown-reads
 
-pub range-known : {r : Interval} {b : Bank} (w : ℕ) {i n : ℕ} → bank_numbered (range_bank w) ≡ BankOf.Is b → i ≡ range_first w → n ≡ range_count w
+pub range-known : {r : Interval} {b : Bank} (w : ℕ) {i n : ℕ} → bank_numbered (range_bank w) ≡ Some b → i ≡ range_first w → n ≡ range_count w
     → r ≡ within b i n → RangeReads w r
 range-known {r} {b} w {i} {n} e p q z =
     record {
@@ -133,20 +131,20 @@ range-known {r} {b} w {i} {n} e p q z =
           rw (e, z ∙ ap (λ (k : ℕ). within b k n) p ∙ ap (within b (range_first w)) q) (good-reads f h b (range_first w) (range_count w));
     }
 
-pub range_none : {r : Interval} (w : ℕ) → bank_numbered (range_bank w) ≡ BankOf.Nothing → r ≡ empty → RangeReads w r
+pub range_none : {r : Interval} (w : ℕ) → bank_numbered (range_bank w) ≡ None → r ≡ empty → RangeReads w r
 range_none w e q = record { reads = λ f h. rw (e, q) unknown-reads }
 
 module _ {r : Interval} where
-  pub total-known : {x : TotalOf} {o : TotalOp} (v w : ℕ) → x ≡ TotalOf.Is o → v ≡ w → RangeReads v r → Reads (of_total x w) r
+  pub total-known : {x : (Option TotalOp)} {o : TotalOp} (v w : ℕ) → x ≡ Some o → v ≡ w → RangeReads v r → Reads (of_total x w) r
   total-known {o = o} v w e z t = rw (e, ← z) (t.reads (Total o) (λ b i n c j. refl))
 
-  pub total-none : {x : TotalOf} (w : ℕ) → x ≡ TotalOf.Nothing → r ≡ empty → Reads (of_total x w) r
+  pub total-none : {x : (Option TotalOp)} (w : ℕ) → x ≡ None → r ≡ empty → Reads (of_total x w) r
   total-none w e q = rw (e, q) unknown-reads
 
-  pub match-known : {x : MatchOf} {o : MatchOp} (v w : ℕ) → x ≡ MatchOf.Is o → v ≡ w → RangeReads v r → Reads (of_match x w) r
+  pub match-known : {x : (Option MatchOp)} {o : MatchOp} (v w : ℕ) → x ≡ Some o → v ≡ w → RangeReads v r → Reads (of_match x w) r
   match-known {o = o} v w e z t = rw (e, ← z) (t.reads (Match o) (λ b i n c j. refl))
 
-  pub match_none : {x : MatchOf} (w : ℕ) → x ≡ MatchOf.Nothing → r ≡ empty → Reads (of_match x w) r
+  pub match_none : {x : (Option MatchOp)} (w : ℕ) → x ≡ None → r ≡ empty → Reads (of_match x w) r
   match_none w e q = rw (e, q) unknown-reads
 
 -- ---- an instruction, of the class found

@@ -9,12 +9,10 @@ ghost use Rattle.code.specs.Instructions.{instruction_of, instructions};
 ghost use Rattle.code.specs.private.Classes.{instr_in};
 ghost use Rattle.read_set.specs.Cells.{first_number, cell_count, cell_numbers, read_by};
 ghost use Rattle.read_set.specs.private.Intervals.{empty, within, RangeReads, Reads};
-ghost use Rattle.read_set.specs.private.Reaches.{lesser, larger, extended, reached_numbers, Marks};
+ghost use Rattle.read_set.specs.private.Reaches.{extended, reached_numbers, Marks};
 
 use code::Class;
-use memory::numbers::BankOf;
 use memory::{Bank, numbers};
-use totals::tables::{MatchOf, TotalOf};
 use totals::{ranges, tables};
 
 // How many cells there are.
@@ -66,8 +64,8 @@ fn one_cell(w: u64) -> Interval
     ensures { Reads (instr_in Load w) result }
 {
     match numbers::bank_numbered(code::number_of(w)) {
-        BankOf::Is(b) => stretch(b, code::word_of(w), 1),
-        BankOf::Nothing => nothing(),
+        Some(b) => stretch(b, code::word_of(w), 1),
+        None => nothing(),
     }
 }
 
@@ -78,8 +76,8 @@ fn whole_bank(w: u64) -> Interval
         return nothing();
     }
     match numbers::bank_numbered(code::number_of(w)) {
-        BankOf::Is(b) => stretch(b, 0, memory::layout_of(b).elements),
-        BankOf::Nothing => nothing(),
+        Some(b) => stretch(b, 0, memory::layout_of(b).elements),
+        None => nothing(),
     }
 }
 
@@ -87,8 +85,8 @@ fn range(word: u32) -> Interval
     ensures { RangeReads word result }
 {
     match numbers::bank_numbered(code::range_bank(word)) {
-        BankOf::Is(b) => stretch(b, code::range_first(word), code::range_count(word)),
-        BankOf::Nothing => nothing(),
+        Some(b) => stretch(b, code::range_first(word), code::range_count(word)),
+        None => nothing(),
     }
 }
 
@@ -96,8 +94,8 @@ fn total(w: u64) -> Interval
     ensures { Reads (instr_in Total w) result }
 {
     match tables::total_of(code::number_of(w)) {
-        TotalOf::Is(_) => range(code::word_of(w)),
-        TotalOf::Nothing => nothing(),
+        Some(_) => range(code::word_of(w)),
+        None => nothing(),
     }
 }
 
@@ -105,8 +103,8 @@ fn matching(w: u64) -> Interval
     ensures { Reads (instr_in Match w) result }
 {
     match tables::match_of(code::number_of(w)) {
-        MatchOf::Is(_) => range(code::word_of(w)),
-        MatchOf::Nothing => nothing(),
+        Some(_) => range(code::word_of(w)),
+        None => nothing(),
     }
 }
 
@@ -115,33 +113,15 @@ fn interval_of(w: u64) -> Interval
     ensures { Reads (instruction_of w) result }
 {
     match code::class_of(w) {
-        Class::PushInt => nothing(),
-        Class::PushReal => nothing(),
-        Class::Jump => nothing(),
-        Class::JumpIfFalse => nothing(),
-        Class::JumpIfTrue => nothing(),
-        Class::Tick => nothing(),
-        Class::Since => nothing(),
+        Class::PushInt | Class::PushReal | Class::Tick | Class::Since => nothing(),
+        Class::Jump | Class::JumpIfFalse | Class::JumpIfTrue => nothing(),
         Class::Load => one_cell(w),
         Class::LoadIndexed => whole_bank(w),
-        Class::Unary => nothing(),
-        Class::Binary => nothing(),
+        Class::Unary | Class::Binary => nothing(),
         Class::Total => total(w),
         Class::Match => matching(w),
         Class::Unknown => nothing(),
     }
-}
-
-fn lesser(a: usize, b: usize) -> usize
-    ensures { result ≡ lesser a b }
-{
-    if a < b { a } else { b }
-}
-
-fn larger(a: usize, b: usize) -> usize
-    ensures { result ≡ larger a b }
-{
-    if a < b { b } else { a }
 }
 
 // A mark is how many cells are reached from its number on.
@@ -159,12 +139,9 @@ fn mark(code: &[u8], n: usize, reaches: &mut [u32])
     requires { length reaches.old ≡ cell_count }
     ensures { Marks (instructions code.now n) reaches.old reaches.new }
 {
-    let there = lesser(n, code.len() / 8);
-    let mut place: usize = 0;
-    while place < there {
+    for place in 0..n.min(code.len() / 8) {
         let cells = interval_of(code::fetch(code, place));
         extend(reaches, cells.first, cells.count);
-        place += 1;
     }
 }
 
@@ -186,13 +163,10 @@ fn listing(reaches: &[u32], list: &mut [u16]) -> usize
 {
     let mut found: usize = 0;
     let mut end: usize = 0;
-    let mut number: usize = 0;
-    while number < CELLS {
-        let this = number;
-        end = larger(end, this + (reaches[this] as usize));
-        number += 1;
-        if this < end {
-            put(list, found, this);
+    for number in 0..CELLS {
+        end = end.max(number + (reaches[number] as usize));
+        if number < end {
+            put(list, found, number);
             found += 1;
         }
     }

@@ -14,12 +14,7 @@ use tokens::functions;
 fn is_real_function(f: u8) -> bool
     ensures { result ≡ is_real_function f }
 {
-    match f {
-        functions::TO_REAL => true,
-        functions::FRAC => true,
-        functions::AVGR => true,
-        _ => false,
-    }
+    matches!(f, functions::TO_REAL | functions::FRAC | functions::AVGR)
 }
 
 fn is_real(w: u64) -> bool
@@ -28,8 +23,7 @@ fn is_real(w: u64) -> bool
     let operand = token_table::operand_of(w);
     match token_table::class_of(w) {
         classes::REAL => true,
-        classes::CELL => numbers::bank_kind(operand as u32) == kinds::REAL,
-        classes::LETTER => numbers::bank_kind(operand as u32) == kinds::REAL,
+        classes::CELL | classes::LETTER => numbers::bank_kind(operand as u32) == kinds::REAL,
         classes::NAME => is_real_function(operand),
         _ => false,
     }
@@ -43,16 +37,13 @@ pub fn first_real(table: &[u64], reals: bool) -> u64
     if reals {
         return 0;
     }
-    let mut at: usize = 0;
-    while at < table.len() {
-        let w = table[at];
-        if token_table::class_of(w) == classes::NONE {
+    for w in table {
+        if token_table::class_of(*w) == classes::NONE {
             return 0;
         }
-        if is_real(w) {
-            return w;
+        if is_real(*w) {
+            return *w;
         }
-        at += 1;
     }
     0
 }

@@ -1,32 +1,27 @@
 -- NaNs, infinities and zeros: how the code knows them, and the remainders that they give.
 use mathlib.Core.Path.{◌≡◌, refl, sym, ap, ◌∙◌}
 use mathlib.Core.Logic.{◌⊎◌, inl, inr}
-use mathlib.Core.Bool.{Bool, true, false, not, true≢false, false≢true}
+use mathlib.Core.Bool.{Bool, true, false, not, false≢true}
 use Prim.Native.Nat.{ℕ, ◌+◌, ◌*◌, ◌%◌, ◌^◌, ◌≤◌, ◌<◌}
 use native.Mathlib.Nat.{le_of_lt, le_antisymm}
 use native.Mathlib.Omega.{arith}
 use lib.IntN.{pos}
 use lib.Dec.{T}
-use lib.Ieee.{Float, nan, inf, fin, binary32, up, down, eq, ne, is_nan, fits, of_bits, of_fields, odd, to_bits, nan_bits, rem}
+use lib.Ieee.{Float, nan, inf, fin, binary32, is_nan, fits, of_bits, of_fields, odd, to_bits, nan_bits, rem}
 use lib.Ieee.Bits.{is_false, of_bits-to_bits, to_bits-lt, nan_bits_is, nan_bits_above}
 use lib.Ieee.Scale.{finite}
-use borrow.Author.Tests.{eq-eqb, le-ltb, ltb-false}
+use borrow.Author.Tests.{le-ltb, ltb-false}
 use Rattle.reals.proofs.Grid.{split}
 
--- ---- a NaN is what differs from itself
-pub same : (x : Float) → ne x x ≡ false → T (not (is_nan x))
-unfolding ne eq is_nan
-same nan h = absurd (true≢false h)
-same (inf s) h = tt
-same (fin s m e) h = tt
+-- ---- a NaN
+pub same : (x : Float) → is_nan x ≡ false → T (not (is_nan x))
+same x h = rw h tt
 
-differs : (x : Float) → ne x x ≡ true → x ≡ nan
-unfolding ne eq
-differs nan h = refl
-differs (inf true) h = absurd (false≢true h)
-differs (inf false) h = absurd (false≢true h)
-differs (fin true m e) h = absurd (false≢true (rw (eq-eqb (m * up e * down e) (m * up e * down e) refl) at h))
-differs (fin false m e) h = absurd (false≢true (rw (eq-eqb (m * up e * down e) (m * up e * down e) refl) at h))
+found : (x : Float) → is_nan x ≡ true → x ≡ nan
+unfolding is_nan
+found nan h = refl
+found (inf s) h = absurd (false≢true h)
+found (fin s m e) h = absurd (false≢true h)
 
 rem-nan : (x : Float) → rem binary32 x nan ≡ nan
 unfolding rem
@@ -34,12 +29,12 @@ rem-nan nan = refl
 rem-nan (inf s) = refl
 rem-nan (fin s m e) = refl
 
-pub nan-dividend : (x y : Float) → ne x x ≡ true → rem binary32 x y ≡ nan
+pub nan-dividend : (x y : Float) → is_nan x ≡ true → rem binary32 x y ≡ nan
 unfolding rem
-nan-dividend x y h = rw (differs x h)
+nan-dividend x y h = rw (found x h)
 
-pub nan-divisor : (x y : Float) → ne y y ≡ true → rem binary32 x y ≡ nan
-nan-divisor x y h = rw (differs y h) (rem-nan x)
+pub nan-divisor : (x y : Float) → is_nan y ≡ true → rem binary32 x y ≡ nan
+nan-divisor x y h = rw (found y h) (rem-nan x)
 
 -- ---- what has the pattern k below its sign
 either : (x : Float) (k : ℕ) → T (fits binary32 x) → to_bits binary32 x % 2 ^ 31 ≡ k

@@ -22,19 +22,17 @@ fn shifted_rem(m: u32, d: u32, w: u32) -> u32
     ensures { result ≡ m * 2 ^ d % w }
 {
     let mut n = m;
-    let mut left = d;
-    while 8 <= left {
+    for _ in 0..d / 8 {
         n = n * 256 % w;
-        left -= 8;
     }
-    (n << left) % w
+    (n << (d % 8)) % w
 }
 
 // The place of a pattern's last digit: the exponent's field less one, where a field of 0, a subnormal's, counts as 1.
 fn place(a: u32) -> u32
     ensures { result ≡ a / 2 ^ 23 - 1 }
 {
-    if a < EXPONENT { 0 } else { a / EXPONENT - 1 }
+    (a / EXPONENT).saturating_sub(1)
 }
 
 // The pattern of n * 2 ^ j units: n is shifted until it has 24 digits, or as far as the place j allows.
@@ -45,7 +43,7 @@ fn encode(n: u32, j: u32) -> u32
     if n == 0 {
         return 0;
     }
-    let room = u32::leading_zeros(n) - 8;
+    let room = n.leading_zeros() - 8;
     if j < room {
         return n << j;
     }
@@ -77,7 +75,7 @@ pub fn remainder(x: f32, y: f32) -> f32
     ensures { result ≡ rem binary32 x y }
 {
     // a NaN has no pattern
-    if x != x || y != y {
+    if x.is_nan() || y.is_nan() {
         return quiet_nan();
     }
     let p = f32::to_bits(x);

@@ -4,7 +4,7 @@ use mathlib.Core.List.{List, [], ◌∷◌, ◌++◌, append-nil, append_assoc}
 use Prim.Native.Nat.{ℕ, suc, ◌+◌, ◌-◌, ◌*◌, ◌/◌, ◌≤◌, ◌<◌}
 use native.Mathlib.Omega.{arith}
 use lib.ListN.{length, take, drop, get_or, set, replicate, length-append, length-drop}
-use lib.Seq.{drop-drop, get_or-drop, set_at}
+use lib.Seq.{drop-drop, set_at}
 use borrow.Author.Tests.{lt-ltb, le-ltb}
 use Rattle.delivery.specs.declared.Answer.{Answer}
 use Rattle.operations.specs.Operations.{report_of}
@@ -12,7 +12,6 @@ use Rattle.list_laws.specs.Running.{Listed, formulas_of, Buffers, stepped, answe
 use Rattle.list_laws.specs.Independence.{SameLengths}
 use Rattle.list_laws.proofs.Laws.{list-theorems}
 use Rattle.list_laws.proofs.Joining.{answers-length}
-use Rattle.run_list.specs.private.Parts.{PartOf}
 
 -- ---- the table
 first-four : (ws texts : List ℕ) → 4 ≤ length ws
@@ -38,27 +37,18 @@ count-is (p ∷ n ∷ []) texts = refl
 count-is (p ∷ n ∷ q ∷ []) texts = refl
 count-is (p ∷ n ∷ q ∷ k ∷ ws) texts = omega (arith, count-is ws texts)
 
--- the formula k as it is cut
-abbrev cut_out : List ℕ → ℕ → ℕ → ℕ → ℕ → Listed
-cut_out texts t0 t1 e0 e1 = record { target = take (t1 - t0) (drop t0 texts); text = take (e1 - e0) (drop e0 texts) }
+-- the formula k as it is cut out of the texts, by its four words
+abbrev IsCut : List ℕ → List ℕ → ℕ → List ℕ → Type 0
+IsCut ws texts i t = t ≡ take (get_or ws (i + 1) 0) (drop (get_or ws i 0) texts)
 
-next-listed : (places texts : List ℕ) (k : ℕ) {t0 t1 e0 e1 : ℕ} → k < length places / 4
-    → PartOf texts (get_or places (4 * k) 0) (get_or places (4 * k + 1) 0) t0 t1 → PartOf texts (get_or places (4 * k + 2) 0) (get_or places (4 * k + 3) 0) e0 e1
-    → formulas_of (drop (4 * k) places) texts ≡ cut_out texts t0 t1 e0 e1 ∷ formulas_of (drop (4 * (k + 1)) places) texts
-next-listed places texts k {t0} {t1} {e0} {e1} h t e =
-    let ws : List ℕ = drop (4 * k) places in
-    let z : 4 * k + 0 ≡ 4 * k = omega arith in
+next-listed : (places texts : List ℕ) (k : ℕ) {t e : List ℕ} → k < length places / 4
+    → IsCut (drop (4 * k) places) texts 0 t → IsCut (drop (4 * k) places) texts 2 e
+    → formulas_of (drop (4 * k) places) texts ≡ record { target = t; text = e } ∷ formulas_of (drop (4 * (k + 1)) places) texts
+next-listed places texts k {t} {e} h p q =
     let four : 4 * k + 4 ≡ 4 * (k + 1) = omega arith in
-    let target : take (get_or ws 1 0) (drop (get_or ws 0 0) texts) ≡ take (t1 - t0) (drop t0 texts) =
-    part (get_or-drop (4 * k) places 0 0 ∙ ap (λ (i : ℕ). get_or places i 0) z) (get_or-drop (4 * k) places 1 0) ∙ sym t.bytes in
-    let text : take (get_or ws 3 0) (drop (get_or ws 2 0) texts) ≡ take (e1 - e0) (drop e0 texts) =
-    part (get_or-drop (4 * k) places 2 0) (get_or-drop (4 * k) places 3 0) ∙ sym e.bytes in
-    first-four ws texts (omega (arith, length-drop (4 * k) places))
-    ∙ both target text (ap (λ (l : List ℕ). formulas_of l texts) (drop-drop 4 (4 * k) places ∙ ap (λ (i : ℕ). drop i places) four))
+    first-four (drop (4 * k) places) texts (omega (arith, length-drop (4 * k) places))
+    ∙ both (sym p) (sym q) (ap (λ (l : List ℕ). formulas_of l texts) (drop-drop 4 (4 * k) places ∙ ap (λ (i : ℕ). drop i places) four))
   where
-    part : {p p' n n' : ℕ} → p ≡ p' → n ≡ n' → take n (drop p texts) ≡ take n' (drop p' texts)
-    part p q = cc
-
     both : {t t' e e' : List ℕ} {l l' : List Listed} → t ≡ t' → e ≡ e' → l ≡ l'
         → ◌≡◌ {A = List Listed} (record { target = t; text = e } ∷ l) (record { target = t'; text = e' } ∷ l')
     both p q r = cc
@@ -79,13 +69,13 @@ module _ (tick : ℕ) (places texts : List ℕ) (s : Buffers) where
   pub start : Ran 0 (replicate 40 0) s
   start = record { before = []; whole = refl; count = refl; left = refl; answers-are = refl }
 
-  pub next : {k t0 t1 e0 e1 n : ℕ} {answers m c i m' c' i' : List ℕ} {a : Answer} → k < length places / 4 → length places / 4 ≤ 40
+  pub next : {k n : ℕ} {t e answers m c i m' c' i' : List ℕ} {a : Answer} → k < length places / 4 → length places / 4 ≤ 40
       → Ran k answers (record { memory = m; code = c; index = i })
-      → PartOf texts (get_or places (4 * k) 0) (get_or places (4 * k + 1) 0) t0 t1 → PartOf texts (get_or places (4 * k + 2) 0) (get_or places (4 * k + 3) 0) e0 e1
-      → Stepped tick (cut_out texts t0 t1 e0 e1) (record { memory = m; code = c; index = i }) a m' c' i' → n ≡ (report_of a).answer
+      → IsCut (drop (4 * k) places) texts 0 t → IsCut (drop (4 * k) places) texts 2 e
+      → Stepped tick (record { target = t; text = e }) (record { memory = m; code = c; index = i }) a m' c' i' → n ≡ (report_of a).answer
       → Ran (k + 1) (set answers k n) (record { memory = m'; code = c'; index = i' })
-  next {k} {t0} {t1} {e0} {e1} {n} {answers} {m} {c} {i} {m'} {c'} {i'} {a} h few before t e p w =
-      let x = cut_out texts t0 t1 e0 e1 in
+  next {k} {n} {t} {e} {answers} {m} {c} {i} {m'} {c'} {i'} {a} h few before u v p w =
+      let x : Listed = record { target = t; text = e } in
       let r : Buffers = record { memory = m; code = c; index = i } in
       let r' : Buffers = record { memory = m'; code = c'; index = i' } in
       let q : r' ≡ stepped tick x r = three p.1.0 p.1.1.0 p.1.1.1 in
@@ -99,7 +89,7 @@ module _ (tick : ℕ) (places texts : List ℕ) (s : Buffers) where
         before = xs ++ (x ∷ []);
         whole =
             before.whole
-            ∙ ap (λ (l : List Listed). xs ++ l) (next-listed places texts k h t e)
+            ∙ ap (λ (l : List Listed). xs ++ l) (next-listed places texts k h u v)
             ∙ sym (append_assoc xs (x ∷ []) (formulas_of (drop (4 * (k + 1)) places) texts));
         count = length-append xs (x ∷ []) ∙ ap (λ (j : ℕ). j + 1) before.count;
         left = q ∙ ap (stepped tick x) before.left ∙ sym more.0;

@@ -1,9 +1,8 @@
 // A list of formulas, run in turn by compile-and-run: "past their faults and refusals".
 #![tactic(auto)]
 
-ghost use Rattle.std.specs.Prelude.{◌≡◌};
+ghost use Rattle.std.specs.Prelude.{◌≡◌, take, drop};
 ghost use Rattle.list_laws.specs.Running.{ran_table};
-ghost use Rattle.run_list.specs.private.Parts.{PartOf};
 
 // The operation's own answer, 0 or 20, and one for each place of a list.
 #[derive(Clone, Copy)]
@@ -16,32 +15,12 @@ const MOST_LISTED: usize = 40;
 
 const WORDS_LISTED: usize = 4;
 
-// A part of the lent texts.
-#[derive(Clone, Copy)]
-struct Part {
-    from: usize,
-    to: usize,
-}
-
-// Bytes beyond the texts are not there.
-fn cut(texts: &[u8], place: u32, length: u32) -> Part
-    ensures { PartOf texts.now place length result.from result.to }
+// A part of the lent texts: bytes beyond them are not there.
+fn cut(texts: &[u8], place: u32, length: u32) -> &[u8]
+    ensures { result.now ≡ take length (drop place texts.now) }
 {
-    let size = texts.len();
-    let from = place as usize;
-    if size <= from {
-        return Part {
-            from: size,
-            to: size,
-        };
-    }
-    if size - from <= length as usize {
-        return Part { from, to: size };
-    }
-    Part {
-        from,
-        to: from + length as usize,
-    }
+    let rest = &texts[texts.len().min(place as usize)..];
+    &rest[..rest.len().min(length as usize)]
 }
 
 // Four words a formula: place and length of its target, place and length of its expression.
@@ -72,25 +51,12 @@ pub fn run_list(
             answers,
         };
     }
-    let mut k = 0;
-    while k < count {
-        let at = WORDS_LISTED * k;
-        let target = cut(texts, places[at], places[at + 1]);
-        let text = cut(texts, places[at + 2], places[at + 3]);
-        let t0 = target.from;
-        let t1 = target.to;
-        let e0 = text.from;
-        let e1 = text.to;
-        let answer = operations::compile_and_run(
-            &texts[t0..t1],
-            &texts[e0..e1],
-            memory,
-            code,
-            index_code,
-            tick,
-        );
+    for k in 0..count {
+        let words = &places[WORDS_LISTED * k..];
+        let target = cut(texts, words[0], words[1]);
+        let text = cut(texts, words[2], words[3]);
+        let answer = operations::compile_and_run(target, text, memory, code, index_code, tick);
         answers[k] = operations::reported(answer).answer;
-        k += 1;
     }
     Answers { answer: 0, answers }
 }

@@ -8,6 +8,7 @@ use native.Mathlib.Omega.{arith}
 use lib.Dec.{eqb, ltb}
 use lib.ListN.{length, length-append}
 use borrow.Author.Tests.{eqb-true}
+use Rattle.std.specs.Prelude.{Ok, Err}
 use Rattle.words.specs.Ascii.{ascii}
 use Rattle.tokens.specs.Symbols.{equal_bytes}
 use Rattle.tokens.specs.Bytes.{all}
@@ -16,8 +17,7 @@ use Rattle.lines.specs.Lines.{except}
 use Rattle.lines.specs.Printing.{width_of, decimal_text}
 use Rattle.lines.proofs.printing.Digits.{length_digits}
 use Rattle.lines.proofs.printing.Widths.{one, few-or-many, at_most}
-use Rattle.card_laws.specs.declared.Verdict.{Verdict}
-use Rattle.card_laws.specs.declared.Verdict.TheVariants.{Fine, Refusal}
+use Rattle.card_laws.specs.Verdicts.{Verdict}
 use Rattle.card_laws.specs.Lines.{ended, Lacks, begins}
 use Rattle.card_laws.specs.Cards.{card, card_key, check_text, Form, formed, out, card_form}
 use Rattle.card_laws.specs.Reading.{CardRead, taken, refused, unless_refused, judged}
@@ -111,8 +111,8 @@ module _ (formula : List ℕ → List ℕ → Verdict) (laws : JudgeLaws formula
       by : (x y : Bool) (v : Verdict) → formula t e ≡ v → cond x (cond y (unless_refused (card n t e) r v) (refused 18)) (refused 17) ≡ refused a → a < 100
       by false y v q u = let z : 17 ≡ a = cc in omega arith
       by true false v q u = let z : 18 ≡ a = cc in omega arith
-      by true true Fine q u = absurd (let z : ◌≡◌ {A = ℕ} 0 1 = cc in omega arith)
-      by true true (Refusal b) q u = let z : b ≡ a = cc in omega (arith, (laws.own_answer t e a (q ∙ ap Refusal z)).1)
+      by true true (Ok _) q u = absurd (let z : ◌≡◌ {A = ℕ} 0 1 = cc in omega arith)
+      by true true (Err b) q u = let z : b ≡ a = cc in omega (arith, (laws.own_answer t e a (q ∙ ap Err z)).1)
 
   answer-small : (last : ℕ) (p : List ℕ) (a : ℕ) → part_answer formula last p ≡ leaves a → a < 100
   answer-small last p a e = by (judged formula last (exact_form (card_form p))) refl e

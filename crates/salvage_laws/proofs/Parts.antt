@@ -13,7 +13,7 @@ use Rattle.tokens.specs.Bytes.{all}
 use Rattle.tokens.proofs.Tests.{both}
 use Rattle.lines.specs.Lines.{except}
 use Rattle.lines.specs.Printing.{decimal_text}
-use Rattle.card_laws.specs.declared.Verdict.{Verdict}
+use Rattle.card_laws.specs.Verdicts.{Verdict}
 use Rattle.card_laws.specs.Lines.{ended, Lacks, begins}
 use Rattle.card_laws.specs.Cards.{Card, card, number_of, card_key, target_key, expr_key, check_key, card_line, check_text, card_bytes, cards_bytes}
 use Rattle.card_laws.specs.Reading.{GoodCard, good_card, Valid, none, next}

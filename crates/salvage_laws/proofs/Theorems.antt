@@ -9,7 +9,7 @@ use lib.Dec.{leb}
 use borrow.Author.Tests.{le-leb, lt-leb}
 use lib.ListN.{length, take, drop, length-append}
 use lib.Seq.{drop-append_seam, take-append_seam}
-use Rattle.card_laws.specs.declared.Verdict.{Verdict}
+use Rattle.card_laws.specs.Verdicts.{Verdict}
 use Rattle.card_laws.specs.Lines.{ended, begins}
 use Rattle.card_laws.specs.Cards.{Card, card, number_of, card_key, check_text, card_bytes, cards_bytes, Form, formed, out, card_form}
 use Rattle.card_laws.specs.Reading.{CardRead, taken, refused, judged, good, read_cards, GoodCard, good_card, Valid, none, next}

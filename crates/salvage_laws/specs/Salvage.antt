@@ -3,7 +3,7 @@
 use Rattle.std.specs.Prelude.{Bool, ◌&&◌, cond, List, [], ◌∷◌, ◌++◌, ℕ, ◌+◌, eqb, leb, length}
 use Rattle.words.specs.Ascii.{ascii}
 use Rattle.lines.specs.Printing.{decimal_text}
-use Rattle.card_laws.specs.declared.Verdict.{Verdict}
+use Rattle.card_laws.specs.Verdicts.{Verdict}
 use Rattle.card_laws.specs.Lines.{line_end, ended, begins}
 use Rattle.card_laws.specs.Cards.{Card, number_of, card_key, Form, formed, out, card_form}
 use Rattle.card_laws.specs.Reading.{CardRead, taken, refused, judged}

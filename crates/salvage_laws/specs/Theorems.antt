@@ -1,6 +1,6 @@
 -- What is promised of the salvage, for every file (paper 02, request 7); proofs/Theorems.antt proves the record for the real judge.
 use Rattle.std.specs.Prelude.{◌≡◌, true, List, [], ◌∷◌, ◌++◌, ◌⊎◌, ℕ, ◌+◌, ◌*◌, ◌≤◌, ◌<◌, length, take, drop}
-use Rattle.card_laws.specs.declared.Verdict.{Verdict}
+use Rattle.card_laws.specs.Verdicts.{Verdict}
 use Rattle.card_laws.specs.Lines.{ended, begins}
 use Rattle.card_laws.specs.Cards.{Card, number_of, card_key, card_bytes, cards_bytes}
 use Rattle.card_laws.specs.Reading.{good, read_cards, GoodCard, Valid}

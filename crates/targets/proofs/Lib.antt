@@ -3,3 +3,4 @@ mod Enclosing
 mod Inside
 pub mod Indexing
 pub mod Running
+pub mod Pairs

@@ -1,4 +1,5 @@
 -- The refusals of a text are 3 to 9: bytes that are no token are 4, 5 or 6.
+use Rattle.std.specs.Prelude.{Option, Result, Some, None, Ok, Err}
 use mathlib.Core.Path.{◌≡◌}
 use mathlib.Core.Logic.{⊎_elim}
 use mathlib.Core.Bool.{Bool, true, false, cond}
@@ -7,15 +8,9 @@ use Prim.Native.Nat.{ℕ, zero, suc, ◌+◌, ◌≤◌}
 use native.Mathlib.Omega.{arith}
 use lib.Dec.{eqb}
 use lib.ListN.{length, take, drop}
-use Rattle.memory.specs.declared.names.Letter.{Letter}
-use Rattle.memory.specs.declared.names.Letter.TheVariants as L
-use Rattle.memory.specs.declared.names.Named.{Named}
-use Rattle.memory.specs.declared.names.Named.TheVariants as A
 use Rattle.memory.specs.Names.{is_digit, letter_bank, named_rule}
 use Rattle.tokens.specs.declared.Function.{Function}
 use Rattle.tokens.specs.declared.Token.{Token}
-use Rattle.tokens.specs.declared.Scanned.{Scanned}
-use Rattle.tokens.specs.declared.Scanned.TheVariants.{Good, Bad}
 use Rattle.tokens.specs.Bytes.{is_letter, is_word, run_len}
 use Rattle.tokens.specs.Symbols.{equal_bytes, symbol_count, longest}
 use Rattle.tokens.specs.Numerals.{numeral_of, numeral_len}
@@ -28,6 +23,7 @@ use Rattle.grammar.proofs.Diagnostics.{shown-late}
 use Rattle.text.specs.Judge.{Judgement, accepted, refused}
 use Rattle.text.specs.Theorems as Text
 use Rattle.text.specs.Theorems.{HasJudgementFrom}
+use Rattle.memory.specs.declared.Bank.{Bank}
 
 -- ---- what holds of both choices holds of the one that a test makes
 pub either : {A : Type 0} (P : A → Type 0) (t : Bool) {x y : A} → P x → P y → P (cond t x y)
@@ -39,27 +35,27 @@ either P false p q = q
 abbrev Bound : ℕ → Type 0
 Bound a = (4 ≤ a) × (a ≤ 6)
 
-data Marked : Scanned → Type 0 where
-  good : {t : Token} → Marked (Good t)
-  bad : (a : ℕ) → Bound a → Marked (Bad a)
+data Marked : Result Token ℕ → Type 0 where
+  good : {t : Token} → Marked (Ok t)
+  bad : (a : ℕ) → Bound a → Marked (Err a)
 
-six : Marked (Bad 6)
+six : Marked (Err 6)
 six = bad 6 (omega arith, omega arith)
 
-of-numeral : {x : Scanned} → NumberOrRefused x → Marked x
+of-numeral : {x : (Result Token ℕ)} → NumberOrRefused x → Marked x
 of-numeral (Values.number v) = good
 of-numeral (Values.refused a l h) = bad a (l, omega arith)
 
 numeral : (cs : List ℕ) → Marked (numeral_of cs)
 numeral cs = of-numeral (number-or-refused cs)
 
-letter : (l : Letter) → Marked (letter_word l)
-letter (L.Of b) = good
-letter L.Other = six
+letter : (l : Option Bank) → Marked (letter_word l)
+letter (Some b) = good
+letter None = six
 
-cell : (n : Named) → Marked (cell_word n)
-cell (A.Cell b i) = good
-cell A.Other = six
+cell : (n : (Option (Bank × ℕ))) → Marked (cell_word n)
+cell (Some (b, i)) = good
+cell None = six
 
 another : (cs : List ℕ) → Marked (other_word cs)
 unfolding other_word
@@ -67,7 +63,7 @@ another [] = six
 another (c ∷ []) = letter (letter_bank c)
 another (c ∷ d ∷ cs) = cell (named_rule (c ∷ d ∷ cs))
 
-name : (fs : List Function) (cs : List ℕ) {o : Scanned} → Marked o → Marked (function_named fs cs o)
+name : (fs : List Function) (cs : List ℕ) {o : (Result Token ℕ)} → Marked o → Marked (function_named fs cs o)
 name [] cs w = w
 name (f ∷ fs) cs w = either Marked (equal_bytes (name_of f) cs) good (name fs cs w)
 
@@ -80,7 +76,7 @@ data Told : Lexeme → Type 0 where
   wrong-at : (a p : ℕ) → Bound a → Told (Wrong a p)
   end : Told End
 
-told : (p n : ℕ) {x : Scanned} → Marked x → Told (lexeme p n x)
+told : (p n : ℕ) {x : (Result Token ℕ)} → Marked x → Told (lexeme p n x)
 told p n good = found
 told p n (bad a b) = wrong-at a p b
 

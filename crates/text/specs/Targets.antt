@@ -1,13 +1,9 @@
 -- Targets (paper 02, request 1): "A target becomes a cell or `bank[expression]`, its bank C, V, N, D or R, spaces inside the brackets only; that `[` counts
 -- as a level." "A target has its own 1,024 bytes, eight levels"; "a bad target is 2 .. whatever is wrong inside".
-use Rattle.std.specs.Prelude.{Bool, ◌&&◌, cond, List, ℕ, ◌-◌, eqb, leb, length, get_or, take, drop}
+use Rattle.std.specs.Prelude.{Bool, ◌&&◌, cond, List, ℕ, ◌-◌, eqb, leb, length, get_or, take, drop, Option, Some, None}
 use Rattle.words.specs.Ascii.{byte}
 use Rattle.memory.specs.declared.Bank.{Bank}
 use Rattle.memory.specs.declared.Bank.TheVariants.{X, C, «V», N, D, R}
-use Rattle.memory.specs.declared.names.Letter.{Letter}
-use Rattle.memory.specs.declared.names.Letter.TheVariants as L
-use Rattle.memory.specs.declared.names.Named.{Named}
-use Rattle.memory.specs.declared.names.Named.TheVariants as Named
 use Rattle.memory.specs.Names.{letter_bank, target_rule}
 use Rattle.grammar.specs.Tree.{Tree}
 use Rattle.text.specs.Judge.{Judgement, accepted, refused, judge_from}
@@ -19,14 +15,14 @@ pub data Target : Type 0 where
   no_target : Target
 
 -- the bank of an indexed target: X is read only
-abbrev pub stored_bank : Letter → Letter
-stored_bank (L.Of X) = L.Other
-stored_bank (L.Of C) = L.Of C
-stored_bank (L.Of «V») = L.Of «V»
-stored_bank (L.Of N) = L.Of N
-stored_bank (L.Of D) = L.Of D
-stored_bank (L.Of R) = L.Of R
-stored_bank L.Other = L.Other
+abbrev pub stored_bank : Option Bank → Option Bank
+stored_bank (Some X) = None
+stored_bank (Some C) = Some C
+stored_bank (Some «V») = Some «V»
+stored_bank (Some N) = Some N
+stored_bank (Some D) = Some D
+stored_bank (Some R) = Some R
+stored_bank None = None
 
 -- `[` behind the letter, and `]` at the end
 abbrev pub is_enclosed : List ℕ → Bool
@@ -36,19 +32,19 @@ is_enclosed s = eqb (get_or s 1 0) (byte "[") && eqb (get_or s (length s - 1) 0)
 abbrev pub index_text : List ℕ → List ℕ
 index_text s = take (length s - 3) (drop 2 s)
 
-abbrev pub indexed_by : Letter → Judgement → Target
-indexed_by (L.Of b) (accepted t) = to_indexed b t
-indexed_by (L.Of b) (refused a p) = no_target
-indexed_by L.Other j = no_target
+abbrev pub indexed_by : Option Bank → Judgement → Target
+indexed_by (Some b) (accepted t) = to_indexed b t
+indexed_by (Some b) (refused a p) = no_target
+indexed_by None j = no_target
 
 -- the index is a formula with one bracket open before it
 unfoldable pub indexed_target : List ℕ → Target
 unfolding letter_bank judge_from
 indexed_target s = cond (leb (length s) 1024 && is_enclosed s) (indexed_by (stored_bank (letter_bank (get_or s 0 0))) (judge_from 1 (index_text s))) no_target
 
-abbrev pub target_from : List ℕ → Named → Target
-target_from s (Named.Cell b i) = to_cell b i
-target_from s Named.Other = indexed_target s
+abbrev pub target_from : List ℕ → Option (Bank × ℕ) → Target
+target_from s (Some (b, i)) = to_cell b i
+target_from s None = indexed_target s
 
 unfoldable pub target_of : List ℕ → Target
 unfolding indexed_target

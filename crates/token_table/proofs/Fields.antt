@@ -1,4 +1,5 @@
 -- What the fields of a word hold, for `pack` and for the law that it is undone.
+use Rattle.std.specs.Prelude.{Some}
 use mathlib.Core.Path.{◌≡◌, refl}
 use Prim.Native.Nat.{ℕ, ◌<◌}
 use native.Mathlib.Omega.{arith}
@@ -11,7 +12,6 @@ use Rattle.values.specs.declared.CompareOp.TheVariants as Compare
 use Rattle.operators.specs.Laws.{Proper}
 use Rattle.memory.specs.declared.Bank.{Bank}
 use Rattle.memory.specs.declared.Bank.TheVariants.{X, C, «V», N, D, R}
-use Rattle.memory.specs.declared.numbers.BankOf.TheVariants as BankOf
 use Rattle.memory.specs.Cells.{finite_or_fault}
 use Rattle.memory.specs.Numbers.{bank_numbered, bank_number}
 use Rattle.totals.specs.declared.TotalOp.TheVariants as T'
@@ -46,7 +46,7 @@ pub parts : (class operand number place : ℕ) → class < 256 → operand < 256
 parts class operand number place h k l = record { class = omega arith; operand = omega arith; number = omega arith; place = omega arith }
 
 -- ---- operands and their numbers
-pub bank : (b : Bank) → (bank_number b < 256) × (bank_numbered (bank_number b) ≡ BankOf.Is b)
+pub bank : (b : Bank) → (bank_number b < 256) × (bank_numbered (bank_number b) ≡ Some b)
 bank X = (lit< tt, refl)
 bank C = (lit< tt, refl)
 bank «V» = (lit< tt, refl)

@@ -1,4 +1,5 @@
 -- Filling a table: what is found so far stands in the first words, whatever follows them.
+use Rattle.std.specs.Prelude.{Result, Ok, Err, ⊤}
 use mathlib.Core.Path.{◌≡◌, refl, sym, ap, ◌∙◌}
 use mathlib.Core.Bool.{true, false}
 use mathlib.Core.List.{List, [], ◌∷◌, ◌++◌}
@@ -15,14 +16,15 @@ use Rattle.tokens.specs.Bytes.{is_space}
 use Rattle.tokens.specs.Scan.{Lexeme, Found, Wrong, End, Tok, Scan, cons_token, lexeme_of, blanks, lexeme_at, scan}
 use Rattle.tokens.proofs.Laws.{Lies, found as found_at, wrong-at, rest, no-blank, at_once, at-blank, at-found, at-wrong, at-end}
 use Rattle.tokens.proofs.Known.{known}
-use Rattle.token_table.specs.declared.Filled.{Filled}
 use Rattle.token_table.specs.private.Table.{Entry, pack_fields, pack_token, word_class, word_number, word_place, entry_of, Fills, filled, stopped}
 use Rattle.token_table.specs.private.Table.{Sound, TokenWord, blank, TokenWords}
 use Rattle.token_table.specs.private.Lexing.{Lexes, found, wrong}
 use Rattle.token_table.proofs.Fields.{known-sound}
 use Rattle.token_table.proofs.Laws.{tok, some-class, place-packed, unpacked, blank-end, list-is, list-end}
+use Rattle.token_table.specs.declared.Refusal.{Refusal}
+use Rattle.token_table.specs.Refusals.{refusal}
 
-fills-more : {w : ℕ} {t : Token} {p : ℕ} → entry_of w ≡ Entry.Is t p → {z : Scan} {ws : List ℕ} {r : Filled} → Fills z ws r
+fills-more : {w : ℕ} {t : Token} {p : ℕ} → entry_of w ≡ Entry.Is t p → {z : Scan} {ws : List ℕ} {r : (Result ⊤ Refusal)} → Fills z ws r
     → Fills (cons_token (tok t p) z) (w ∷ ws) r
 fills-more {w} {t} {p} q (filled {s = ws} e) = filled (list-is w ws q ∙ ap (λ (us : List Tok). tok t p ∷ us) e)
 fills-more q stopped = stopped
@@ -40,14 +42,14 @@ pub record Filling (s o table : List ℕ) (at n : ℕ) : Type 0 where
   pub within : at ≤ length s
   pub room : n ≤ at
   pub size : length table ≡ length o
-  pub goes : (u : List ℕ) (r : Filled) → Fills (rest s at) u r → Fills (scan s) (take n table ++ u) r
+  pub goes : (u : List ℕ) (r : (Result ⊤ Refusal)) → Fills (rest s at) u r → Fills (scan s) (take n table ++ u) r
   pub all : TokenWords o → TokenWords table
 
 pub begin : (s o : List ℕ) → Filling s o o 0 0
 begin s o = record { within = omega arith; room = omega arith; size = refl; goes = λ u r h. h; all = λ h. h }
 
 -- what is promised of a table that was o
-abbrev pub Promised : List ℕ → List ℕ → List ℕ → Filled → Type 0
+abbrev pub Promised : List ℕ → List ℕ → List ℕ → Result ⊤ Refusal → Type 0
 Promised s o table r = (length table ≡ length o) × (Fills (scan s) table r × (TokenWords o → TokenWords table))
 
 -- ---- the word that was found, and where it goes
@@ -84,7 +86,7 @@ placed (Name f) p = omega arith
 placed (Symbol n) p = omega arith
 
 module _ {s o table : List ℕ} {at n : ℕ} (h : Filling s o table at n) (short : length s ≤ 1024) (fits : length s < length o) where
-  pub ends : length s ≤ at → Promised s o (set table n 0) Filled.Good
+  pub ends : length s ≤ at → Promised s o (set table n 0) (Ok tt)
   unfolding lexeme_of
   ends l =
       let free : n < length table = omega (arith, h.room, h.size, h.within) in
@@ -93,7 +95,7 @@ module _ {s o table : List ℕ} {at n : ℕ} (h : Filling s o table at n) (short
       let last = filled (list-end 0 (drop (suc n) table) blank-end) in (
         length-set table n 0 ∙ h.size,
         (
-          rw (set_split table n 0 free) (h.goes (0 ∷ drop (suc n) table) Filled.Good (rw (at-end s at m) last)),
+          rw (set_split table n 0 free) (h.goes (0 ∷ drop (suc n) table) (Ok tt) (rw (at-end s at m) last)),
           λ b. one_more table n blank (h.all b),
         ),
       )
@@ -113,10 +115,10 @@ module _ {s o table : List ℕ} {at n : ℕ} (h : Filling s o table at n) (short
       here : Lexes (lexeme_at s at) w e
       here = rw (at_once s at i b) l
 
-      pub stops : word_class w ≡ 0 → Promised s o table (Filled.Wrong (word_number w) at)
+      pub stops : word_class w ≡ 0 → Promised s o table (Err (refusal (word_number w) at))
       stops z =
           let m = none-there s at (no-blank s at i b) here refl z in
-          (h.size, (rw (← take-append-drop n table) (h.goes (drop n table) (Filled.Wrong (word_number w) at) (rw (at-wrong s at m) stopped)), h.all))
+          (h.size, (rw (← take-append-drop n table) (h.goes (drop n table) (Err (refusal (word_number w) at)) (rw (at-wrong s at m) stopped)), h.all))
 
       module _ (z : word_class w ≡ 0 → ⊥) where
         token : Token-at s at w e

@@ -1,4 +1,5 @@
 -- Laws of the table for the layers above: a token's word is read as it was packed, and what stands at a position is what is listed from there on.
+use Rattle.std.specs.Prelude.{Ok, Err}
 use mathlib.Core.Path.{◌≡◌, refl, sym, ap, ◌∙◌}
 use mathlib.Core.List.{List, [], ◌∷◌}
 use Prim.Native.Nat.{ℕ, zero, suc, ◌<◌}
@@ -18,11 +19,11 @@ use Rattle.memory.specs.Numbers.{bank_number}
 use Rattle.tokens.specs.declared.Token.{Token}
 use Rattle.tokens.specs.declared.Token.TheVariants.{Number, Cell, Letter, Name, Symbol}
 use Rattle.tokens.specs.Scan.{Tok, Scan, tokens, wrong}
-use Rattle.token_table.specs.declared.Filled.TheVariants as Filled
 use Rattle.token_table.specs.private.Table.{Entry, Is, End, function_number, pack_token, word_class, word_operand, word_number, word_place, real_entry}
 use Rattle.token_table.specs.private.Table.{cell_entry, letter_entry, name_entry, token_of, entry_of, entry_at, listed, tokens_from, Fills, filled}
 use Rattle.token_table.specs.private.Table.{stopped, Sound, blank, TokenWords}
 use Rattle.token_table.proofs.Fields.{Parts, parts, bank, function, finite-real}
+use Rattle.token_table.specs.Refusals.{refusal}
 
 abbrev pub tok : Token → ℕ → Tok
 tok t p = record { token = t; place = p }
@@ -138,10 +139,10 @@ from-none s i q = by (entry_at s i) refl
     by End m = m
 
 -- ---- what a table that was filled says of the text
-pub filled-good : {z : Scan} {s : List ℕ} → Fills z s Filled.Good → z ≡ tokens (listed s)
+pub filled-good : {z : Scan} {s : List ℕ} → Fills z s (Ok tt) → z ≡ tokens (listed s)
 filled-good (filled q) = ap tokens (sym q)
 
-pub filled-wrong : {z : Scan} {s : List ℕ} {a p : ℕ} → Fills z s (Filled.Wrong a p) → z ≡ wrong a p
+pub filled-wrong : {z : Scan} {s : List ℕ} {a p : ℕ} → Fills z s (Err (refusal a p)) → z ≡ wrong a p
 filled-wrong stopped = refl
 
 -- ---- a table without tokens

@@ -1,4 +1,5 @@
 -- What begins at a byte that is not blank, by its class; and a run of bytes that is judged as a whole.
+use Rattle.std.specs.Prelude.{Result, Ok, Err}
 use mathlib.Core.Path.{◌≡◌, refl, sym, ap, subst, ◌∙◌}
 use mathlib.Core.Bool.{Bool, true, false}
 use mathlib.Core.List.{List}
@@ -8,13 +9,12 @@ use lib.ListN.{length, get_or, take, drop}
 use lib.Seq.{drop-cons}
 use borrow.Author.Tests.{lt-leb}
 use Rattle.memory.specs.Names.{is_digit}
-use Rattle.tokens.specs.declared.Scanned.{Scanned}
-use Rattle.tokens.specs.declared.Scanned.TheVariants.{Good, Bad}
 use Rattle.tokens.specs.Bytes.{is_letter, is_word, run_len}
 use Rattle.tokens.specs.Symbols.{longest}
 use Rattle.tokens.specs.Words.{word_token}
 use Rattle.tokens.specs.Scan.{Lexeme, lexeme, run_lexeme, numeral_lexeme, symbol_lexeme, lexeme_of}
 use Rattle.token_table.specs.private.Lexing.{scanned_word, Lexes, found, wrong}
+use Rattle.tokens.specs.declared.Token.{Token}
 
 module _ (s : List ℕ) (p : ℕ) (h : p < length s) where
   pub at-digit : is_digit (get_or s p 0) ≡ true → numeral_lexeme (drop p s) p ≡ lexeme_of (drop p s) p
@@ -37,11 +37,11 @@ below-digits b h = (rw (lt-leb 48 b h) refl, rw (lt-leb 65 b (omega arith), lt-l
 pub lexes-as : {l : Lexeme} {w w' e e' : ℕ} → w ≡ w' → e ≡ e' → Lexes l w' e' → Lexes l w e
 lexes-as {l} {w} {w'} {e} {e'} p q h = subst (λ (x : ℕ). Lexes l x e) (sym p) (subst (λ (x : ℕ). Lexes l w' x) (sym q) h)
 
-pub judged : (p n : ℕ) (r : Scanned) → Lexes (lexeme p n r) (scanned_word r) (p + n)
-judged p n (Good t) = found t p (p + n)
-judged p n (Bad a) = wrong a p (p + n)
+pub judged : (p n : ℕ) (r : (Result Token ℕ)) → Lexes (lexeme p n r) (scanned_word r) (p + n)
+judged p n (Ok t) = found t p (p + n)
+judged p n (Err a) = wrong a p (p + n)
 
-pub whole_run : (test : ℕ → Bool) (f : List ℕ → Scanned) (s : List ℕ) (p : ℕ) {w e : ℕ} {r : Scanned} → e ≡ p + run_len test (drop p s)
+pub whole_run : (test : ℕ → Bool) (f : List ℕ → (Result Token ℕ)) (s : List ℕ) (p : ℕ) {w e : ℕ} {r : (Result Token ℕ)} → e ≡ p + run_len test (drop p s)
     → r ≡ f (take (e - p) (drop p s)) → w ≡ scanned_word r → Lexes (run_lexeme test f (drop p s) p) w e
 whole_run test f s p {w} {e} {r} ends is k =
     let n : e - p ≡ run_len test (drop p s) = omega arith in

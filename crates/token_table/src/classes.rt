@@ -1,4 +1,4 @@
-// The classes of words; of class NONE is the end of the tokens, and an answer.
+// The classes of words, each the lowest byte of a packed word; of class NONE is the end of the tokens, and an answer.
 pub const NONE: u8 = 0;
 
 pub const INTEGER: u8 = 1;

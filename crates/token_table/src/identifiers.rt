@@ -1,6 +1,5 @@
 // Words: what has a digit in the second place can only be a cell, and is read in one go.
 ghost use Rattle.std.specs.Prelude.{◌≡◌, true, false, ◌+◌, ◌<◌, length, get_or, drop};
-ghost use Rattle.memory.specs.declared.names.Letter.TheVariants.{Of};
 ghost use Rattle.memory.specs.Names.{is_digit, letter_bank};
 ghost use Rattle.tokens.specs.Bytes.{is_letter, is_word, run_len};
 ghost use Rattle.tokens.specs.Words.{word_token};
@@ -8,9 +7,7 @@ ghost use Rattle.tokens.specs.Scan.{run_lexeme};
 ghost use Rattle.token_table.specs.private.Lexing.{Lexes};
 
 use crate::{Lex, classes, packing};
-use memory::names::Letter;
 use memory::{Bank, names};
-use tokens::bytes::ByteClass;
 use tokens::{bytes, functions};
 
 // A letter alone.
@@ -19,11 +16,11 @@ fn letter_at(text: &[u8], at: usize) -> Lex
     ensures { Lexes (run_lexeme is_word word_token (drop at text.now) at) result.word result.end }
 {
     match names::bank_of(text[at]) {
-        Letter::Of(bank) => Lex {
-            word: packing::word(classes::LETTER, memory::numbers::bank_number(bank), 0),
+        Some(bank) => Lex {
+            word: packing::word(classes::LETTER, u8::from(bank), 0),
             end: at + 1,
         },
-        Letter::Other => crate::refused(6),
+        None => crate::refused(6),
     }
 }
 
@@ -32,7 +29,7 @@ fn judged(text: &[u8], at: usize) -> Lex
     requires { (at < length text.now) × (is_digit (get_or text.now (at + 1) 0) ≡ false) }
     ensures { Lexes (run_lexeme is_word word_token (drop at text.now) at) result.word result.end }
 {
-    let end = bytes::run_end(text, at, ByteClass::Word);
+    let end = bytes::run_end(text, at, bytes::is_word);
     if end == at + 1 {
         return letter_at(text, at);
     }
@@ -48,7 +45,7 @@ fn judged(text: &[u8], at: usize) -> Lex
 
 // A bank's letter and its first digit: a cell, or nothing.
 fn cell_at(text: &[u8], at: usize, bank: Bank, first: u8) -> Lex
-    requires at_in_bounds { (at < length text.now) × ((is_letter (get_or text.now at 0) ≡ true) × (letter_bank (get_or text.now at 0) ≡ Of bank)) }
+    requires at_in_bounds { (at < length text.now) × ((is_letter (get_or text.now at 0) ≡ true) × (letter_bank (get_or text.now at 0) ≡ Some bank)) }
     requires first_value { (first ≡ get_or text.now (at + 1) 0) × (is_digit first ≡ true) }
     ensures { Lexes (run_lexeme is_word word_token (drop at text.now) at) result.word result.end }
 {
@@ -68,11 +65,7 @@ fn cell_at(text: &[u8], at: usize, bank: Bank, first: u8) -> Lex
         }
     }
     Lex {
-        word: packing::word(
-            classes::CELL,
-            memory::numbers::bank_number(bank),
-            element as u32,
-        ),
+        word: packing::word(classes::CELL, u8::from(bank), element as u32),
         end,
     }
 }
@@ -86,7 +79,7 @@ pub fn word_at(text: &[u8], at: usize) -> Lex
         return judged(text, at);
     }
     match names::bank_of(text[at]) {
-        Letter::Of(bank) => cell_at(text, at, bank, second),
-        Letter::Other => crate::refused(6),
+        Some(bank) => cell_at(text, at, bank, second),
+        None => crate::refused(6),
     }
 }

@@ -14,11 +14,11 @@ mod numerals;
 mod packing;
 mod symbols;
 
-// Every token is in the table; or the first that is none, with its answer and place.
+// Why a text is refused: the answer, and the place in the text.
 #[derive(Clone, Copy)]
-pub enum Filled {
-    Good,
-    Wrong(u32, usize),
+pub struct Refusal {
+    pub answer: u32,
+    pub place: usize,
 }
 
 // A token's word, its place still 0, and where the token ends. Bytes that are no token have class 0 and their answer as the number. The functions that make
@@ -33,7 +33,7 @@ pub struct Lex {
 pub fn word_at(table: &[u64], at: usize) -> u64
     ensures { result ≡ word_at table.now at }
 {
-    if at < table.len() { table[at] } else { 0 }
+    table.get(at).copied().unwrap_or(0)
 }
 
 pub fn class_of(w: u64) -> u8
@@ -88,8 +88,8 @@ fn token_at(text: &[u8], at: usize) -> Lex
 }
 
 // Every token of the text and, behind the last, the end; words behind that stay as they were. No token begins with a byte up to the space, so one test
-// tells a token from a blank.
-pub fn fill(text: &[u8], table: &mut [u64]) -> Filled
+// tells a token from a blank. A turn takes a blank or a whole token, and so many bytes: no range counts them.
+pub fn fill(text: &[u8], table: &mut [u64]) -> Result<(), Refusal>
     requires { (length text.now ≤ 1024) × (length text.now < length table.old) }
     ensures table_len_unchanged { length table.new ≡ length table.old }
     ensures fills { Fills (scan text.now) table.new result }
@@ -101,14 +101,20 @@ pub fn fill(text: &[u8], table: &mut [u64]) -> Filled
         let b = text[at];
         if b <= b' ' {
             if !bytes::is_space(b) {
-                return Filled::Wrong(4, at);
+                return Err(Refusal {
+                    answer: 4,
+                    place: at,
+                });
             }
             at += 1;
         } else {
             let lex = token_at(text, at);
             let w = lex.word;
             if class_of(w) == classes::NONE {
-                return Filled::Wrong(number_of(w), at);
+                return Err(Refusal {
+                    answer: number_of(w),
+                    place: at,
+                });
             }
             table[n] = w + 65536 * (at as u64);
             n += 1;
@@ -116,5 +122,5 @@ pub fn fill(text: &[u8], table: &mut [u64]) -> Filled
         }
     }
     table[n] = 0;
-    Filled::Good
+    Ok(())
 }

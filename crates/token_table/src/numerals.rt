@@ -8,7 +8,6 @@ ghost use Rattle.token_table.specs.private.Lexing.{scanned_word, Lexes, Mantissa
 use crate::{Lex, classes, packing};
 use memory::names;
 use tokens::bytes;
-use tokens::bytes::ByteClass;
 
 // The largest decimal.
 const LARGEST: u64 = 2147483647;
@@ -32,7 +31,7 @@ fn judged(text: &[u8], at: usize) -> Lex
     requires { OtherNumeral text.now at }
     ensures { Lexes (numeral_lexeme (drop at text.now) at) result.word result.end }
 {
-    let end = bytes::run_end(text, at, ByteClass::Numeral);
+    let end = bytes::run_end(text, at, bytes::is_run);
     Lex {
         word: packing::hexadecimal(tokens::numerals::other_numeral(&text[at..end])),
         end,
@@ -70,10 +69,7 @@ fn literal(m: Mantissa, negative: bool, exponent: u64) -> u64
 fn sign_length(b: u8) -> usize
     ensures { result ≡ cond (is_sign b) 1 0 }
 {
-    if b == b'+' {
-        return 1;
-    }
-    if b == b'-' { 1 } else { 0 }
+    usize::from(matches!(b, b'+' | b'-'))
 }
 
 // A mantissa before an `E`.

@@ -5,7 +5,6 @@ ghost use Rattle.token_table.specs.private.Table.{pack_fields};
 ghost use Rattle.token_table.specs.private.Lexing.{scanned_word};
 
 use crate::classes;
-use tokens::numerals::Pattern;
 
 // A word of a class, an operand and a number.
 pub fn word(class: u8, operand: u8, number: u32) -> u64
@@ -14,12 +13,12 @@ pub fn word(class: u8, operand: u8, number: u32) -> u64
     (class as u64) + 256 * (operand as u64) + 4294967296 * (number as u64)
 }
 
-// A hexadecimal numeral, or the answer that refuses it.
-pub fn hexadecimal(p: Pattern) -> u64
-    ensures { result ≡ scanned_word (pattern_token p) }
+// A hexadecimal numeral's pattern, or the answer that refuses it.
+pub fn hexadecimal(pattern: Result<u32, u32>) -> u64
+    ensures { result ≡ scanned_word (pattern_token pattern) }
 {
-    if p.answer != 0 {
-        return word(classes::NONE, 0, p.answer);
+    match pattern {
+        Ok(bits) => word(classes::INTEGER, 0, bits),
+        Err(answer) => word(classes::NONE, 0, answer),
     }
-    word(classes::INTEGER, 0, p.bits)
 }

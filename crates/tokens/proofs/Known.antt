@@ -1,4 +1,5 @@
 -- What holds of every token that is found, for the code's check: its value is proper, its cell in its bank, its symbol in the table.
+use Rattle.std.specs.Prelude.{Option, Result, Some, None, Ok, Err}
 use mathlib.Core.Path.{◌≡◌, refl, sym, subst}
 use mathlib.Core.Bool.{true, ◌&&◌}
 use mathlib.Core.List.{List, [], ◌∷◌, ◌++◌}
@@ -17,15 +18,11 @@ use Rattle.values.proofs.patterns.Readings.{signed-mag}
 use Rattle.operators.specs.Laws.{Proper}
 use Rattle.memory.specs.declared.Bank.{Bank}
 use Rattle.memory.specs.Layout.{layout_of}
-use Rattle.memory.specs.declared.names.Letter.TheVariants as L
-use Rattle.memory.specs.declared.names.Letter.{Letter as BankLetter}
 use Rattle.memory.specs.Names.{is_digit, all_digits, digits_of, no_leading_zero, decimal_value, number_below, cell_after_letter, letter_bank, named_rule}
 use Rattle.memory.proofs.names.Decimals.{digits-only}
 use Rattle.tokens.specs.declared.Function.{Function}
 use Rattle.tokens.specs.declared.Token.{Token}
 use Rattle.tokens.specs.declared.Token.TheVariants.{Number, Cell, Letter, Name, Symbol}
-use Rattle.tokens.specs.declared.Scanned.{Scanned}
-use Rattle.tokens.specs.declared.Scanned.TheVariants.{Good, Bad}
 use Rattle.tokens.specs.Bytes.{all, is_letter, is_word, run_len, is_hex}
 use Rattle.tokens.specs.Symbols.{equal_bytes, symbol_count, longest}
 use Rattle.tokens.specs.Numerals.{non_empty, decimal_digits, is_hex_run, hex_from, hex_of, behind_digits, has_part, part_of, fraction_digits}
@@ -46,12 +43,12 @@ pub data Known : Token → Type 0 where
   name : (f : Function) → Known (Name f)
   sign : (n : ℕ) → n < symbol_count → Known (Symbol n)
 
-data Judged : Scanned → Type 0 where
-  good : (t : Token) → Known t → Judged (Good t)
-  bad : (a : ℕ) → Judged (Bad a)
+data Judged : Result Token ℕ → Type 0 where
+  good : (t : Token) → Known t → Judged (Ok t)
+  bad : (a : ℕ) → Judged (Err a)
 
 -- ---- numerals
-whole : (z : ℤ) → mag z < 2 ^ 31 → Judged (Good (Number (Int z)))
+whole : (z : ℤ) → mag z < 2 ^ 31 → Judged (Ok (Number (Int z)))
 whole z h =
     good (Number (Int z)) (number (Int z) (Proper.int z (subst T (sym (sfits-range z (record { sfits = h }))) tt)))
 
@@ -109,16 +106,16 @@ a-part c cs zero d h = absurd (omega arith)
 a-part c cs (suc n) d h = a-numeral c (take n cs) d
 
 -- ---- words
-a-letter : (l : BankLetter) → Judged (letter_word l)
-a-letter (L.Of b) = good _ (letter b)
-a-letter L.Other = bad 6
+a-letter : (l : Option Bank) → Judged (letter_word l)
+a-letter (Some b) = good _ (letter b)
+a-letter None = bad 6
 
-a-cell : (cs : List ℕ) (l : BankLetter) → Judged (cell_word (cell_after_letter cs l))
-a-cell cs (L.Of b) =
+a-cell : (cs : List ℕ) (l : Option Bank) → Judged (cell_word (cell_after_letter cs l))
+a-cell cs (Some b) =
     by-test (number_below (layout_of b).elements cs)
     (λ e. rw e (good _ (cell b (decimal_value cs) (ltb-true _ _ (both (no_leading_zero cs && all_digits cs) _ e).1))))
     (λ e. rw e (bad 6))
-a-cell cs L.Other = bad 6
+a-cell cs None = bad 6
 
 another : (cs : List ℕ) → Judged (other_word cs)
 unfolding other_word named_rule
@@ -126,7 +123,7 @@ another [] = bad 6
 another (c ∷ []) = a-letter (letter_bank c)
 another (c ∷ d ∷ cs) = a-cell (d ∷ cs) (letter_bank c)
 
-a-name : (fs : List Function) (cs : List ℕ) (o : Scanned) → Judged o → Judged (function_named fs cs o)
+a-name : (fs : List Function) (cs : List ℕ) (o : (Result Token ℕ)) → Judged o → Judged (function_named fs cs o)
 a-name [] cs o j = j
 a-name (f ∷ fs) cs o j =
     choose Judged (equal_bytes (name_of f) cs) _ _ (λ _. good _ (name f)) (λ _. a-name fs cs o j)
@@ -141,7 +138,7 @@ data Told : Lexeme → Type 0 where
   wrong : (a p : ℕ) → Told (Wrong a p)
   end : Told End
 
-told : (p n : ℕ) (r : Scanned) → Judged r → Told (lexeme p n r)
+told : (p n : ℕ) (r : (Result Token ℕ)) → Judged r → Told (lexeme p n r)
 told p n r (good t k) = found t p (p + n) k
 told p n r (bad a) = wrong a p
 

@@ -1,4 +1,5 @@
 -- Laws of the lexer for the layers above: where a lexeme lies, and how a scan goes on by one lexeme, whatever its fuel.
+use Rattle.std.specs.Prelude.{Result, Ok, Err}
 use mathlib.Core.Path.{◌≡◌, refl, sym, ap, ◌∙◌}
 use mathlib.Core.Bool.{Bool, true, false}
 use mathlib.Core.List.{List, [], ◌∷◌}
@@ -12,8 +13,6 @@ use borrow.Author.Tests.{eqb-false}
 use Rattle.memory.specs.Names.{is_digit}
 use Rattle.tokens.specs.declared.Token.{Token}
 use Rattle.tokens.specs.declared.Token.TheVariants.{Symbol}
-use Rattle.tokens.specs.declared.Scanned.{Scanned}
-use Rattle.tokens.specs.declared.Scanned.TheVariants.{Good, Bad}
 use Rattle.tokens.specs.Bytes.{is_letter, is_space, is_word, run_len}
 use Rattle.tokens.specs.Symbols.{symbol_count, symbol_bytes, longest}
 use Rattle.tokens.specs.Numerals.{numeral_len, numeral_of}
@@ -32,11 +31,11 @@ data Placed (cs : List ℕ) (p : ℕ) : Lexeme → Type 0 where
   bad : (a : ℕ) → 0 < length cs → Placed cs p (Wrong a p)
   none : Placed cs p End
 
-judged : (cs : List ℕ) (p n : ℕ) (r : Scanned) → 0 < n → n ≤ length cs → Placed cs p (lexeme p n r)
-judged cs p n (Good t) l h = good t (p + n) (omega arith) (omega arith)
-judged cs p n (Bad a) l h = bad a (omega arith)
+judged : (cs : List ℕ) (p n : ℕ) (r : (Result Token ℕ)) → 0 < n → n ≤ length cs → Placed cs p (lexeme p n r)
+judged cs p n (Ok t) l h = good t (p + n) (omega arith) (omega arith)
+judged cs p n (Err a) l h = bad a (omega arith)
 
-a-run : (test : ℕ → Bool) (f : List ℕ → Scanned) (c : ℕ) (cs : List ℕ) (p : ℕ) → test c ≡ true → Placed (c ∷ cs) p (run_lexeme test f (c ∷ cs) p)
+a-run : (test : ℕ → Bool) (f : List ℕ → (Result Token ℕ)) (c : ℕ) (cs : List ℕ) (p : ℕ) → test c ≡ true → Placed (c ∷ cs) p (run_lexeme test f (c ∷ cs) p)
 a-run test f c cs p e =
     let n = run_len test (c ∷ cs) in
     let some : 0 < n = rw e (omega arith) in

@@ -1,16 +1,17 @@
 -- Every token lies in the text, and so do the first bytes that are none.
+use Rattle.std.specs.Prelude.{Result}
 use mathlib.Core.Path.{◌≡◌, subst}
 use mathlib.Core.Bool.{Bool}
 use mathlib.Core.List.{List, [], ◌∷◌, ◌++◌}
 use Prim.Native.Nat.{ℕ, ◌+◌, ◌≤◌, ◌<◌}
 use native.Mathlib.Omega.{arith}
 use lib.ListN.{length, length-append}
-use Rattle.tokens.specs.declared.Scanned.{Scanned}
 use Rattle.tokens.specs.Scan.{Tok, Scan, tokens, wrong, cons_token, scan}
 use Rattle.tokens.specs.Theorems.{Starts, first, LongestLexeme, word, numeral, symbol, stray, Scans, end, token, stop}
 use Rattle.tokens.proofs.Theorems.{token-theorems}
 use Rattle.tokens.proofs.numerals.Runs.{run-starts}
 use Rattle.tokens.proofs.symbols.Longest.{some_byte}
+use Rattle.tokens.specs.declared.Token.{Token}
 
 -- every place is below n
 pub data Below (n : ℕ) : List Tok → Type 0 where
@@ -30,7 +31,7 @@ a_byte : {class : ℕ → Bool} (w : List ℕ) → Starts class w → 0 < length
 a_byte {class = class} [] x' = elim x' [ ]
 a_byte (c ∷ cs) (first e) = omega arith
 
-some : {w r : List ℕ} {j : Scanned} → LongestLexeme w r j → 0 < length w
+some : {w r : List ℕ} {j : (Result Token ℕ)} → LongestLexeme w r j → 0 < length w
 some {w} (word h) = a_byte w h.starts
 some {w} (numeral h) = a_byte w (run-starts h)
 some (symbol n q h) = rw q (some_byte n h.known)

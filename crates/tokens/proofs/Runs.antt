@@ -1,74 +1,47 @@
 -- Runs of bytes that pass a test, for any test: how a run goes on by one byte and where it ends, and tests of every byte as a run.
-use mathlib.Core.Path.{◌≡◌, refl, sym, ap, ◌∙◌}
-use mathlib.Core.Bool.{Bool, true, false, ◌&&◌, cond, and-true, and-false}
+use mathlib.Core.Path.{◌≡◌, refl, ap, ◌∙◌}
+use mathlib.Core.Bool.{Bool, true, false, ◌&&◌, cond}
 use mathlib.Core.List.{List, [], ◌∷◌, ◌++◌}
-use Prim.Native.Nat.{ℕ, zero, suc, ◌+◌, ◌≤◌, ◌<◌}
-use native.Mathlib.Nat.{zero-add}
-use native.Mathlib.Numerals.{add-one}
+use Prim.Native.Nat.{ℕ, zero, suc, ◌+◌, ◌-◌, ◌≤◌, ◌<◌}
 use native.Mathlib.Omega.{arith}
-use lib.Dec.{leb, ltb, leb-zero, leb-suc-suc, leb-suc-zero}
-use lib.ListN.{length, get_or, take, drop, drop_of_length-le}
-use lib.Seq.{drop-cons}
-use borrow.Author.Tests.{le-leb, lt-leb, lt-ltb}
+use lib.Dec.{eqb}
+use lib.ListN.{length, get_or, take, drop, length-drop}
+use lib.Seq.{take_all}
+use Rattle.std.specs.List.{prefix_len, list_all}
 use Rattle.tokens.specs.Bytes.{run_len, all}
 use Rattle.tokens.specs.Numerals.{non_empty}
 use Rattle.tokens.specs.Theorems.{Stops, nothing, other}
 use Rattle.tokens.proofs.Tests.{by-test, both}
 
--- the run that has come to i ends at n
-pub record Reaches (p : ℕ → Bool) (s : List ℕ) (n i : ℕ) : Type 0 where
-  pub within : i ≤ length s
-  pub ends : i + run_len p (drop i s) ≡ n
-
-pub from : (p : ℕ → Bool) (s : List ℕ) (at : ℕ) → at ≤ length s → Reaches p s (at + run_len p (drop at s)) at
-from p s at h = record { within = h; ends = refl }
-
-pub from_first : (p : ℕ → Bool) (s : List ℕ) → Reaches p s (run_len p s) 0
-from_first p s = record { within = omega arith; ends = zero-add _ }
-
-module _ {p : ℕ → Bool} {s : List ℕ} {n i : ℕ} (r : Reaches p s n i) where
-  step : i < length s → i + cond (p (get_or s i 0)) (suc (run_len p (drop (suc i) s))) 0 ≡ n
-  step h = sym (ap (λ (l : List ℕ). i + run_len p l) (drop-cons s i 0 h)) ∙ r.ends
-
-  pub more : i < length s → p (get_or s i 0) ≡ true → Reaches p s n (i + 1)
-  more h e = record { within = omega arith; ends = rw add-one (omega (arith, rw e at (step h))) }
-
-  pub stop : i < length s → p (get_or s i 0) ≡ false → (i ≡ n) × (i ≤ length s)
-  stop h e = (omega (arith, rw e at (step h)), r.within)
-
-  pub end : length s ≤ i → (i ≡ n) × (i ≤ length s)
-  end h = (omega (arith, rw (drop_of_length-le s h) at r.ends), r.within)
-
 pub run-most : (p : ℕ → Bool) (s : List ℕ) → run_len p s ≤ length s
 run-most p [] = omega arith
 run-most p (c ∷ cs) = by-test (p c) (λ e. rw e (omega (arith, run-most p cs))) (λ e. rw e (omega arith))
 
--- every byte passes if the run takes them all
-all-run : (p : ℕ → Bool) (s : List ℕ) → all p s ≡ leb (length s) (run_len p s)
-all-run p [] = refl
-all-run p (c ∷ cs) = go (p c) (all-run p cs)
+-- the library's words for a run and for a test of every byte
+pub all-list : (p : ℕ → Bool) (s : List ℕ) → list_all p s ≡ all p s
+all-list p [] = refl
+all-list p (c ∷ cs) = ap (λ (t : Bool). p c && t) (all-list p cs)
+
+pub passed : (p : ℕ → Bool) (s : List ℕ) → prefix_len p s ≡ run_len p s
+passed p [] = refl
+passed p (c ∷ cs) = go (p c) (passed p cs)
   where
-    go : (b : Bool) → all p cs ≡ leb (length cs) (run_len p cs) → (b && all p cs) ≡ leb (suc (length cs)) (cond b (suc (run_len p cs)) 0)
-    go true e = rw leb-suc-suc e
-    go false e = rw leb-suc-zero
+    go : (t : Bool) {m n : ℕ} → m ≡ n → cond t (1 + m) 0 ≡ cond t (suc n) 0
+    go true e = omega (arith, e)
+    go false e = refl
 
-some-any : (s : List ℕ) → non_empty s ≡ ltb 0 (length s)
-some-any [] = refl
-some-any (c ∷ cs) = sym (leb-suc-suc 0 (length cs) ∙ leb-zero (length cs))
+-- the bytes from a position on that pass
+pub passed-from : (p : ℕ → Bool) (s : List ℕ) (at n : ℕ) → at ≤ length s → n ≡ prefix_len p (take (length s - at) (drop at s))
+    → (at + n ≡ at + run_len p (drop at s)) × (at + n ≤ length s)
+passed-from p s at n h e =
+    let f : n ≡ run_len p (drop at s) =
+    e ∙ ap (prefix_len p) (take_all (length s - at) (drop at s) (rw length-drop (omega arith))) ∙ passed p (drop at s) in
+    (ap (λ (k : ℕ). at + k) f, omega (arith, f, run-most p (drop at s), length-drop at s))
 
-module _ {p : ℕ → Bool} {s : List ℕ} {i : ℕ} (r : Reaches p s (run_len p s) i) where
-  pub not-all : i < length s → p (get_or s i 0) ≡ false → false ≡ (non_empty s && all p s)
-  not-all h e = rw (all-run p s, lt-leb (length s) (run_len p s) (omega (arith, (stop r h e).0)), and-false)
-
-  pub all-passed : length s ≤ i → ltb 0 (length s) ≡ (non_empty s && all p s)
-  all-passed h = rw (all-run p s, le-leb (length s) (run_len p s) (omega (arith, (end r h).0)), and-true, some-any)
-
-pub no_byte : (p : ℕ → Bool) (s : List ℕ) → length s ≡ 0 → false ≡ (non_empty s && all p s)
-no_byte p [] h = refl
-no_byte p (c ∷ cs) h = absurd (omega arith)
-
-pub whole_run : (p : ℕ → Bool) (s : List ℕ) {n : ℕ} → (length s ≡ 0 → ⊥) → n ≡ 0 + run_len p s → leb (length s) n ≡ (non_empty s && all p s)
-whole_run p s {n} h e = rw (e, zero-add, all-run p s, some-any s, lt-ltb 0 (length s) (omega arith))
+-- there is a byte, and every one passes
+pub some-byte : (p : ℕ → Bool) (s : List ℕ) → eqb (length s) 0 ≡ false → all p s ≡ true → (non_empty s && all p s) ≡ true
+some-byte p [] h e = absurd (let z : ◌≡◌ {A = ℕ} 0 1 = cc in omega arith)
+some-byte p (c ∷ cs) h e = e
 
 -- a test of every byte, at one of them and on two lists
 module _ (p : ℕ → Bool) where

@@ -1,4 +1,5 @@
 -- The theorems about tokens: `scan` gives what the relation says, and the relation allows nothing else.
+use Rattle.std.specs.Prelude.{Result, Ok, Err}
 use mathlib.Core.Path.{◌≡◌, refl, sym, ap, subst, ◌∙◌}
 use mathlib.Core.Logic.{◌⊎◌, inl, inr}
 use mathlib.Core.Bool.{Bool, true, false, and-false}
@@ -13,8 +14,6 @@ use Rattle.memory.specs.Names.{is_digit}
 use Rattle.memory.proofs.names.Decimals.{digit-range}
 use Rattle.tokens.specs.declared.Token.{Token}
 use Rattle.tokens.specs.declared.Token.TheVariants.{Symbol}
-use Rattle.tokens.specs.declared.Scanned.{Scanned}
-use Rattle.tokens.specs.declared.Scanned.TheVariants.{Good, Bad}
 use Rattle.tokens.specs.Bytes.{byte_between, is_letter, is_space, is_word, run_len, all}
 use Rattle.tokens.specs.Symbols.{symbol_count, symbol_bytes, symbol_of, longest}
 use Rattle.tokens.specs.Numerals.{numeral_len, numeral_of}
@@ -66,15 +65,15 @@ unmatched cs h =
 -- ---- from the scan to the relation
 -- what begins the bytes cs at the place p
 data Lexed (cs : List ℕ) (p : ℕ) : Lexeme → Type 0 where
-  good : (w r : List ℕ) {t : Token} → cs ≡ w ++ r → LongestLexeme w r (Good t) → Lexed cs p (Found t p (p + length w))
-  bad : (w r : List ℕ) {a : ℕ} → cs ≡ w ++ r → LongestLexeme w r (Bad a) → Lexed cs p (Wrong a p)
+  good : (w r : List ℕ) {t : Token} → cs ≡ w ++ r → LongestLexeme w r (Ok t) → Lexed cs p (Found t p (p + length w))
+  bad : (w r : List ℕ) {a : ℕ} → cs ≡ w ++ r → LongestLexeme w r (Err a) → Lexed cs p (Wrong a p)
   none : cs ≡ [] → Lexed cs p End
 
-lexed-as : (cs w r : List ℕ) (p n : ℕ) (j : Scanned) → cs ≡ w ++ r → length w ≡ n → LongestLexeme w r j → Lexed cs p (lexeme p n j)
-lexed-as cs w r p n (Good t) q e l = rw (← e) (good w r q l)
-lexed-as cs w r p n (Bad a) q e l = bad w r q l
+lexed-as : (cs w r : List ℕ) (p n : ℕ) (j : (Result Token ℕ)) → cs ≡ w ++ r → length w ≡ n → LongestLexeme w r j → Lexed cs p (lexeme p n j)
+lexed-as cs w r p n (Ok t) q e l = rw (← e) (good w r q l)
+lexed-as cs w r p n (Err a) q e l = bad w r q l
 
-a-run : (start class : ℕ → Bool) (f : List ℕ → Scanned) (c : ℕ) (cs : List ℕ) (p : ℕ) → start c ≡ true → class c ≡ true
+a-run : (start class : ℕ → Bool) (f : List ℕ → (Result Token ℕ)) (c : ℕ) (cs : List ℕ) (p : ℕ) → start c ≡ true → class c ≡ true
     → ((w r : List ℕ) → LongestRun start class w r → LongestLexeme w r (f w)) → Lexed (c ∷ cs) p (run_lexeme class f (c ∷ cs) p)
 a-run start class f c cs p s e make =
     let n = run_len class (c ∷ cs) in
@@ -118,11 +117,11 @@ lexed (c ∷ cs) p (other s) =
 
 -- the relation's constructors, with the number of blanks by another name
 module _ {p : ℕ} {s : List ℕ} (b w r : List ℕ) (k : ℕ) (q : s ≡ b ++ (w ++ r)) (e : Blank b) (n : length b ≡ k) where
-  a-token : {t : Token} {z : Scan} → LongestLexeme w r (Good t) → Scans (p + k + length w) r z → Scans p s (cons_token (record { token = t; place = p + k }) z)
+  a-token : {t : Token} {z : Scan} → LongestLexeme w r (Ok t) → Scans (p + k + length w) r z → Scans p s (cons_token (record { token = t; place = p + k }) z)
   a-token {t} {z} l =
       subst (λ (i : ℕ). Scans (p + i + length w) r z → Scans p s (cons_token (record { token = t; place = p + i }) z)) n (λ h. token b w r q e l h)
 
-  a-stop : {a : ℕ} → LongestLexeme w r (Bad a) → Scans p s (Scan.wrong a (p + k))
+  a-stop : {a : ℕ} → LongestLexeme w r (Err a) → Scans p s (Scan.wrong a (p + k))
   a-stop {a} l = subst (λ (i : ℕ). Scans p s (Scan.wrong a (p + i))) n (stop b w r q e l)
 
 module _ (s : List ℕ) (at : ℕ) where
@@ -160,7 +159,7 @@ scans-from (suc n) s at h le =
     (λ e lt in-text. scans-from n s e (omega arith) in-text)
 
 -- ---- from the relation to the scan
-run-lexeme : (class : ℕ → Bool) (f : List ℕ → Scanned) (w r : List ℕ) (p : ℕ) → all class w ≡ true → Stops class r
+run-lexeme : (class : ℕ → Bool) (f : List ℕ → (Result Token ℕ)) (w r : List ℕ) (p : ℕ) → all class w ≡ true → Stops class r
     → run_lexeme class f (w ++ r) p ≡ lexeme p (length w) (f w)
 run-lexeme class f w r p e s = rw (run_length class w r e s, take-append_seam w r)
 
@@ -198,12 +197,12 @@ table-lexeme n r p h =
     subst (λ (w : List ℕ). lexeme_of (w ++ r) p ≡ symbol_lexeme p (longest (w ++ r))) (sym t.is)
     (symbol-lexeme t.byte (t.bytes ++ r) p t.no_digit t.no-letter)
 
-lexeme-of : {w r : List ℕ} {j : Scanned} → LongestLexeme w r j → (p : ℕ) → lexeme_of (w ++ r) p ≡ lexeme p (length w) j
+lexeme-of : {w r : List ℕ} {j : (Result Token ℕ)} → LongestLexeme w r j → (p : ℕ) → lexeme_of (w ++ r) p ≡ lexeme p (length w) j
 lexeme-of {w} {r} (word h) p = word-lexeme w r p h.starts h.every h.stops
 lexeme-of (numeral h) p = numeral-lexeme p h
 lexeme-of {w} {r} (symbol n q h) p =
     let k : eqb n symbol_count ≡ false = ne_eqb n symbol_count (λ e. omega (arith, h.known)) in
-    subst (λ (v : List ℕ). lexeme_of (v ++ r) p ≡ lexeme p (length v) (Good (Symbol n))) (sym q)
+    subst (λ (v : List ℕ). lexeme_of (v ++ r) p ≡ lexeme p (length v) (Ok (Symbol n))) (sym q)
     (table-lexeme n r p h.known ∙ ap (symbol_lexeme p) (matched n r h) ∙ rw k)
 lexeme-of {w} {r} (stray c q s l d no_symbol) p =
     subst (λ (v : List ℕ). lexeme_of (v ++ r) p ≡ Wrong 4 p) (sym q) (symbol-lexeme c r p d l ∙ ap (symbol_lexeme p) (unmatched (c ∷ r) no_symbol))
@@ -217,7 +216,7 @@ numeral-front : (w r : List ℕ) → Starts is_digit w → Stops is_space (w ++ 
 numeral-front [] r x' = elim x' [ ]
 numeral-front (c ∷ cs) r (first d) = other (no-space c (omega (arith, digit-range c d)))
 
-no-blank : {w r : List ℕ} {j : Scanned} → LongestLexeme w r j → Stops is_space (w ++ r)
+no-blank : {w r : List ℕ} {j : (Result Token ℕ)} → LongestLexeme w r j → Stops is_space (w ++ r)
 no-blank {w} {r} (word h) = word-front w r h.starts
 no-blank {w} {r} (numeral h) = numeral-front w r (run-starts h)
 no-blank {w} {r} (symbol n q h) = let t = in_table n h.known in subst (λ (v : List ℕ). Stops is_space (v ++ r)) (sym (q ∙ t.is)) (other t.no-space)
@@ -230,7 +229,7 @@ module _ (s : List ℕ) (p : ℕ) (b w r : List ℕ) (q : drop p s ≡ b ++ (w +
   after : drop (p + length b + length w) s ≡ r
   after = sym (drop-drop (length w) (p + length b) s) ∙ ap (drop (length w)) there ∙ drop-append_seam w r
 
-  lexeme-at : {j : Scanned} → Blank b → LongestLexeme w r j → lexeme_at s p ≡ lexeme (p + length b) (length w) j
+  lexeme-at : {j : (Result Token ℕ)} → Blank b → LongestLexeme w r j → lexeme_at s p ≡ lexeme (p + length b) (length w) j
   lexeme-at e l =
       let k : blanks s p ≡ length b = ap (run_len is_space) q ∙ run_length is_space b (w ++ r) e (no-blank l) in
       ap (λ (i : ℕ). lexeme_of (drop (p + i) s) (p + i)) k ∙ ap (λ (x : List ℕ). lexeme_of x (p + length b)) there ∙ lexeme-of l (p + length b)

@@ -1,3 +1,2 @@
--- What the proofs of the module share; token_table cites Names.
-mod Rows
+-- What the proofs of the module share; token_table cites it.
 pub mod Names

@@ -3,4 +3,3 @@ pub mod Mantissas
 pub mod Lexemes
 pub mod Runs
 pub mod Values
-mod Forms

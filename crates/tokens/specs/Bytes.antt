@@ -2,8 +2,6 @@
 -- numeral is the longest run of letters, digits and dots that starts with a digit".
 use Rattle.std.specs.Prelude.{Bool, true, ◌&&◌, ◌||◌, cond, List, [], ◌∷◌, ℕ, suc, eqb, leb}
 use Rattle.memory.specs.Names.{is_digit}
-use Rattle.tokens.specs.declared.bytes.ByteClass.{ByteClass}
-use Rattle.tokens.specs.declared.bytes.ByteClass.TheVariants.{Word, Numeral, Hexadecimal}
 use Rattle.words.specs.Ascii.{byte}
 
 abbrev pub byte_between : ℕ → ℕ → ℕ → Bool
@@ -24,12 +22,6 @@ is_run c = is_word c || eqb c (byte ".")
 
 abbrev pub is_hex : ℕ → Bool
 is_hex c = is_digit c || byte_between (byte "A") (byte "F") c || byte_between (byte "a") (byte "f") c
-
--- the classes that a run is read by
-abbrev pub in_class : ByteClass → ℕ → Bool
-in_class Word c = is_word c
-in_class Numeral c = is_run c
-in_class Hexadecimal c = is_hex c
 
 -- how many of the first bytes pass a test
 abbrev pub run_len : (ℕ → Bool) → List ℕ → ℕ

@@ -2,16 +2,15 @@
 -- 32-bit pattern"; "A larger decimal, nine or more hex digits .. is 5; a numeral run of any other form is 4." Paper 02, request 4: "A real literal may have
 -- up to nine digits and an exponent of -20 to 20, written E, an optional sign directly after it, past which the run goes on, and digits. `1E5` is real. The
 -- answer is still the nearest single, ties to even .. E without digits is 4; otherwise ten digits, or an exponent outside the range, is 5."
-use Rattle.std.specs.Prelude.{Bool, true, false, ◌&&◌, ◌||◌, cond, List, [], ◌∷◌, ◌++◌, ℕ, suc, ◌+◌, ◌-◌, ◌*◌, eqb, leb, ℤ, pos, ◌-ℤ◌, length, get_or, drop}
+use Rattle.std.specs.Prelude.{Bool, true, false, ◌&&◌, ◌||◌, cond, List, [], ◌∷◌, ◌++◌, ℕ, ◌+◌, ◌-◌, ◌*◌, eqb, leb, ℤ, pos, ◌-ℤ◌, length, get_or, drop, Result, Ok, Err}
 use Rattle.values.specs.declared.Value.TheVariants.{Int, Real}
 use Rattle.values.specs.Patterns.{signed_of}
 use Rattle.literals.specs.Literals.{nearest_decimal}
 use Rattle.memory.specs.Names.{all_digits, digits_of, decimal_value}
 use Rattle.tokens.specs.declared.Token.TheVariants.{Number}
-use Rattle.tokens.specs.declared.Scanned.{Scanned}
-use Rattle.tokens.specs.declared.Scanned.TheVariants.{Good, Bad}
 use Rattle.tokens.specs.Bytes.{is_hex, is_run, run_len, all}
 use Rattle.words.specs.Ascii.{byte}
+use Rattle.tokens.specs.declared.Token.{Token}
 
 abbrev pub non_empty : List ℕ → Bool
 non_empty [] = false
@@ -20,8 +19,8 @@ non_empty (c ∷ cs) = true
 abbrev pub decimal_digits : List ℕ → Bool
 decimal_digits cs = non_empty cs && all_digits cs
 
-abbrev pub decimal_of : List ℕ → Scanned
-decimal_of cs = cond (leb (decimal_value cs) 2147483647) (Good (Number (Int (pos (decimal_value cs))))) (Bad 5)
+abbrev pub decimal_of : List ℕ → Result Token ℕ
+decimal_of cs = cond (leb (decimal_value cs) 2147483647) (Ok (Number (Int (pos (decimal_value cs))))) (Err 5)
 
 abbrev pub hex_digit : ℕ → ℕ
 hex_digit c = cond (leb c (byte "9")) (c - byte "0") (cond (leb c (byte "F")) (c - (byte "A" - 10)) (c - (byte "a" - 10)))
@@ -31,8 +30,8 @@ hex_from n [] = n
 hex_from n (c ∷ cs) = hex_from (n * 16 + hex_digit c) cs
 
 -- the digits after `0x`
-abbrev pub hex_of : List ℕ → Scanned
-hex_of cs = cond (non_empty cs && all is_hex cs) (cond (leb (length cs) 8) (Good (Number (Int (signed_of 32 (hex_from 0 cs))))) (Bad 5)) (Bad 4)
+abbrev pub hex_of : List ℕ → Result Token ℕ
+hex_of cs = cond (non_empty cs && all is_hex cs) (cond (leb (length cs) 8) (Ok (Number (Int (signed_of 32 (hex_from 0 cs))))) (Err 5)) (Err 4)
 
 abbrev pub is_hex_run : List ℕ → Bool
 is_hex_run [] = false
@@ -87,8 +86,8 @@ exponent_size x = decimal_value (without_sign (drop 1 x))
 abbrev pub scale_of : Bool → ℕ → ℕ → ℤ
 scale_of negative e k = cond negative (pos 0 -ℤ pos e) (pos e) -ℤ pos k
 
-abbrev pub literal_of : ℕ → ℕ → ℕ → Bool → ℕ → Scanned
-literal_of n count k negative e = cond (leb count 9 && leb e 20) (Good (Number (Real (nearest_decimal n (scale_of negative e k))))) (Bad 5)
+abbrev pub literal_of : ℕ → ℕ → ℕ → Bool → ℕ → Result Token ℕ
+literal_of n count k negative e = cond (leb count 9 && leb e 20) (Ok (Number (Real (nearest_decimal n (scale_of negative e k))))) (Err 5)
 
 abbrev pub literal_number : List ℕ → ℕ
 literal_number cs = decimal_value (mantissa_digits cs)
@@ -97,14 +96,14 @@ abbrev pub literal_scale : List ℕ → ℤ
 literal_scale cs = scale_of (is_negative (behind_mantissa cs)) (exponent_size (behind_mantissa cs)) (length (fraction_digits cs))
 
 -- a mantissa and an exponent
-abbrev pub real_of : List ℕ → Scanned
+abbrev pub real_of : List ℕ → Result Token ℕ
 real_of cs =
     cond (is_exponent (behind_mantissa cs))
     (literal_of (literal_number cs) (length (mantissa_digits cs)) (length (fraction_digits cs)) (is_negative (behind_mantissa cs)) (exponent_size (behind_mantissa cs)))
-    (Bad 4)
+    (Err 4)
 
 -- a run that starts with a digit
-abbrev pub numeral_of : List ℕ → Scanned
+abbrev pub numeral_of : List ℕ → Result Token ℕ
 numeral_of cs = cond (decimal_digits cs) (decimal_of cs) (cond (is_hex_run cs) (hex_of (drop 2 cs)) (real_of cs))
 
 -- ---- the run

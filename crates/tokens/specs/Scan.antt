@@ -1,11 +1,9 @@
 -- The tokens of a text with their places, and the first bytes that are none: "4, 5, 6 over the whole text, the smallest place first"; "Place is the byte
 -- offset of the token, or for 4 of the bad byte or run."
-use Rattle.std.specs.Prelude.{Bool, cond, List, [], ◌∷◌, ℕ, zero, suc, ◌+◌, eqb, length, take, drop}
+use Rattle.std.specs.Prelude.{Bool, cond, List, [], ◌∷◌, ℕ, zero, suc, ◌+◌, eqb, length, take, drop, Result, Ok, Err}
 use Rattle.memory.specs.Names.{is_digit}
 use Rattle.tokens.specs.declared.Token.{Token}
 use Rattle.tokens.specs.declared.Token.TheVariants.{Symbol}
-use Rattle.tokens.specs.declared.Scanned.{Scanned}
-use Rattle.tokens.specs.declared.Scanned.TheVariants.{Good, Bad}
 use Rattle.tokens.specs.Bytes.{is_letter, is_space, is_word, run_len}
 use Rattle.tokens.specs.Symbols.{symbol_count, symbol_bytes, longest}
 use Rattle.tokens.specs.Numerals.{numeral_len, numeral_of}
@@ -18,12 +16,12 @@ pub data Lexeme : Type 0 where
   End : Lexeme
 
 -- n bytes at a place, judged
-abbrev pub lexeme : ℕ → ℕ → Scanned → Lexeme
-lexeme p n (Good t) = Found t p (p + n)
-lexeme p n (Bad a) = Wrong a p
+abbrev pub lexeme : ℕ → ℕ → Result Token ℕ → Lexeme
+lexeme p n (Ok t) = Found t p (p + n)
+lexeme p n (Err a) = Wrong a p
 
 -- the longest run of a class, judged by f
-abbrev pub run_lexeme : (ℕ → Bool) → (List ℕ → Scanned) → List ℕ → ℕ → Lexeme
+abbrev pub run_lexeme : (ℕ → Bool) → (List ℕ → (Result Token ℕ)) → List ℕ → ℕ → Lexeme
 run_lexeme test f cs p = lexeme p (run_len test cs) (f (take (run_len test cs) cs))
 
 abbrev pub numeral_lexeme : List ℕ → ℕ → Lexeme

@@ -1,14 +1,12 @@
 -- What a reader of the tokens wants to know of `scan`, in the words of paper 01; proofs/Theorems.antt proves the record. So a reader believes the classes of
 -- bytes, the table of symbols, `word_token` and `numeral_of`, and no position and no fuel.
-use Rattle.std.specs.Prelude.{◌≡◌, Bool, true, false, List, [], ◌∷◌, ◌++◌, ℕ, ◌+◌, ◌≤◌, ◌<◌, Float, length}
+use Rattle.std.specs.Prelude.{◌≡◌, Bool, true, false, List, [], ◌∷◌, ◌++◌, ℕ, ◌+◌, ◌≤◌, ◌<◌, Float, length, Result, Ok, Err}
 use Rattle.reals.specs.Rounding.{Rounds}
 use Rattle.literals.specs.Literals.{scaled_decimal}
 use Rattle.values.specs.declared.Value.TheVariants.{Real}
 use Rattle.memory.specs.Names.{is_digit}
 use Rattle.tokens.specs.declared.Token.{Token}
 use Rattle.tokens.specs.declared.Token.TheVariants.{Number, Symbol}
-use Rattle.tokens.specs.declared.Scanned.{Scanned}
-use Rattle.tokens.specs.declared.Scanned.TheVariants.{Good, Bad}
 use Rattle.tokens.specs.Bytes.{is_letter, is_space, is_word, is_run, all}
 use Rattle.tokens.specs.Symbols.{symbol_count, symbol_bytes}
 use Rattle.tokens.specs.Numerals.{decimal_digits, is_sign, literal_number, literal_scale, numeral_of}
@@ -53,13 +51,13 @@ pub record LongestMatch (n : ℕ) (r : List ℕ) : Type 0 where
   pub most : (m : ℕ) → m < symbol_count → Matches m (symbol_bytes n ++ r) → length (symbol_bytes m) ≤ length (symbol_bytes n)
 
 -- the bytes w, before r, are the longest that belong together, and what they are: a token, or none and its answer
-pub data LongestLexeme (w r : List ℕ) : Scanned → Type 0 where
+pub data LongestLexeme (w r : List ℕ) : Result Token ℕ → Type 0 where
   word : LongestRun is_letter is_word w r → LongestLexeme w r (word_token w)
   numeral : NumeralRun w r → LongestLexeme w r (numeral_of w)
-  symbol : (n : ℕ) → w ≡ symbol_bytes n → LongestMatch n r → LongestLexeme w r (Good (Symbol n))
+  symbol : (n : ℕ) → w ≡ symbol_bytes n → LongestMatch n r → LongestLexeme w r (Ok (Symbol n))
   -- 4, "bytes that form no token": a byte that is no blank and starts no word, numeral or symbol
   stray : (c : ℕ) → w ≡ c ∷ [] → is_space c ≡ false → is_letter c ≡ false → is_digit c ≡ false
-      → ((n : ℕ) → n < symbol_count → Matches n (c ∷ r) → ⊥) → LongestLexeme w r (Bad 4)
+      → ((n : ℕ) → n < symbol_count → Matches n (c ∷ r) → ⊥) → LongestLexeme w r (Err 4)
 
 -- "Spaces and tabs separate."
 abbrev pub Blank : List ℕ → Type 0
@@ -69,15 +67,15 @@ Blank b = all is_space b ≡ true
 -- bytes that are no token: "4, 5, 6 over the whole text, the smallest place first".
 pub data Scans : ℕ → List ℕ → Scan → Type 0 where
   end : {p : ℕ} {s : List ℕ} → Blank s → Scans p s (tokens [])
-  token : {p : ℕ} {s : List ℕ} {t : Token} {z : Scan} (b w r : List ℕ) → s ≡ b ++ (w ++ r) → Blank b → LongestLexeme w r (Good t)
+  token : {p : ℕ} {s : List ℕ} {t : Token} {z : Scan} (b w r : List ℕ) → s ≡ b ++ (w ++ r) → Blank b → LongestLexeme w r (Ok t)
       → Scans (p + length b + length w) r z → Scans p s (cons_token (record { token = t; place = p + length b }) z)
-  stop : {p : ℕ} {s : List ℕ} {a : ℕ} (b w r : List ℕ) → s ≡ b ++ (w ++ r) → Blank b → LongestLexeme w r (Bad a) → Scans p s (wrong a (p + length b))
+  stop : {p : ℕ} {s : List ℕ} {a : ℕ} (b w r : List ℕ) → s ≡ b ++ (w ++ r) → Blank b → LongestLexeme w r (Err a) → Scans p s (wrong a (p + length b))
 
 pub record TokenTheorems : Type 0 where
   -- every text scans so, to one list of tokens or to one answer and place
   pub scans : (s : List ℕ) → Scans 0 s (scan s)
   pub only : (s : List ℕ) (z : Scan) → Scans 0 s z → z ≡ scan s
   -- a real literal is its decimal, rounded once: the nearest single, ties to even
-  pub real_literal : (w : List ℕ) (x : Float) → numeral_of w ≡ Good (Number (Real x)) → Rounds (scaled_decimal (literal_number w) (literal_scale w)) x
+  pub real_literal : (w : List ℕ) (x : Float) → numeral_of w ≡ Ok (Number (Real x)) → Rounds (scaled_decimal (literal_number w) (literal_scale w)) x
   -- the scan never runs out of fuel: more of it gives the same
   pub enough : (f : ℕ) (s : List ℕ) → length s < f → scan_from f s 0 ≡ scan s

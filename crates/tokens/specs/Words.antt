@@ -1,13 +1,9 @@
 -- Words (paper 01): "a function name, a bank letter, or a bank letter and a decimal number without a leading zero (`0` itself is good). Any other word is
 -- 6. Case counts."
-use Rattle.std.specs.Prelude.{cond, List, [], ◌∷◌, ◌++◌, map, ℕ, length, get_or}
+use Rattle.std.specs.Prelude.{cond, List, [], ◌∷◌, ◌++◌, map, ℕ, length, get_or, Option, Result, Some, None, Ok, Err}
 use Rattle.values.specs.declared.ChoiceOp.TheVariants as Choose
 use Rattle.values.specs.declared.CompareOp.{CompareOp}
 use Rattle.values.specs.declared.CompareOp.TheVariants as Compare
-use Rattle.memory.specs.declared.names.Letter.{Letter}
-use Rattle.memory.specs.declared.names.Letter.TheVariants as L
-use Rattle.memory.specs.declared.names.Named.{Named}
-use Rattle.memory.specs.declared.names.Named.TheVariants as A
 use Rattle.memory.specs.Names.{letter_bank, named_rule}
 use Rattle.totals.specs.declared.TotalOp.{TotalOp}
 use Rattle.totals.specs.declared.TotalOp.TheVariants as T'
@@ -17,10 +13,10 @@ use Rattle.totals.specs.Numbers.{total_ops, match_ops}
 use Rattle.tokens.specs.declared.Function.{Function}
 use Rattle.tokens.specs.declared.Function.TheVariants.{Abs, ToReal, ToInt, Trunc, Round, Frac, Max, Min, If, TickMs, Since, Total, Match}
 use Rattle.tokens.specs.declared.Token.TheVariants.{Cell, Letter as LetterToken, Name}
-use Rattle.tokens.specs.declared.Scanned.{Scanned}
-use Rattle.tokens.specs.declared.Scanned.TheVariants.{Good, Bad}
 use Rattle.tokens.specs.Symbols.{equal_bytes}
 use Rattle.words.specs.Ascii.{ascii}
+use Rattle.memory.specs.declared.Bank.{Bank}
+use Rattle.tokens.specs.declared.Token.{Token}
 
 -- totals over a run of cells (paper 02, Ask 2): "SUMR, AVGR, MAXR, MINR and the COUNTIF and SUMIF families of the page", each name of a family with its
 -- comparison
@@ -58,25 +54,25 @@ name_of Since = ascii "SINCE"
 name_of (Total o) = total_name o
 name_of (Match o) = match_name o
 
-abbrev pub cell_word : Named → Scanned
-cell_word (A.Cell b i) = Good (Cell b i)
-cell_word A.Other = Bad 6
+abbrev pub cell_word : Option (Bank × ℕ) → Result Token ℕ
+cell_word (Some (b, i)) = Ok (Cell b i)
+cell_word None = Err 6
 
-abbrev pub letter_word : Letter → Scanned
-letter_word (L.Of b) = Good (LetterToken b)
-letter_word L.Other = Bad 6
+abbrev pub letter_word : Option Bank → Result Token ℕ
+letter_word (Some b) = Ok (LetterToken b)
+letter_word None = Err 6
 
 -- no function's name
-unfoldable pub other_word : List ℕ → Scanned
+unfoldable pub other_word : List ℕ → Result Token ℕ
 unfolding letter_bank named_rule
-other_word [] = Bad 6
+other_word [] = Err 6
 other_word (c ∷ []) = letter_word (letter_bank c)
 other_word (c ∷ d ∷ cs) = cell_word (named_rule (c ∷ d ∷ cs))
 
 -- the function that has the name, among these
-abbrev pub function_named : List Function → List ℕ → Scanned → Scanned
+abbrev pub function_named : List Function → List ℕ → Result Token ℕ → Result Token ℕ
 function_named [] cs other = other
-function_named (f ∷ fs) cs other = cond (equal_bytes (name_of f) cs) (Good (Name f)) (function_named fs cs other)
+function_named (f ∷ fs) cs other = cond (equal_bytes (name_of f) cs) (Ok (Name f)) (function_named fs cs other)
 
 abbrev pub functions : List Function
 functions = Abs ∷ ToReal ∷ ToInt ∷ Trunc ∷ Round ∷ Frac ∷ Max ∷ Min ∷ If ∷ TickMs ∷ Since ∷ (map Total total_ops ++ map Match match_ops)
@@ -95,6 +91,6 @@ first_match = 15
 abbrev pub function_at : ℕ → Function
 function_at n = get_or functions n Abs
 
-unfoldable pub word_token : List ℕ → Scanned
+unfoldable pub word_token : List ℕ → Result Token ℕ
 unfolding other_word
 word_token cs = function_named functions cs (other_word cs)

@@ -1,82 +1,62 @@
 // Classes of bytes, and the longest runs of them.
-ghost use Rattle.std.specs.Prelude.{◌≡◌, ◌+◌, ◌≤◌, length, get_or, drop};
-ghost use Rattle.tokens.specs.Bytes.{byte_between, is_letter, is_space, is_word, is_run, is_hex, in_class, run_len};
-
-pub fn between(lo: u8, b: u8, hi: u8) -> bool
-    ensures { result ≡ byte_between lo hi b }
-{
-    lo <= b && b <= hi
-}
+ghost use Rattle.std.specs.Prelude.{◌≡◌, ℕ, Bool, ◌+◌, ◌≤◌, length, get_or, drop};
+ghost use Rattle.std.specs.List.{prefix_len};
+ghost use Rattle.tokens.specs.Bytes.{is_letter, is_space, is_word, is_run, is_hex, run_len};
 
 pub fn is_letter(b: u8) -> bool
     ensures { result ≡ is_letter b }
 {
-    between(65, b, 90) || between(97, b, 122)
+    b.is_ascii_alphabetic()
 }
 
 pub fn is_space(b: u8) -> bool
     ensures { result ≡ is_space b }
 {
-    b == 32 || b == 9
+    matches!(b, b' ' | b'\t')
 }
 
 pub fn is_word(b: u8) -> bool
     ensures { result ≡ is_word b }
 {
-    is_letter(b) || memory::names::is_digit(b)
+    b.is_ascii_alphanumeric()
 }
 
 pub fn is_run(b: u8) -> bool
     ensures { result ≡ is_run b }
 {
-    is_word(b) || b == 46
+    is_word(b) || b == b'.'
 }
 
 pub fn is_hex(b: u8) -> bool
     ensures { result ≡ is_hex b }
 {
-    if memory::names::is_digit(b) {
-        return true;
-    }
-    between(65, b, 70) || between(97, b, 102)
+    b.is_ascii_hexdigit()
 }
 
-// Classes of which runs are made: the bytes of words, those of numerals, hexadecimal digits.
-#[derive(Clone, Copy)]
-pub enum ByteClass {
-    Word,
-    Numeral,
-    Hexadecimal,
-}
-
-fn is_in(class: ByteClass, b: u8) -> bool
-    ensures { result ≡ in_class class b }
+// How many bytes at the front of a text are of a class, which a test tells.
+fn passing<F: Fn(u8) -> bool>(text: &[u8], test: F) -> usize
+    ghost class: { ℕ → Bool }
+    requires callable { F.IsAlwaysCallable test }
+    requires tells { (c : ℕ) (r : Bool) → F.post test c r → r ≡ class c }
+    ensures { result ≡ prefix_len class text.now }
 {
-    match class {
-        ByteClass::Word => is_word(b),
-        ByteClass::Numeral => is_run(b),
-        ByteClass::Hexadecimal => is_hex(b),
-    }
+    text.iter().take_while(|b| test(**b)).count()
 }
 
 // The end of the longest run of a class from a position.
-pub fn run_end(text: &[u8], at: usize, class: ByteClass) -> usize
-    requires { at ≤ length text.now }
-    ensures { (result ≡ at + run_len (in_class class) (drop at text.now)) × (result ≤ length text.now) }
+pub fn run_end<F: Fn(u8) -> bool>(text: &[u8], at: usize, test: F) -> usize
+    ghost class: { ℕ → Bool }
+    requires at_in_bounds { at ≤ length text.now }
+    requires callable { F.IsAlwaysCallable test }
+    requires tells { (c : ℕ) (r : Bool) → F.post test c r → r ≡ class c }
+    ensures { (result ≡ at + run_len class (drop at text.now)) × (result ≤ length text.now) }
 {
-    let mut i = at;
-    while i < text.len() {
-        if !is_in(class, text[i]) {
-            return i;
-        }
-        i += 1;
-    }
-    i
+    at + passing(&text[at..], test)
 }
 
 // The byte at a position, 0 past the end.
 pub fn byte_at(text: &[u8], at: usize) -> u8
     ensures { result ≡ get_or text.now at 0 }
 {
-    if at < text.len() { text[at] } else { 0 }
+    text.get(at).copied().unwrap_or(0)
 }

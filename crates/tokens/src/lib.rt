@@ -37,10 +37,3 @@ pub enum Token {
     Name(Function),
     Symbol(u8),
 }
-
-// What some bytes are: a token, or one of the answers 4, 5 and 6.
-#[derive(Clone, Copy)]
-pub enum Scanned {
-    Good(Token),
-    Bad(u32),
-}

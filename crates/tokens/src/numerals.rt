@@ -1,36 +1,28 @@
 // Numerals that are not decimal: hexadecimal, or refused. A numeral is judged on its own run of bytes.
 ghost use Rattle.std.specs.Prelude.{◌≡◌, true, ◌&&◌, cond, ◌^◌, ◌<◌, drop};
-ghost use Rattle.tokens.specs.declared.Scanned.TheVariants.{Bad};
+ghost use Rattle.std.specs.List.{list_all};
 ghost use Rattle.tokens.specs.Bytes.{is_hex, all};
 ghost use Rattle.tokens.specs.Numerals.{non_empty, hex_digit, hex_from, hex_of, is_hex_run};
 ghost use Rattle.tokens.specs.private.Patterns.{pattern_token};
 
-use crate::bytes::ByteClass;
-use crate::{Scanned, Token, bytes};
+use crate::{Token, bytes};
 use values::Value;
 
 fn hex_digit(b: u8) -> u32
     requires { is_hex b ≡ true }
     ensures { result ≡ hex_digit b }
 {
-    if b <= 57 {
-        return b as u32 - 48;
-    }
-    if b <= 70 {
-        b as u32 - 55
-    } else {
-        b as u32 - 87
+    match b {
+        b'0'..=b'9' => (b - b'0') as u32,
+        b'A'..=b'F' => (b - b'A') as u32 + 10,
+        _ => (b - b'a') as u32 + 10,
     }
 }
 
-// At least one hexadecimal digit, and nothing else.
 fn all_hex(run: &[u8]) -> bool
-    ensures { result ≡ (non_empty run.now && all is_hex run.now) }
+    ensures { result ≡ list_all is_hex run.now }
 {
-    if run.len() == 0 {
-        return false;
-    }
-    run.len() <= bytes::run_end(run, 0, ByteClass::Hexadecimal)
+    run.iter().all(|b| bytes::is_hex(*b))
 }
 
 // The number of hexadecimal digits.
@@ -39,62 +31,40 @@ fn hex_value(run: &[u8]) -> u32
     ensures { result ≡ hex_from 0 run.now }
 {
     let mut n: u32 = 0;
-    let mut i = 0;
-    while i < run.len() {
-        n = n * 16 + hex_digit(run[i]);
-        i += 1;
+    for b in run {
+        n = n * 16 + hex_digit(*b);
     }
     n
 }
 
-// What was read of a hexadecimal numeral: the answer that refuses it, or 0 and its pattern of 32 bits.
-#[derive(Clone, Copy)]
-pub struct Pattern {
-    pub answer: u32,
-    pub bits: u32,
-}
-
-// The digits after 0x.
-fn hex_pattern(run: &[u8]) -> Pattern
+// The pattern of 32 bits of the digits after 0x, or the answer that refuses them.
+fn hex_pattern(run: &[u8]) -> Result<u32, u32>
     ensures { pattern_token result ≡ hex_of run.now }
 {
-    if !all_hex(run) {
-        return Pattern { answer: 4, bits: 0 };
+    if run.is_empty() || !all_hex(run) {
+        return Err(4);
     }
     if 8 < run.len() {
-        return Pattern { answer: 5, bits: 0 };
+        return Err(5);
     }
-    Pattern {
-        answer: 0,
-        bits: hex_value(run),
-    }
+    Ok(hex_value(run))
 }
 
-pub fn hexadecimal(run: &[u8]) -> Scanned
+pub fn hexadecimal(run: &[u8]) -> Result<Token, u32>
     ensures { result ≡ hex_of run.now }
 {
-    let p = hex_pattern(run);
-    if p.answer != 0 {
-        return Scanned::Bad(p.answer);
+    match hex_pattern(run) {
+        Ok(bits) => Ok(Token::Number(Value::Int(values::patterns::from_pattern(bits)))),
+        Err(answer) => Err(answer),
     }
-    Scanned::Good(Token::Number(Value::Int(values::patterns::from_pattern(p.bits))))
 }
 
-fn is_hex_run(run: &[u8]) -> bool
-    ensures { result ≡ is_hex_run run.now }
+// A run that is neither decimal nor a real literal: the pattern of 32 bits of its digits, or the answer that refuses it.
+pub fn other_numeral(run: &[u8]) -> Result<u32, u32>
+    ensures { pattern_token result ≡ cond (is_hex_run run.now) (hex_of (drop 2 run.now)) (Err 4) }
 {
-    if run.len() < 2 {
-        return false;
+    match run {
+        [b'0', b'x', digits @ ..] => hex_pattern(digits),
+        _ => Err(4),
     }
-    run[0] == 48 && run[1] == 120
-}
-
-// A run that is neither decimal nor a real literal.
-pub fn other_numeral(run: &[u8]) -> Pattern
-    ensures { pattern_token result ≡ cond (is_hex_run run.now) (hex_of (drop 2 run.now)) (Bad 4) }
-{
-    if is_hex_run(run) {
-        return hex_pattern(&run[2..]);
-    }
-    Pattern { answer: 4, bits: 0 }
 }

@@ -1,4 +1,4 @@
-// The numbers of the symbols in the table of symbols.
+// The numbers of the symbols in the table of symbols: words of a token table hold them.
 pub const POWER: u8 = 0;
 
 pub const TIMES: u8 = 1;

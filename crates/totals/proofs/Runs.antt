@@ -1,6 +1,6 @@
 -- The totals by their runs, and the banks by the loop that takes them.
 use mathlib.Core.Path.{◌≡◌, refl}
-use mathlib.Core.Bool.{true, false, false≢true}
+use mathlib.Core.Bool.{false}
 use mathlib.Core.List.{List}
 use Prim.Native.Nat.{ℕ}
 use Rattle.values.specs.declared.Kind.TheVariants as K
@@ -20,22 +20,16 @@ use Rattle.totals.specs.declared.Step.TheVariants as S
 use Rattle.totals.specs.declared.Visited.{Visited}
 use Rattle.totals.specs.Totals.{total_over, match_over}
 use Rattle.totals.specs.private.Steps.{run_over}
+use Rattle.totals.proofs.integers.Whole.{no-int}
 
-pub real-bank : (b : Bank) → real_bank b ≡ true → b ≡ R
-real-bank X e = absurd (false≢true e)
-real-bank C e = absurd (false≢true e)
-real-bank «V» e = absurd (false≢true e)
-real-bank N e = absurd (false≢true e)
-real-bank D e = absurd (false≢true e)
-real-bank R e = refl
-
-pub whole-bank : (b : Bank) → real_bank b ≡ false → bank_kind b ≡ K.Int
-whole-bank X e = refl
-whole-bank C e = refl
-whole-bank «V» e = refl
-whole-bank N e = refl
-whole-bank D e = refl
-whole-bank R e = absurd (false≢true (rw e))
+-- a bank of integers is not R
+pub not-real : (b : Bank) → bank_kind b ≡ K.Int → real_bank b ≡ false
+not-real X e = refl
+not-real C e = refl
+not-real «V» e = refl
+not-real N e = refl
+not-real D e = refl
+not-real R e = absurd (no-int e)
 
 -- an average is real, whatever the bank
 pub any-kind : (b : Bank) (read : ℕ → Outcome) (i n : ℕ) → run_over S.Average K.Real read i n ≡ run_over S.Average (bank_kind b) read i n

@@ -1,12 +1,12 @@
 // The integers next to the value that cells of integers are compared with: found once, so that no cell is promoted.
-ghost use Rattle.std.specs.Prelude.{◌≡◌, true, false, ◌≤◌, pos, nat_abs, ◌+ℤ◌};
+ghost use Rattle.std.specs.Prelude.{◌≡◌, true, ◌≤◌, pos, nat_abs, ◌+ℤ◌, IfSome, MatchOption};
 ghost use Rattle.std.specs.Float.Ieee.{lt};
 ghost use Rattle.values.specs.Convert.{promoted};
 ghost use Rattle.values.specs.declared.Value.TheVariants.{Real};
 ghost use Rattle.operators.specs.Operators.{as_real};
 ghost use Rattle.totals.specs.private.Integers.{Enclosed};
 
-use values::{Cut, Value, singles};
+use values::{Value, singles};
 
 // Up to here a single holds every integer.
 const WHOLE: i32 = 16777216;
@@ -16,17 +16,6 @@ const WHOLE: i32 = 16777216;
 pub struct Neighbours {
     pub low: i32,
     pub high: i32,
-    pub known: bool,
-}
-
-fn unknown() -> Neighbours
-    ensures { result.known ≡ false }
-{
-    Neighbours {
-        low: 0,
-        high: 0,
-        known: false,
-    }
 }
 
 fn is_less(z: i32, x: f32) -> bool
@@ -72,44 +61,42 @@ fn back(z: i32, one: bool) -> i32
 }
 
 // By a guess, which is tested: z is x without its fraction.
-fn about(z: i32, x: f32) -> Neighbours
-    ensures { result.known ≡ true → Enclosed result.low result.high (Real x) }
+fn about(z: i32, x: f32) -> Option<Neighbours>
+    ensures { IfSome result (λ n. Enclosed n.low n.high (Real x)) }
 {
     if z < -WHOLE {
-        return unknown();
+        return None;
     }
     if WHOLE < z {
-        return unknown();
+        return None;
     }
     let below = back(z, !is_less(z, x));
     let high = back(z, is_greater(z, x));
-    Neighbours {
-        low: below + 1,
-        high,
-        known: encloses(below, high, x),
+    if encloses(below, high, x) {
+        Some(Neighbours {
+            low: below + 1,
+            high,
+        })
+    } else {
+        None
     }
 }
 
-fn of_real(x: f32) -> Neighbours
-    ensures { result.known ≡ true → Enclosed result.low result.high (Real x) }
+fn of_real(x: f32) -> Option<Neighbours>
+    ensures { IfSome result (λ n. Enclosed n.low n.high (Real x)) }
 {
     match values::convert::truncate(x) {
-        Cut::Whole(z) => about(z, x),
-        Cut::Outside => unknown(),
+        Some(z) => about(z, x),
+        None => None,
     }
 }
 
-// Of a value; they are not known of a real that is too large for its fraction.
-pub fn of(v: Value) -> Neighbours
-    ensures enclosed { result.known ≡ true → Enclosed result.low result.high v }
-    ensures v_value { result.known ≡ false → Real (as_real v) ≡ v }
+// Of a value; none are known of a real that is too large for its fraction.
+pub fn of(v: Value) -> Option<Neighbours>
+    ensures { MatchOption result (Real (as_real v) ≡ v) (λ n. Enclosed n.low n.high v) }
 {
     match v {
-        Value::Int(z) => Neighbours {
-            low: z,
-            high: z,
-            known: true,
-        },
+        Value::Int(z) => Some(Neighbours { low: z, high: z }),
         Value::Real(x) => of_real(x),
     }
 }

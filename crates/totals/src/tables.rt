@@ -8,47 +8,35 @@ use memory::numbers;
 use operators::kinds;
 use values::{ChoiceOp, CompareOp};
 
-#[derive(Clone, Copy)]
-pub enum TotalOf {
-    Is(TotalOp),
-    Nothing,
-}
-
-#[derive(Clone, Copy)]
-pub enum MatchOf {
-    Is(MatchOp),
-    Nothing,
-}
-
-pub fn total_of(n: u8) -> TotalOf
+pub fn total_of(n: u8) -> Option<TotalOp>
     ensures { result ≡ total_of n }
 {
     match n {
-        0 => TotalOf::Is(TotalOp::Sum),
-        1 => TotalOf::Is(TotalOp::Average),
-        2 => TotalOf::Is(TotalOp::Choice(ChoiceOp::Max)),
-        3 => TotalOf::Is(TotalOp::Choice(ChoiceOp::Min)),
-        _ => TotalOf::Nothing,
+        0 => Some(TotalOp::Sum),
+        1 => Some(TotalOp::Average),
+        2 => Some(TotalOp::Choice(ChoiceOp::Max)),
+        3 => Some(TotalOp::Choice(ChoiceOp::Min)),
+        _ => None,
     }
 }
 
-pub fn match_of(n: u8) -> MatchOf
+pub fn match_of(n: u8) -> Option<MatchOp>
     ensures { result ≡ match_of n }
 {
     match n {
-        0 => MatchOf::Is(MatchOp::Count(CompareOp::Eq)),
-        1 => MatchOf::Is(MatchOp::Count(CompareOp::Ne)),
-        2 => MatchOf::Is(MatchOp::Count(CompareOp::Ge)),
-        3 => MatchOf::Is(MatchOp::Count(CompareOp::Gt)),
-        4 => MatchOf::Is(MatchOp::Count(CompareOp::Le)),
-        5 => MatchOf::Is(MatchOp::Count(CompareOp::Lt)),
-        6 => MatchOf::Is(MatchOp::Sum(CompareOp::Eq)),
-        7 => MatchOf::Is(MatchOp::Sum(CompareOp::Ne)),
-        8 => MatchOf::Is(MatchOp::Sum(CompareOp::Ge)),
-        9 => MatchOf::Is(MatchOp::Sum(CompareOp::Gt)),
-        10 => MatchOf::Is(MatchOp::Sum(CompareOp::Le)),
-        11 => MatchOf::Is(MatchOp::Sum(CompareOp::Lt)),
-        _ => MatchOf::Nothing,
+        0 => Some(MatchOp::Count(CompareOp::Eq)),
+        1 => Some(MatchOp::Count(CompareOp::Ne)),
+        2 => Some(MatchOp::Count(CompareOp::Ge)),
+        3 => Some(MatchOp::Count(CompareOp::Gt)),
+        4 => Some(MatchOp::Count(CompareOp::Le)),
+        5 => Some(MatchOp::Count(CompareOp::Lt)),
+        6 => Some(MatchOp::Sum(CompareOp::Eq)),
+        7 => Some(MatchOp::Sum(CompareOp::Ne)),
+        8 => Some(MatchOp::Sum(CompareOp::Ge)),
+        9 => Some(MatchOp::Sum(CompareOp::Gt)),
+        10 => Some(MatchOp::Sum(CompareOp::Le)),
+        11 => Some(MatchOp::Sum(CompareOp::Lt)),
+        _ => None,
     }
 }
 

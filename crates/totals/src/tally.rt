@@ -1,14 +1,13 @@
 // Runs that are real: sum, least and greatest as singles beside the count.
-ghost use Rattle.std.specs.Prelude.{◌≡◌, ◌+◌, ◌≤◌, ◌<◌, false, T, nat_abs};
+ghost use Rattle.std.specs.Prelude.{◌≡◌, ◌+◌, ◌≤◌, ◌<◌, false, nat_abs};
 ghost use Rattle.values.specs.Convert.{promoted};
 ghost use Rattle.values.specs.declared.Kind.TheVariants as K;
 ghost use Rattle.values.specs.declared.Kind.TheVariants.{Real};
-ghost use Rattle.memory.specs.Cells.{bank_kind, read_rule};
-ghost use Rattle.totals.specs.Totals.{good_range};
+ghost use Rattle.memory.specs.Cells.{read_rule};
 ghost use Rattle.totals.specs.private.Steps.{sum_step, match_step, run_over};
-ghost use Rattle.totals.specs.private.Integers.{is_wide};
 ghost use Rattle.totals.specs.private.Tally.{begun, stepped, first_real, mean_of, reading};
 
+use crate::ranges::WholeCells;
 use crate::{Step, Visited, integers};
 use memory::{Bank, cells};
 use reals::ArithOp;
@@ -88,25 +87,26 @@ fn reading(step: Step, t: Tally) -> Outcome
 
 // SUMR and AVGR of R. It ends at a cell that cannot be read, or whose addition makes the sum infinite. Here and below an outcome is made
 // anew, since a copy would keep that of every cell.
+// Each of the three has a loop of its own: one loop, which asks a closure whether it takes a cell, takes 12% to 60% more instructions.
 pub fn sum(averaged: bool, image: &[u8], first: u32, count: u32) -> Visited
     requires { first + count ≤ 256 }
     ensures { result ≡ run_over (sum_step averaged) Real (read_rule image.now Bank.R) first count }
 {
     let mut t = Tally::begin(0.0);
-    while t.count < count {
-        let cell = cells::read(image, Bank::R, first + t.count);
+    for k in 0..count {
+        let cell = cells::read(image, Bank::R, first + k);
         match cell {
             Outcome::Done(v) => {
                 t = t.step(operators::as_real(v));
                 if !singles::is_finite(t.sum) {
-                    return crate::ended(singles::settled(t.sum), t.count);
+                    return crate::ended(singles::settled(t.sum), k + 1);
                 }
             }
             Outcome::Stopped(f) => {
-                return crate::ended(Outcome::Stopped(f), t.count + 1);
+                return crate::ended(Outcome::Stopped(f), k + 1);
             }
             Outcome::WrongKind => {
-                return crate::ended(Outcome::WrongKind, t.count + 1);
+                return crate::ended(Outcome::WrongKind, k + 1);
             }
         }
     }
@@ -122,17 +122,17 @@ pub fn choose(o: ChoiceOp, image: &[u8], first: u32, count: u32) -> Visited
     ensures { result ≡ run_over (Step.Choose o) Real (read_rule image.now Bank.R) first count }
 {
     let mut t = Tally::begin(first_real(image, first));
-    while t.count < count {
-        let cell = cells::read(image, Bank::R, first + t.count);
+    for k in 0..count {
+        let cell = cells::read(image, Bank::R, first + k);
         match cell {
             Outcome::Done(v) => {
                 t = t.step(operators::as_real(v));
             }
             Outcome::Stopped(f) => {
-                return crate::ended(Outcome::Stopped(f), t.count + 1);
+                return crate::ended(Outcome::Stopped(f), k + 1);
             }
             Outcome::WrongKind => {
-                return crate::ended(Outcome::WrongKind, t.count + 1);
+                return crate::ended(Outcome::WrongKind, k + 1);
             }
         }
     }
@@ -153,27 +153,26 @@ pub fn matching(
 {
     let y = operators::as_real(v);
     let mut t = Tally::begin(0.0);
-    let mut k: u32 = 0;
-    while k < count {
+    for k in 0..count {
         let cell = cells::read(image, Bank::R, first + k);
-        k += 1;
         match cell {
             Outcome::Done(c) => {
                 let x = operators::as_real(c);
-                if singles::compare(o, x, y) {
-                    t = t.step(x);
-                    if !counts {
-                        if !singles::is_finite(t.sum) {
-                            return crate::ended(singles::settled(t.sum), k);
-                        }
+                if !singles::compare(o, x, y) {
+                    continue;
+                }
+                t = t.step(x);
+                if !counts {
+                    if !singles::is_finite(t.sum) {
+                        return crate::ended(singles::settled(t.sum), k + 1);
                     }
                 }
             }
             Outcome::Stopped(f) => {
-                return crate::ended(Outcome::Stopped(f), k);
+                return crate::ended(Outcome::Stopped(f), k + 1);
             }
             Outcome::WrongKind => {
-                return crate::ended(Outcome::WrongKind, k);
+                return crate::ended(Outcome::WrongKind, k + 1);
             }
         }
     }
@@ -195,37 +194,31 @@ fn promoted_cell(wide: bool, z: i32) -> f32
     }
 }
 
-// AVGR of a bank of integers: the cells are promoted.
-fn average_of(wide: bool, image: &[u8], bank: Bank, first: u32, count: u32) -> Visited
-    requires { T (good_range bank first count) × (bank_kind bank ≡ K.Int) × (wide ≡ is_wide bank) }
-    ensures { result ≡ run_over Step.Average Real (read_rule image.now bank) first count }
+// AVGR of a bank of integers: the cells are promoted. Above the size up to which LLVM writes a loop out for each arm by itself.
+#[inline(always)]
+fn average_of(bank: Bank, image: &[u8], cells: WholeCells) -> Visited
+    requires { bank ≡ cells.bank }
+    ensures { result ≡ run_over Step.Average Real (read_rule image.now cells.bank) cells.first cells.count }
 {
-    if !cells::has_cell(image, bank, first + (count - 1)) {
+    if !integers::are_in(image, bank, cells) {
         return integers::no_cells();
     }
+    let wide = integers::is_wide(bank);
     let mut t = Tally::begin(0.0);
-    while t.count < count {
-        let z = integers::whole_at(image, bank, first + t.count);
+    for k in 0..cells.count {
+        let z = integers::whole_at(image, bank, cells.first + k);
         t = t.step(promoted_cell(wide, z));
         if !singles::is_finite(t.sum) {
-            return crate::ended(singles::settled(t.sum), t.count);
+            return crate::ended(singles::settled(t.sum), k + 1);
         }
     }
-    crate::ended(mean(t.sum, t.count), count)
+    crate::ended(mean(t.sum, t.count), cells.count)
 }
 
-pub fn average(image: &[u8], bank: Bank, first: u32, count: u32) -> Visited
-    requires { T (good_range bank first count) × (bank_kind bank ≡ K.Int) }
-    ensures { result ≡ run_over Step.Average Real (read_rule image.now bank) first count }
+pub fn average(image: &[u8], cells: WholeCells) -> Visited
+    ensures { result ≡ run_over Step.Average Real (read_rule image.now cells.bank) cells.first cells.count }
 {
-    match bank {
-        Bank::X => average_of(false, image, Bank::X, first, count),
-        Bank::C => average_of(false, image, Bank::C, first, count),
-        Bank::V => average_of(false, image, Bank::V, first, count),
-        Bank::N => average_of(false, image, Bank::N, first, count),
-        Bank::D => average_of(true, image, Bank::D, first, count),
-        Bank::R => integers::no_cells(),
-    }
+    integers::in_bank!(cells.bank, average_of(image, cells))
 }
 
 // COUNTIF and SUMIF of a bank of integers, compared with a real: the cells are promoted to be compared.
@@ -234,28 +227,24 @@ pub fn matching_promoted(
     o: CompareOp,
     x: f32,
     image: &[u8],
-    bank: Bank,
-    first: u32,
-    count: u32,
+    cells: WholeCells,
 ) -> Visited
-    requires { T (good_range bank first count) × (bank_kind bank ≡ K.Int) }
-    ensures { result ≡ run_over (match_step counts o (Value.Real x)) K.Int (read_rule image.now bank) first count }
+    ensures { result ≡ run_over (match_step counts o (Value.Real x)) K.Int (read_rule image.now cells.bank) cells.first cells.count }
 {
-    if !cells::has_cell(image, bank, first + (count - 1)) {
+    if !integers::are_in(image, cells.bank, cells) {
         return integers::no_cells();
     }
     let mut a: i64 = 0;
-    let mut k: u32 = 0;
-    while k < count {
-        let z = integers::whole_at(image, bank, first + k);
-        k += 1;
-        if singles::compare(o, values::convert::promote(z), x) {
-            a += integers::taken_of(counts, z) as i64;
-            if !values::integers::in_range(a) {
-                return crate::ended(Outcome::Stopped(Fault::Overflow), k);
-            }
+    for k in 0..cells.count {
+        let z = integers::whole_at(image, cells.bank, cells.first + k);
+        if !singles::compare(o, values::convert::promote(z), x) {
+            continue;
+        }
+        a += integers::taken_of(counts, z) as i64;
+        if !values::integers::in_range(a) {
+            return crate::ended(Outcome::Stopped(Fault::Overflow), k + 1);
         }
     }
     let held = a as i32;
-    crate::ended(Outcome::Done(Value::Int(held)), count)
+    crate::ended(Outcome::Done(Value::Int(held)), cells.count)
 }

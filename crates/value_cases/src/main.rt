@@ -4,8 +4,10 @@
 // The last lines have whole powers, and the most multiplications that one of them takes.
 #![tactic(auto)]
 
-use operators::{Position, UnaryOp, tables};
+use case_lines::Shown;
+use operators::{UnaryOp, tables};
 use std::io;
+use std::num::f32_from_bits_with_nan;
 use tokens::symbols;
 use values::{Fault, Kind, Outcome, Value};
 
@@ -75,193 +77,159 @@ const EXPONENTS: [i32; 19] = [
     0, 1, 2, 3, 4, 5, 6, 7, 15, 16, 30, 31, 32, 33, 62, 63, 64, 65, -1,
 ];
 
-// What takes one operand. An operator with its left operand is among these: it takes the right one.
-#[derive(Clone, Copy)]
-enum Function {
-    Unary(UnaryOp),
-    Truth,
-    Index(u32),
-    Branch(Kind),
-    Since(u32),
-    Binary(u8, Value),
-}
+const UNARY: [(&str, UnaryOp); 8] = [
+    ("-", UnaryOp::Neg),
+    ("~", UnaryOp::Complement),
+    ("!", UnaryOp::Not),
+    ("ABS", UnaryOp::Abs),
+    ("TOREAL", UnaryOp::ToReal),
+    ("TRUNC", UnaryOp::Trunc),
+    ("ROUND", UnaryOp::Round),
+    ("FRAC", UnaryOp::Frac),
+];
+
+const BINARY: [(&str, u8); 20] = [
+    ("+", symbols::PLUS),
+    ("-", symbols::MINUS),
+    ("*", symbols::TIMES),
+    ("/", symbols::DIVIDE),
+    ("%", symbols::REMAINDER),
+    ("**", symbols::POWER),
+    ("<<", symbols::SHIFT_LEFT),
+    (">>", symbols::SHIFT_RIGHT),
+    (">>>", symbols::SHIFT_RIGHT_ZEROS),
+    ("<", symbols::LESS),
+    (">", symbols::GREATER),
+    ("<=", symbols::LESS_OR_EQUAL),
+    (">=", symbols::GREATER_OR_EQUAL),
+    ("==", symbols::EQUAL),
+    ("!=", symbols::NOT_EQUAL),
+    ("&", symbols::BIT_AND),
+    ("|", symbols::BIT_OR),
+    ("^", symbols::BIT_XOR),
+    ("MAX", tables::MAX),
+    ("MIN", tables::MIN),
+];
 
 // The integers of the table, and then its singles.
-fn operand(n: usize) -> Value {
-    if n < 15 {
-        return Value::Int(INTEGERS[n]);
+fn operands() -> [Value; 37] {
+    let integers = INTEGERS.iter().map(|z| Value::Int(*z));
+    let singles = SINGLES
+        .iter()
+        .map(|pattern| Value::Real(f32_from_bits_with_nan(*pattern)));
+    let mut all = [Value::Int(0); 37];
+    for (operand, v) in all.iter_mut().zip(integers.chain(singles)) {
+        *operand = v;
     }
-    if n < 37 {
-        return Value::Real(case_lines::single(SINGLES[n - 15]));
-    }
-    Value::Int(0)
-}
-
-fn truth(v: Value) -> Value {
-    if operators::truth(v) {
-        Value::Int(1)
-    } else {
-        Value::Int(0)
-    }
+    all
 }
 
 // The element that an index names, as an integer.
 fn index(v: Value, elements: u32) -> Outcome {
     match operators::index(v, elements) {
-        Position::At(i) => Outcome::Done(Value::Int(values::patterns::from_pattern(i))),
-        Position::Stopped(f) => Outcome::Stopped(f),
+        Ok(i) => Outcome::Done(Value::Int(values::patterns::from_pattern(i))),
+        Err(f) => Outcome::Stopped(f),
     }
 }
 
-fn apply(f: Function, v: Value) -> Outcome {
-    match f {
-        Function::Unary(op) => operators::unary(op, v),
-        Function::Truth => Outcome::Done(truth(v)),
-        Function::Index(elements) => index(v, elements),
-        Function::Branch(other) => Outcome::Done(operators::branch(v, other)),
-        Function::Since(tick) => operators::since(tick, v),
-        Function::Binary(op, a) => operators::numbered::binary(op, a, v),
+// Ends a line with what each operand of the table gives.
+fn results<F: Fn(Value) -> Outcome>(rt: &impl Print, of: F) -> io::Result<()>
+    requires { F.IsAlwaysCallable of }
+{
+    for v in operands() {
+        print!(rt; " {}", Shown(of(v)))?;
     }
-}
-
-// Ends a line with the results for every operand, and writes it.
-fn results(rt: &impl Print, line: &mut [u8; 512], at: usize, f: Function) -> io::Result<()> {
-    let mut end = at;
-    for n in 0usize..37 {
-        end = case_lines::put_outcome(line, end, apply(f, operand(n)));
-    }
-    case_lines::write(rt, line, end)
-}
-
-fn one(rt: &impl Print, name: &[u8], f: Function) -> io::Result<()> {
-    let mut line = [0u8; 512];
-    let end = case_lines::put_all(&mut line, 0, name);
-    results(rt, &mut line, end, f)
-}
-
-fn left(rt: &impl Print, name: &[u8], op: u8, a: Value) -> io::Result<()> {
-    let mut line = [0u8; 512];
-    let mut end = case_lines::put_all(&mut line, 0, name);
-    end = case_lines::put_outcome(&mut line, end, Outcome::Done(a));
-    end = case_lines::put(&mut line, end, b':');
-    results(rt, &mut line, end, Function::Binary(op, a))
-}
-
-// A line for each left operand.
-fn two(rt: &impl Print, name: &[u8], op: u8) -> io::Result<()> {
-    for n in 0usize..37 {
-        left(rt, name, op, operand(n))?;
-    }
-    Ok(())
+    println!(rt; "")
 }
 
 // The numbers of the faults. No operator gives the last, which is a bank's.
 fn faults(rt: &impl Print) -> io::Result<()> {
-    let mut line = [0u8; 512];
-    let mut end = case_lines::put_all(&mut line, 0, b"faults");
-    end = case_lines::put_outcome(&mut line, end, Outcome::Stopped(Fault::DividedByZero));
-    end = case_lines::put_outcome(&mut line, end, Outcome::Stopped(Fault::Overflow));
-    end = case_lines::put_outcome(&mut line, end, Outcome::Stopped(Fault::OutOfRange));
-    end = case_lines::put_outcome(&mut line, end, Outcome::Stopped(Fault::IndexError));
-    case_lines::write(rt, &mut line, end)
+    print!(rt; "faults")?;
+    for fault in [
+        Fault::DividedByZero,
+        Fault::Overflow,
+        Fault::OutOfRange,
+        Fault::IndexError,
+    ] {
+        print!(rt; " {}", Shown(fault))?;
+    }
+    println!(rt; "")
 }
 
-// The first of these lines has the operands themselves.
+// Readings of one operand. The first of these lines has the operands themselves.
+fn readings(rt: &impl Print) -> io::Result<()> {
+    print!(rt; "branch of int")?;
+    results(rt, |v| Outcome::Done(operators::branch(v, Kind::Int)))?;
+    print!(rt; "branch of real")?;
+    results(rt, |v| Outcome::Done(operators::branch(v, Kind::Real)))?;
+    print!(rt; "truth")?;
+    results(rt, |v| {
+        Outcome::Done(Value::Int(i32::from(operators::truth(v))))
+    })?;
+    for elements in [64, 256] {
+        print!(rt; "index of {elements}")?;
+        results(rt, |v| index(v, elements))?;
+    }
+    Ok(())
+}
+
 fn ones(rt: &impl Print) -> io::Result<()> {
-    one(rt, b"branch of int", Function::Branch(Kind::Int))?;
-    one(rt, b"branch of real", Function::Branch(Kind::Real))?;
-    one(rt, b"truth", Function::Truth)?;
-    one(rt, b"index of 64", Function::Index(64))?;
-    one(rt, b"index of 256", Function::Index(256))?;
-    one(rt, b"-", Function::Unary(UnaryOp::Neg))?;
-    one(rt, b"~", Function::Unary(UnaryOp::Complement))?;
-    one(rt, b"!", Function::Unary(UnaryOp::Not))?;
-    one(rt, b"ABS", Function::Unary(UnaryOp::Abs))?;
-    one(rt, b"TOREAL", Function::Unary(UnaryOp::ToReal))?;
-    one(rt, b"TRUNC", Function::Unary(UnaryOp::Trunc))?;
-    one(rt, b"ROUND", Function::Unary(UnaryOp::Round))?;
-    one(rt, b"FRAC", Function::Unary(UnaryOp::Frac))
-}
-
-fn since_at(rt: &impl Print, tick: u32) -> io::Result<()> {
-    let mut line = [0u8; 512];
-    let mut end = case_lines::put_all(&mut line, 0, b"SINCE at ");
-    end = case_lines::put_hex(&mut line, end, tick);
-    end = case_lines::put(&mut line, end, b':');
-    results(rt, &mut line, end, Function::Since(tick))
+    for (name, op) in UNARY {
+        print!(rt; "{name}")?;
+        results(rt, |v| operators::unary(op, v))?;
+    }
+    Ok(())
 }
 
 // At ticks around the turns of the counter and of its sign.
 fn sinces(rt: &impl Print) -> io::Result<()> {
-    since_at(rt, 0)?;
-    since_at(rt, 1)?;
-    since_at(rt, 0x7fff_ffff)?;
-    since_at(rt, 0x8000_0000)?;
-    since_at(rt, 0xffff_ffff)
+    for tick in [0, 1, 0x7fff_ffff, 0x8000_0000, 0xffff_ffff] {
+        print!(rt; "SINCE at {tick:08X}:")?;
+        results(rt, |v| operators::since(tick, v))?;
+    }
+    Ok(())
+}
+
+// A line for each left operand.
+fn two(rt: &impl Print, name: &str, op: u8) -> io::Result<()> {
+    for a in operands() {
+        print!(rt; "{name} {}:", Shown(a))?;
+        results(rt, |v| operators::numbered::binary(op, a, v))?;
+    }
+    Ok(())
 }
 
 fn twos(rt: &impl Print) -> io::Result<()> {
-    two(rt, b"+", symbols::PLUS)?;
-    two(rt, b"-", symbols::MINUS)?;
-    two(rt, b"*", symbols::TIMES)?;
-    two(rt, b"/", symbols::DIVIDE)?;
-    two(rt, b"%", symbols::REMAINDER)?;
-    two(rt, b"**", symbols::POWER)?;
-    two(rt, b"<<", symbols::SHIFT_LEFT)?;
-    two(rt, b">>", symbols::SHIFT_RIGHT)?;
-    two(rt, b">>>", symbols::SHIFT_RIGHT_ZEROS)?;
-    two(rt, b"<", symbols::LESS)?;
-    two(rt, b">", symbols::GREATER)?;
-    two(rt, b"<=", symbols::LESS_OR_EQUAL)?;
-    two(rt, b">=", symbols::GREATER_OR_EQUAL)?;
-    two(rt, b"==", symbols::EQUAL)?;
-    two(rt, b"!=", symbols::NOT_EQUAL)?;
-    two(rt, b"&", symbols::BIT_AND)?;
-    two(rt, b"|", symbols::BIT_OR)?;
-    two(rt, b"^", symbols::BIT_XOR)?;
-    two(rt, b"MAX", tables::MAX)?;
-    two(rt, b"MIN", tables::MIN)
+    for (name, op) in BINARY {
+        two(rt, name, op)?;
+    }
+    Ok(())
 }
 
 // Writes a line of the powers of one base, and gives the most multiplications that one of them takes.
 fn powers_of(rt: &impl Print, a: i32) -> io::Result<u32> {
-    let mut line = [0u8; 512];
-    let mut end = case_lines::put_all(&mut line, 0, b"powers of");
-    end = case_lines::put_outcome(&mut line, end, Outcome::Done(Value::Int(a)));
-    end = case_lines::put(&mut line, end, b':');
+    print!(rt; "powers of i{a}:")?;
     let mut most = 0;
-    for n in 0usize..19 {
-        let power = values::integers::counted_power(a, EXPONENTS[n]);
-        let outcome = power.outcome;
-        end = case_lines::put_outcome(&mut line, end, outcome);
-        if most < power.count {
-            most = power.count;
-        }
+    for n in EXPONENTS {
+        let power = values::integers::counted_power(a, n);
+        print!(rt; " {}", Shown(power.outcome))?;
+        most = power.count.max(most);
     }
-    case_lines::write(rt, &mut line, end)?;
+    println!(rt; "")?;
     Ok(most)
-}
-
-fn most_multiplications(rt: &impl Print, most: u32) -> io::Result<()> {
-    let mut line = [0u8; 512];
-    let mut end = case_lines::put_all(&mut line, 0, b"most multiplications ");
-    end = case_lines::put_decimal(&mut line, end, most as u64);
-    case_lines::write(rt, &mut line, end)
 }
 
 fn powers(rt: &impl Print) -> io::Result<()> {
     let mut most = 0;
-    for n in 0usize..13 {
-        let count = powers_of(rt, BASES[n])?;
-        if most < count {
-            most = count;
-        }
+    for a in BASES {
+        most = powers_of(rt, a)?.max(most);
     }
-    most_multiplications(rt, most)
+    println!(rt; "most multiplications {most}")
 }
 
 fn main(rt: HostRuntime) -> io::Result<()> {
     faults(&rt)?;
+    readings(&rt)?;
     ones(&rt)?;
     sinces(&rt)?;
     twos(&rt)?;

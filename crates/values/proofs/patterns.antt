@@ -1,7 +1,6 @@
 pub mod Digits
 pub mod Readings
 pub mod Operators
-pub mod Flips
 pub mod Shifts
 pub mod Exponents
 pub mod Elapsed

@@ -1,4 +1,4 @@
 -- What the proofs of the functions of `singles` share.
 pub mod Finite
-pub mod Signs
 pub mod Powers
+pub mod Comparisons

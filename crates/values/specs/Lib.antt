@@ -5,3 +5,4 @@ pub mod Patterns
 pub mod Singles
 pub mod Convert
 pub mod Laws
+pub mod private

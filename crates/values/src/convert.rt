@@ -4,15 +4,15 @@ ghost use Rattle.std.specs.Int.Count.{count_leading_zeros};
 ghost use Rattle.std.specs.Float.Ieee.Nearest.{closest};
 ghost use Rattle.values.specs.Convert.{promoted, cut, truncated, rounded};
 
-use crate::Cut;
 use crate::integers::in_range;
+use std::cmp::Ordering;
 
 // The weight of the lowest bit that is kept: the number of leading zeros says how many low bits are rounded away.
 fn unit_of(m: u32) -> u32
     requires { 16777216 < m }
     ensures { result ≡ 2 ^ (8 - count_leading_zeros 32 m) }
 {
-    let dropped = 8 - u32::leading_zeros(m);
+    let dropped = 8 - m.leading_zeros();
     1 << dropped
 }
 
@@ -23,13 +23,11 @@ fn divided(m: u32, unit: u32) -> u32
 {
     let kept = m / unit;
     let twice = m % unit * 2;
-    if twice < unit {
-        return kept;
+    match twice.cmp(&unit) {
+        Ordering::Less => kept,
+        Ordering::Equal => kept + kept % 2,
+        Ordering::Greater => kept + 1,
     }
-    if unit < twice {
-        return kept + 1;
-    }
-    kept + kept % 2
 }
 
 // The single nearest to m, ties to even: up to 2 ^ 24 it is m itself, above it 24 bits of m, rounded, at their place.
@@ -47,24 +45,22 @@ fn nearest(m: u32) -> f32
 pub fn promote(z: i32) -> f32
     ensures { result ≡ promoted z }
 {
-    if 0 <= z {
-        return nearest(z as u32);
-    }
-    -nearest(((-1 - z) as u32) + 1)
+    let size = nearest(z.unsigned_abs());
+    if z < 0 { -size } else { size }
 }
 
 // The integer, or Outside 32 bits.
-fn whole(z: i64) -> Cut
+fn whole(z: i64) -> Option<i32>
     ensures { result ≡ cut z }
 {
     if in_range(z) {
-        return Cut::Whole(z as i32);
+        return Some(z as i32);
     }
-    Cut::Outside
+    None
 }
 
 // Toward zero. The tests leave what 64 bits hold, and no infinity or NaN.
-pub fn truncate(x: f32) -> Cut
+pub fn truncate(x: f32) -> Option<i32>
     ensures { result ≡ truncated x }
 {
     if -9223372036854775808.0 <= x {
@@ -72,18 +68,18 @@ pub fn truncate(x: f32) -> Cut
             return whole(std::num::truncating_f32_to_i64(x));
         }
     }
-    Cut::Outside
+    None
 }
 
 // Half of h, halves away from zero.
-fn halved(h: i64) -> Cut
+fn halved(h: i64) -> Option<i32>
     ensures { result ≡ cut (int_div h (pos 2) +ℤ int_rem h (pos 2)) }
 {
     whole(h / 2 + h % 2)
 }
 
 // To the nearest integer, halves away from zero. Twice x is exact, and its cut keeps the half; x + 0.5 would be rounded.
-pub fn round(x: f32) -> Cut
+pub fn round(x: f32) -> Option<i32>
     ensures { result ≡ rounded x }
 {
     if -4611686018427387904.0 < x {
@@ -91,5 +87,5 @@ pub fn round(x: f32) -> Cut
             return halved(std::num::truncating_f32_to_i64(x + x));
         }
     }
-    Cut::Outside
+    None
 }

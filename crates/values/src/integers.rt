@@ -1,6 +1,6 @@
 // 32-bit integers: the exact value, or a fault. Sums and products are worked out at 64 bits, which hold them.
-ghost use Rattle.std.specs.Prelude.{◌≡◌, ◌+◌, ◌<◌, ◌≤◌, pos, ◌*ℤ◌, neg_ℤ, unsigned_abs};
-ghost use Rattle.values.specs.Integers.{in_range, exact_int, int_arith, compare_int, choice_int, int_power};
+ghost use Rattle.std.specs.Prelude.{◌≡◌, ◌+◌, ◌<◌, ◌≤◌, cond, pos, ◌*ℤ◌, neg_ℤ, unsigned_abs};
+ghost use Rattle.values.specs.Integers.{in_range, exact_int, int_arith, compare_int, choice_int, exponent, int_power};
 ghost use Rattle.values.specs.Multiplications.{PowerCount};
 
 use crate::{ChoiceOp, CompareOp, Fault, Outcome, Value};
@@ -10,20 +10,17 @@ use reals::ArithOp;
 pub fn in_range(z: i64) -> bool
     ensures { result ≡ in_range z }
 {
-    if z < -2147483648 {
-        return false;
-    }
-    z <= 2147483647
+    (-2147483648..=2147483647).contains(&z)
 }
 
 // The integer, or Overflow outside 32 bits.
 pub fn exact(z: i64) -> Outcome
     ensures { result ≡ exact_int z }
 {
-    if in_range(z) {
-        return Outcome::Done(Value::Int(z as i32));
+    match i32::try_from(z) {
+        Ok(z) => Outcome::Done(Value::Int(z)),
+        Err(_) => Outcome::Stopped(Fault::Overflow),
     }
-    Outcome::Stopped(Fault::Overflow)
 }
 
 // The least integer by -1 leaves 32 bits as a quotient, which is exact at 64, and has remainder 0.
@@ -52,23 +49,13 @@ pub fn arith(op: ArithOp, a: i32, b: i32) -> Outcome
 pub fn compare(op: CompareOp, a: i32, b: i32) -> bool
     ensures { result ≡ compare_int op a b }
 {
-    match op {
-        CompareOp::Lt => a < b,
-        CompareOp::Gt => b < a,
-        CompareOp::Le => a <= b,
-        CompareOp::Ge => b <= a,
-        CompareOp::Eq => a == b,
-        CompareOp::Ne => a != b,
-    }
+    op.holds(a, b)
 }
 
 pub fn choose(op: ChoiceOp, a: i32, b: i32) -> i32
     ensures { result ≡ choice_int op a b }
 {
-    match op {
-        ChoiceOp::Max => if a < b { b } else { a },
-        ChoiceOp::Min => if b < a { b } else { a },
-    }
+    op.of(a, b)
 }
 
 pub fn negate(a: i32) -> Outcome
@@ -118,11 +105,9 @@ fn binary_power(a: i32, n: u32) -> CountedPower
     requires { (0 < n) × (n ≤ 64) }
     ensures { PowerCount a (pos n) result.outcome result.count }
 {
-    let mut left = 31 - u32::leading_zeros(n);
     let mut p = a;
     let mut count: u32 = 0;
-    while 0 < left {
-        left -= 1;
+    for left in (0..31 - n.leading_zeros()).rev() {
         let square = times(p, p, count);
         if !in_range(square.value) {
             return CountedPower {
@@ -150,30 +135,32 @@ fn binary_power(a: i32, n: u32) -> CountedPower
     }
 }
 
+// What a power takes as its exponent: 0 to 64.
+pub(crate) fn exponent(n: i32) -> Option<u32>
+    ensures { result ≡ cond (exponent n) (Some (unsigned_abs n)) None }
+{
+    if (0..=64).contains(&n) {
+        Some(n as u32)
+    } else {
+        None
+    }
+}
+
 // An exponent that is refused takes no multiplication, and neither does 0.
 pub fn counted_power(a: i32, n: i32) -> CountedPower
     ensures { PowerCount a n result.outcome result.count }
 {
-    if n < 0 {
-        return CountedPower {
+    match exponent(n) {
+        None => CountedPower {
             outcome: Outcome::Stopped(Fault::OutOfRange),
             count: 0,
-        };
-    }
-    if 64 < n {
-        return CountedPower {
-            outcome: Outcome::Stopped(Fault::OutOfRange),
-            count: 0,
-        };
-    }
-    let exponent = n as u32;
-    if exponent == 0 {
-        return CountedPower {
+        },
+        Some(0) => CountedPower {
             outcome: Outcome::Done(Value::Int(1)),
             count: 0,
-        };
+        },
+        Some(n) => binary_power(a, n),
     }
-    binary_power(a, exponent)
 }
 
 pub fn power(a: i32, n: i32) -> Outcome

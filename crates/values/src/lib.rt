@@ -4,6 +4,7 @@
 
 ghost use Rattle.std.specs.Prelude.{◌≡◌};
 ghost use Rattle.values.specs.Values.{fault_number};
+ghost use Rattle.values.specs.private.Comparisons.{comparison, choice};
 
 pub mod convert;
 pub mod integers;
@@ -38,13 +39,6 @@ pub enum Outcome {
     WrongKind,
 }
 
-// A cut of a single to an integer.
-#[derive(Clone, Copy)]
-pub enum Cut {
-    Whole(i32),
-    Outside,
-}
-
 #[derive(Clone, Copy)]
 pub enum BitOp {
     And,
@@ -76,13 +70,43 @@ pub enum ChoiceOp {
 }
 
 // Paper 01's number of a fault.
-pub fn fault_number(f: Fault) -> u32
-    ensures { result ≡ fault_number f }
-{
-    match f {
-        Fault::DividedByZero => 11,
-        Fault::Overflow => 12,
-        Fault::OutOfRange => 13,
-        Fault::IndexError => 14,
+impl From<Fault> for u32 {
+    ghost from_gives = { λ f n. n ≡ fault_number f };
+
+    fn from(f: Fault) -> u32 {
+        match f {
+            Fault::DividedByZero => 11,
+            Fault::Overflow => 12,
+            Fault::OutOfRange => 13,
+            Fault::IndexError => 14,
+        }
+    }
+}
+
+impl CompareOp {
+    // Whether it holds of two values of one kind.
+    fn holds<T: PartialOrd + Copy>(self, a: T, b: T) -> bool
+        ensures { result ≡ comparison T.eq T.partial_cmp self a b }
+    {
+        match self {
+            CompareOp::Lt => a < b,
+            CompareOp::Gt => b < a,
+            CompareOp::Le => a <= b,
+            CompareOp::Ge => b <= a,
+            CompareOp::Eq => a == b,
+            CompareOp::Ne => a != b,
+        }
+    }
+}
+
+impl ChoiceOp {
+    // The second only where it is the greater, or the less.
+    fn of<T: PartialOrd + Copy>(self, a: T, b: T) -> T
+        ensures { result ≡ choice T.partial_cmp self a b }
+    {
+        match self {
+            ChoiceOp::Max => if a < b { b } else { a },
+            ChoiceOp::Min => if b < a { b } else { a },
+        }
     }
 }

@@ -38,31 +38,20 @@ pub fn complement(a: i32) -> i32
 pub fn pattern(a: i32) -> u32
     ensures { result ≡ low_bits 32 a }
 {
-    if 0 <= a {
-        a as u32
-    } else {
-        4294967295 - ((-1 - a) as u32)
-    }
+    a.cast_unsigned()
 }
 
 // The integer of a pattern.
 pub fn from_pattern(n: u32) -> i32
     ensures { result ≡ signed_of 32 n }
 {
-    if n < 2147483648 {
-        n as i32
-    } else {
-        -1 - ((4294967295 - n) as i32)
-    }
+    n.cast_signed()
 }
 
 pub fn shift(op: ShiftOp, a: i32, s: i32) -> Outcome
     ensures { result ≡ shift_int op a s }
 {
-    if s < 0 {
-        return Outcome::Stopped(Fault::OutOfRange);
-    }
-    if 31 < s {
+    if !(0..=31).contains(&s) {
         return Outcome::Stopped(Fault::OutOfRange);
     }
     let count = s as u32;
@@ -77,5 +66,5 @@ pub fn shift(op: ShiftOp, a: i32, s: i32) -> Outcome
 pub fn since(tick: u32, x: i32) -> i32
     ensures { result ≡ since_int tick x }
 {
-    from_pattern(std::num::wrapping_sub_u32(tick, pattern(x)))
+    from_pattern(tick.wrapping_sub(pattern(x)))
 }

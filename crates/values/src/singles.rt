@@ -4,57 +4,41 @@ ghost use Rattle.std.specs.Float.Ieee.Scale.{finite};
 ghost use Rattle.reals.specs.Operations.{divides};
 ghost use Rattle.values.specs.Singles.{settle, real_arith, compare_real, choice_real, real_power, real_product, real_abs};
 
+use crate::integers::exponent;
 use crate::{ChoiceOp, CompareOp, Fault, Outcome, Value};
 use reals::ArithOp;
-
-const INFINITY: u32 = 0x7f80_0000;
-
-const MINUS_INFINITY: u32 = 0xff80_0000;
 
 // Neither an infinity nor a NaN, which no comparison holds of.
 pub fn is_finite(x: f32) -> bool
     ensures { result ≡ finite x }
 {
-    if f32::from_bits(MINUS_INFINITY) < x {
-        x < f32::from_bits(INFINITY)
-    } else {
-        false
-    }
+    x.is_finite()
 }
 
 pub fn settled(x: f32) -> Outcome
     ensures { result ≡ settle x }
 {
     if is_finite(x) {
-        return Outcome::Done(Value::Real(x));
-    }
-    if x == x {
-        Outcome::Stopped(Fault::Overflow)
-    } else {
+        Outcome::Done(Value::Real(x))
+    } else if x.is_nan() {
         Outcome::Stopped(Fault::OutOfRange)
+    } else {
+        Outcome::Stopped(Fault::Overflow)
     }
 }
 
 fn has_divisor(op: ArithOp) -> bool
     ensures { result ≡ divides op }
 {
-    match op {
-        ArithOp::Add => false,
-        ArithOp::Sub => false,
-        ArithOp::Mul => false,
-        ArithOp::Div => true,
-        ArithOp::Rem => true,
-    }
+    matches!(op, ArithOp::Div | ArithOp::Rem)
 }
 
 // A zero divisor of either sign equals 0.0.
 pub fn arith(op: ArithOp, x: f32, y: f32) -> Outcome
     ensures { result ≡ real_arith op x y }
 {
-    if has_divisor(op) {
-        if y == 0.0 {
-            return Outcome::Stopped(Fault::DividedByZero);
-        }
+    if has_divisor(op) && y == 0.0 {
+        return Outcome::Stopped(Fault::DividedByZero);
     }
     settled(reals::operate(op, x, y))
 }
@@ -62,36 +46,20 @@ pub fn arith(op: ArithOp, x: f32, y: f32) -> Outcome
 pub fn compare(op: CompareOp, x: f32, y: f32) -> bool
     ensures { result ≡ compare_real op x y }
 {
-    match op {
-        CompareOp::Lt => x < y,
-        CompareOp::Gt => y < x,
-        CompareOp::Le => x <= y,
-        CompareOp::Ge => y <= x,
-        CompareOp::Eq => x == y,
-        CompareOp::Ne => x != y,
-    }
+    op.holds(x, y)
 }
 
 pub fn choose(op: ChoiceOp, x: f32, y: f32) -> f32
     ensures { result ≡ choice_real op x y }
 {
-    match op {
-        ChoiceOp::Max => if x < y { y } else { x },
-        ChoiceOp::Min => if y < x { y } else { x },
-    }
+    op.of(x, y)
 }
 
 // The sign alone: -0.0 becomes 0.0.
 pub fn absolute(x: f32) -> f32
     ensures { result ≡ real_abs x }
 {
-    if x < 0.0 {
-        return -x;
-    }
-    if x == 0.0 {
-        return 0.0;
-    }
-    x
+    x.abs()
 }
 
 // 1.0 multiplied n times by x, rounded each time. Settled once, at the end: a NaN stays a NaN, and an infinite product stays
@@ -100,10 +68,8 @@ fn product(x: f32, n: u32) -> Outcome
     ensures { result ≡ real_product x n }
 {
     let mut p: f32 = 1.0;
-    let mut k: u32 = 0;
-    while k < n {
-        p = p * x;
-        k += 1;
+    for _ in 0..n {
+        p *= x;
     }
     settled(p)
 }
@@ -111,11 +77,8 @@ fn product(x: f32, n: u32) -> Outcome
 pub fn power(x: f32, n: i32) -> Outcome
     ensures { result ≡ real_power x n }
 {
-    if n < 0 {
-        return Outcome::Stopped(Fault::OutOfRange);
+    match exponent(n) {
+        Some(n) => product(x, n),
+        None => Outcome::Stopped(Fault::OutOfRange),
     }
-    if 64 < n {
-        return Outcome::Stopped(Fault::OutOfRange);
-    }
-    product(x, n as u32)
 }

@@ -1,64 +1,37 @@
 -- Kinds as bits: pushing, popping and comparing them.
 use mathlib.Core.Path.{◌≡◌, refl, sym, ap, ◌∙◌, subst}
-use mathlib.Core.Bool.{Bool, true, false, true≢false, false≢true}
-use mathlib.Core.List.{◌∷◌}
-use Prim.Native.Nat.{ℕ, zero, suc, ◌+◌, ◌*◌, ◌/◌, ◌%◌, ◌^◌, ◌≤◌, ◌<◌}
-use native.Mathlib.Nat.{lt_of_lt_of_le, lt_of_not-le, not-le_of_lt, le_trans, mul-le-mul_right, le-add_right, pow-succ'}
-use native.Mathlib.Numerals.{add-one}
+use mathlib.Core.Bool.{Bool, true, false, ◌&&◌}
+use mathlib.Core.List.{List, [], ◌∷◌}
+use Prim.Native.Nat.{ℕ, zero, suc, ◌+◌, ◌-◌, ◌*◌, ◌/◌, ◌%◌, ◌^◌, ◌<◌}
+use native.Mathlib.Nat.{lt_of_lt_of_le, pow-succ'}
 use native.Mathlib.Omega.{arith}
 use lib.Dec.{eqb}
-use lib.ListN.{length}
+use lib.ListN.{length, get_or, set, length-set}
+use lib.Seq.{get_or-set_same}
 use lib.Pow.{pow_mono}
 use borrow.Author.Tests.{eqb-true, eqb-false}
 use Rattle.verifier.specs.declared.packing.Held.{Held}
 use Rattle.verifier.specs.Typing.{Shape}
-use Rattle.verifier.specs.private.Shapes.{number_kind, kind_number, bit_kinds, word, kinds_of, Canonical, Pushed, Popped}
+use Rattle.verifier.specs.private.Shapes.{number_kind, kind_number, bit_kinds, kinds_of, below, ArrayHolds}
 use Rattle.verifier.specs.private.Pass.{Agrees}
 
--- two words halved still fit
-pub halves-fit : (low high : ℕ) → low < 2 ^ 64 → high % 2 * 9223372036854775808 + low / 2 < 2 ^ 64
-halves-fit low high l =
-    let a : low / 2 < 9223372036854775808 = omega arith in
-    let b : high % 2 ≤ 1 = omega arith in
-    omega (arith, a, b)
+pub bits-length : (h b : ℕ) → length (bit_kinds h b) ≡ h
+bits-length zero b = refl
+bits-length (suc h) b = ap suc (bits-length h (b / 2))
 
-pub bits-length : (h w : ℕ) → length (bit_kinds h w) ≡ h
-bits-length zero w = refl
-bits-length (suc h) w = ap suc (bits-length h (w / 2))
+-- ---- a push, and a replacement of the last
 
--- ---- a push
+module _ (h b : ℕ) (few : b < 2 ^ h) where
+  -- there is room for one more bit
+  pub room : h < 128 → b < 2 ^ 127
+  room l = lt_of_lt_of_le few (pow_mono {i = h} {j = 127} (omega arith))
 
--- the high word has room for one more bit
-pub room-high : {w : Held} → Canonical w → w.height < 128 → w.high < 2 ^ 63
-room-high {w} p l = lt_of_not-le (λ (g : 2 ^ 63 ≤ w.high). not-le_of_lt (lt_of_lt_of_le p.few (pow_mono {i = w.height} {j = 127} (omega arith)))
-    (le_trans (mul-le-mul_right (2 ^ 64) g) (le-add_right (w.high * 2 ^ 64) w.low)))
-
-module _ {n : ℕ} {w r : Held} (bit : n < 2) (p : Pushed n w r) where
-  pub neat-pushed : Canonical w → w.height < 128 → Canonical r
-  neat-pushed k l = record {
-    low = omega (arith, p.height);
-    few = rw (p.height, p.bits, add-one w.height, pow-succ' 2 w.height) (omega (arith, k.few));
-  }
-
-  pub kinds-pushed : kinds_of r ≡ number_kind n ∷ kinds_of w
-  kinds-pushed =
-      let e : (n + 2 * word w) % 2 ≡ n = omega arith in
-      let d : (n + 2 * word w) / 2 ≡ word w = omega arith in
-      rw (p.height, p.bits, add-one w.height, e, d)
-
--- ---- a pop
-
-module _ {w r : Held} (some : 0 < w.height) (p : Popped w r) where
-  above : w.height ≡ suc r.height
-  above = omega (arith, p.height)
-
-  pub neat-popped : Canonical w → Canonical r
-  neat-popped k =
-      let f : word w < 2 ^ suc r.height = subst (λ h. word w < 2 ^ h) above k.few in
-      record { low = omega (arith, p.height, k.low); few = rw p.bits (omega (arith, rw (pow-succ' 2 r.height) at f)) }
-
-  pub kinds-popped : kinds_of w ≡ number_kind (word w % 2) ∷ kinds_of r
-  kinds-popped = rw p.bits (ap (λ h. bit_kinds h (word w)) above)
+  pub few-replaced : (n : ℕ) → n < 2 → 0 < h → b / 2 * 2 + n < 2 ^ h
+  few-replaced n bit l =
+      let e : h ≡ suc (h - 1) = omega arith in
+      let f : b < 2 ^ suc (h - 1) = subst (λ h. b < 2 ^ h) e few in
+      let p : 2 ^ suc (h - 1) ≡ 2 * 2 ^ (h - 1) = pow-succ' 2 (h - 1) in
+      subst (λ h. b / 2 * 2 + n < 2 ^ h) (sym e) (omega (arith, f, p))
 
 -- ---- comparing
 
@@ -78,29 +51,52 @@ bits-same (suc h) w v l m e =
     let d : w / 2 ≡ v / 2 = bits-same h (w / 2) (v / 2) (omega arith) (omega arith) (cc) in
     omega arith
 
-pub agree : {b : Bool} {s r : Shape} → b ≡ true → s ≡ r → Agrees b s r
-agree y e = record { yes = λ _. e; no = λ f. absurd (true≢false (sym y ∙ f)) }
+-- equal kinds are equal heights and bits
+module _ (a c : Held) (e : kinds_of a ≡ kinds_of c) where
+  heights-same : a.height ≡ c.height
+  heights-same = sym (bits-length a.height a.bits) ∙ ap length e ∙ bits-length c.height c.bits
 
-pub disagree : {b : Bool} {s r : Shape} → b ≡ false → (s ≡ r → ⊥) → Agrees b s r
-disagree n f = record { yes = λ e. absurd (false≢true (sym n ∙ e)); no = λ _. f }
+  words-same : a.bits ≡ c.bits
+  words-same =
+      let h : a.height ≡ c.height = heights-same in
+      bits-same c.height a.bits c.bits (subst (λ h. a.bits < 2 ^ h) h a.few) c.few (ap (λ h. bit_kinds h a.bits) (sym h) ∙ e)
 
+-- a test of both says whether the kinds are equal
 module _ (a c : Held) where
-  pub heights-same : kinds_of a ≡ kinds_of c → a.height ≡ c.height
-  heights-same e = sym (bits-length a.height (word a)) ∙ ap length e ∙ bits-length c.height (word c)
+  by_tests : (p q : Bool) → eqb a.height c.height ≡ p → eqb a.bits c.bits ≡ q → Agrees (p && q) (kinds_of a) (kinds_of c)
+  by_tests true true e f = record { yes = λ _. rw (eqb-true a.height c.height e, eqb-true a.bits c.bits f); no = λ t k. cc }
+  by_tests true false e f = record { yes = λ t. cc; no = λ _ k. eqb-false a.bits c.bits f (words-same a c k) }
+  by_tests false q e f = record { yes = λ t. cc; no = λ _ k. eqb-false a.height c.height e (heights-same a c k) }
 
-  module _ (p : Canonical a) (q : Canonical c) where
-    words_same : kinds_of a ≡ kinds_of c → word a ≡ word c
-    words_same e =
-        let h : a.height ≡ c.height = heights-same e in
-        bits-same c.height (word a) (word c) (subst (λ h. word a < 2 ^ h) h p.few) q.few (ap (λ h. bit_kinds h (word a)) (sym h) ∙ e)
+  pub agree : {b : Bool} → b ≡ (eqb a.height c.height && eqb a.bits c.bits) → Agrees b (kinds_of a) (kinds_of c)
+  agree e = rw e (by_tests _ _ refl refl)
 
-    pub lows-same : a.low < 2 ^ 64 → c.low < 2 ^ 64 → kinds_of a ≡ kinds_of c → a.low ≡ c.low
-    lows-same l m e = omega (arith, words_same e)
+-- ---- the array that has the last kind
 
-    -- so where the rest is the same, the high words decide
-    pub highs-agree : a.height ≡ c.height → a.low ≡ c.low → Agrees (eqb a.high c.high) (kinds_of a) (kinds_of c)
-    highs-agree h l = go (eqb a.high c.high) refl
-      where
-        go : (b : Bool) → eqb a.high c.high ≡ b → Agrees b (kinds_of a) (kinds_of c)
-        go true e = agree refl (rw (h, l, eqb-true a.high c.high e))
-        go false e = disagree refl (λ f. eqb-false a.high c.high e (omega (arith, words_same f)))
+pub holds-none : {a : List ℕ} {w : Held} → length a ≡ 128 → kinds_of w ≡ [] → ArrayHolds a w
+holds-none {w = w} e f =
+    let z : w.height ≡ 0 = sym (bits-length w.height w.bits) ∙ ap length f in
+    record { whole = e; last = λ l. absurd (omega (arith, z)) }
+
+pub below-length : (h b : ℕ) → length (below (bit_kinds h b)) ≡ h - 1
+below-length zero b = refl
+below-length (suc h) b = omega (arith, bits-length h (b / 2))
+
+-- the kind of the number n is the last, over the kinds s
+tops : (h b n : ℕ) {s : Shape} → n < 2 → bit_kinds h b ≡ number_kind n ∷ s → (h ≡ suc (length s)) × (n ≡ b % 2)
+tops zero b n l e = cc
+tops (suc h) b n {s} l e =
+    let f : number_kind (b % 2) ≡ number_kind n = cc in
+    let g : bit_kinds h (b / 2) ≡ s = cc in
+    (ap suc (sym (bits-length h (b / 2)) ∙ ap length g), sym (number-back n l) ∙ ap kind_number (sym f) ∙ number-back (b % 2) (omega arith))
+
+-- the number n of the last kind is written at the place p
+pub writes : (a : List ℕ) {p n : ℕ} {s : Shape} (r : Held) → length a ≡ 128 → n < 2 → length s ≡ p → kinds_of r ≡ number_kind n ∷ s
+    → ArrayHolds (set a p n) r
+writes a {p} {n} {s} r w l e f =
+    let t = tops r.height r.bits n l f in
+    let q : r.height - 1 ≡ p = omega (arith, t.0, e) in
+    record {
+      whole = length-set a p n ∙ w;
+      last = λ _. ap (λ j. get_or (set a p n) j 0) q ∙ get_or-set_same a p n 0 (omega (arith, w, r.low, t.0, e)) ∙ t.1;
+    }

@@ -1,4 +1,5 @@
 -- With reals, the check and what it accepts are those of the full box.
+use Rattle.std.specs.Prelude.{None}
 use mathlib.Core.Path.{◌≡◌, refl, ap, ◌∙◌}
 use mathlib.Core.Bool.{true, cond}
 use mathlib.Core.List.{List, [], ◌∷◌}
@@ -7,7 +8,6 @@ use lib.Dec.{leb}
 use lib.ListN.{length}
 use Rattle.values.specs.declared.Kind.{Kind}
 use Rattle.code.specs.declared.Instr.{Instr}
-use Rattle.verifier.specs.declared.Verdict.TheVariants.{Refused}
 use Rattle.verifier.specs.Typing.{Shape, well_formed}
 use Rattle.verifier.specs.Accepts.{Reached, start, onward, Accepts}
 use Rattle.verifier.specs.Verdicts.{State, rejected, unreached, holds, States, transfer, dataflow, verdict_of, entry_states, verdict}
@@ -56,4 +56,4 @@ full-dataflow (i ∷ left) p f =
     (full-dataflow left (suc p) (transfer_in true p i (f p) f) ∙ ap (λ (g : States). dataflow left (suc p) g) (full-transfer p i (f p) f))
 
 pub full_verdict : (c : List Instr) → verdict_in true c ≡ verdict c
-full_verdict c = ap (λ (x : State). cond (leb (length c) 2048) (verdict_of x) Refused) (full-dataflow c 0 entry_states)
+full_verdict c = ap (λ (x : State). cond (leb (length c) 2048) (verdict_of x) None) (full-dataflow c 0 entry_states)

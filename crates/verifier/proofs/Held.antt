@@ -1,21 +1,15 @@
--- The kinds that the array and the bits keep: what a push, a pop and a replacement make of them, for each class of instruction.
-use mathlib.Core.Path.{◌≡◌, refl, sym, ap, ◌∙◌, subst}
+-- What a push and a replacement make of the kinds held, for each class of instruction.
+use Rattle.std.specs.Prelude.{Option, Some, None}
+use mathlib.Core.Path.{◌≡◌, refl, ap, ◌∙◌}
 use mathlib.Core.Bool.{Bool, true, false, cond}
 use mathlib.Core.List.{List, [], ◌∷◌}
-use Prim.Native.Nat.{ℕ, zero, suc, ◌+◌, ◌-◌, ◌*◌, ◌/◌, ◌%◌, ◌≤◌, ◌<◌}
-use native.Mathlib.Nat.{zero-add}
+use Prim.Native.Nat.{ℕ, zero, suc, ◌/◌, ◌%◌, ◌≤◌, ◌<◌}
 use native.Mathlib.Omega.{arith}
 use lib.Dec.{eqb}
-use lib.ListN.{length, get_or, set, length-set}
-use lib.Seq.{get_or-set_same}
-use borrow.Author.Tests.{eq-eqb, ne_eqb, lt-ltb, le-ltb}
-use Rattle.values.specs.declared.Kind.TheVariants.{Int, Real}
-use Rattle.operators.specs.declared.tables.UnaryOf.{UnaryOf}
-use Rattle.operators.specs.declared.tables.BinaryOf.{BinaryOf}
+use borrow.Author.Tests.{lt-ltb, le-ltb}
+use Rattle.values.specs.declared.Kind.{Kind}
 use Rattle.operators.specs.Tables.{unary_of, binary_of}
-use Rattle.memory.specs.declared.numbers.BankOf.{BankOf}
 use Rattle.memory.specs.Numbers.{bank_numbered}
-use Rattle.totals.specs.declared.tables.MatchOf.{MatchOf}
 use Rattle.totals.specs.Totals.{good_range}
 use Rattle.totals.specs.Numbers.{match_of}
 use Rattle.code.specs.declared.Instr.{Instr}
@@ -24,129 +18,94 @@ use Rattle.code.specs.declared.Class.TheVariants as Class
 use Rattle.code.specs.Instructions.{load_indexed, apply_since, range_bank, range_first, range_count, over_range, word_of}
 use Rattle.code.specs.private.Classes.{number_of, of_bank, of_unary, of_binary, of_match, instr_in}
 use Rattle.verifier.specs.declared.packing.Held.{Held}
-use Rattle.verifier.specs.declared.typing.Flow.{Flow}
+use Rattle.verifier.specs.declared.typing.Flow.TheVariants.{Refused, On}
 use Rattle.verifier.specs.Typing.{Shape, Move, ill_typed, next, move_of}
 use Rattle.verifier.specs.private.Shapes.{
   number_kind,
-  leaving_under,
   push_under,
+  replace_under,
+  replace_two_under,
   kind_limit,
   ReplacesKind,
   ReplacesTwo,
   bit_kinds,
-  word,
   kinds_of,
-  none,
-  Canonical,
-  ArrayHolds,
-  Pushed,
-  Popped,
-  Replaced,
   below,
+  ArrayHolds,
   Leaves,
   stops,
   goes,
 }
 use Rattle.verifier.specs.private.Pass.{all_admitted, admitted_move}
-use Rattle.verifier.proofs.Admitted.{Silent, below-admitted, leaves-replaced}
-use Rattle.verifier.proofs.Bits.{bits-length, neat-pushed, kinds-pushed, neat-popped}
+use Rattle.verifier.proofs.Admitted.{Silent, none-admitted, below-admitted, leaves-replaced}
+use Rattle.verifier.proofs.Bits.{bits-length}
+use Rattle.totals.specs.declared.MatchOp.{MatchOp}
+use Rattle.operators.specs.declared.BinaryOp.{BinaryOp}
+use Rattle.memory.specs.declared.Bank.{Bank}
+use Rattle.operators.specs.declared.UnaryOp.{UnaryOp}
 
--- ---- numbers as kinds
+-- ---- a kind below the limit l, or not: in the place of nothing, of the last and of the last two
 
-pub int_number : {n : ℕ} → n ≡ 0 → Int ≡ number_kind n
-int_number {n} e = rw (eq-eqb n 0 e)
+module _ (l n : ℕ) where
+  pub unpushed : {a : List ℕ} (s : Shape) → l ≤ n → Leaves a Refused (push_under l n s)
+  unpushed s u = rw (le-ltb n l u) (stops refl)
 
-pub real-number : {n : ℕ} → (n ≡ 0 → ⊥) → Real ≡ number_kind n
-real-number {n} e = rw (ne_eqb n 0 e)
+  pub unreplaced : {a : List ℕ} (s : Shape) → l ≤ n → Leaves a Refused (replace_under l n s)
+  unreplaced [] u = stops refl
+  unreplaced (k ∷ s) u = rw (le-ltb n l u) (stops refl)
 
--- ---- the kinds kept
+  pub unreplaced-two : {a : List ℕ} (s : Shape) → l ≤ n → Leaves a Refused (replace_two_under l n s)
+  unreplaced-two [] u = stops refl
+  unreplaced-two (k ∷ []) u = stops refl
+  unreplaced-two (k ∷ (j ∷ s)) u = rw (le-ltb n l u) (stops refl)
 
-likewise : {a : List ℕ} {f : Flow} {m m' : Move} → m ≡ m' → Leaves a f m' → Leaves a f m
-likewise {a} {f} e = subst (Leaves a f) (sym e)
+  module _ (h b : ℕ) where
+    pub full : {a : List ℕ} → n < l → 128 ≤ h → Leaves a Refused (push_under l n (bit_kinds h b))
+    full u t = rw (lt-ltb n l u, bits-length h b, le-ltb h 128 t) (stops refl)
 
-pub keeps-none : {a : List ℕ} → length a ≡ 128 → ArrayHolds a none
-keeps-none e = record { whole = e; canonical = record { low = omega arith; few = omega arith }; last = λ l. absurd (omega arith) }
+    pushed-is : n < l → h < 128 → push_under l n (bit_kinds h b) ≡ next (number_kind n ∷ bit_kinds h b)
+    pushed-is u t = rw (lt-ltb n l u, bits-length h b, lt-ltb h 128 t)
 
--- without the last
-abbrev halved : Held → Held
-halved w = record { height = w.height - 1; low = word w / 2; high = 0 }
+  pub none : {a : List ℕ} (h b : ℕ) → h < 1 → Leaves a Refused (replace_under l n (bit_kinds h b))
+  none zero b t = stops refl
+  none (suc h) b t = absurd (omega arith)
 
-halves : (w : Held) → Popped w (halved w)
-halves w = record { height = refl; bits = zero-add (word w / 2) }
+  pub few : {a : List ℕ} (h b : ℕ) → h < 2 → Leaves a Refused (replace_two_under l n (bit_kinds h b))
+  few zero b t = stops refl
+  few (suc zero) b t = stops refl
+  few (suc (suc h)) b t = absurd (omega arith)
 
--- the lowest bit and those above it
-top : (w : Held) → 0 < w.height → kinds_of w ≡ number_kind (word w % 2) ∷ below w
-top w l = let e : w.height ≡ suc (w.height - 1) = omega arith in ap (λ h. bit_kinds h (word w)) e
+  module _ (u : n < l) where
+    replaced-is : (h b : ℕ) → 0 < h → replace_under l n (bit_kinds h b) ≡ next (number_kind n ∷ below (bit_kinds h b))
+    replaced-is zero b t = absurd (omega arith)
+    replaced-is (suc h) b t = rw (lt-ltb n l u)
 
-module _ {a : List ℕ} {w : Held} (k : ArrayHolds a w) where
-  -- the last value's kind, and those below
-  last : 0 < w.height → kinds_of w ≡ number_kind (get_or a (w.height - 1) 0) ∷ below w
-  last l = top w l ∙ ap (λ j. j ∷ below w) (sym (k.last l))
+    two-is : (h b : ℕ) → 1 < h → replace_two_under l n (bit_kinds h b) ≡ next (number_kind n ∷ below (below (bit_kinds h b)))
+    two-is zero b t = absurd (omega arith)
+    two-is (suc zero) b t = absurd (omega arith)
+    two-is (suc (suc h)) b t = rw (lt-ltb n l u)
 
--- and that of the one below it
-next_last : {w v : Held} → 1 < w.height → Popped w v → below w ≡ number_kind (word w / 2 % 2) ∷ below v
-next_last {w} {v} l p =
-    let e : w.height - 1 ≡ suc (v.height - 1) = omega (arith, p.height) in
-    ap (λ h. bit_kinds h (word w / 2)) e ∙ ap (λ x. number_kind (word w / 2 % 2) ∷ bit_kinds (v.height - 1) (x / 2)) (sym p.bits)
+  -- what is left has the kinds of r
+  module _ {a : List ℕ} (r : Held) (k : ArrayHolds a r) (u : n < l) where
+    left : {m : Move} {s : Shape} → m ≡ next s → kinds_of r ≡ s → Leaves a (On r) m
+    left e f = rw (e, ← f) (goes refl k)
 
--- ---- a push, and a value in the place of the last
+    module _ (h b : ℕ) where
+      pub pushes : h < 128 → kinds_of r ≡ number_kind n ∷ bit_kinds h b → Leaves a (On r) (push_under l n (bit_kinds h b))
+      pushes t = left (pushed-is h b u t)
 
--- the lowest bit
-lowest-bit : {n x : ℕ} (v : ℕ) → n < 2 → x ≡ n + 2 * v → n ≡ x % 2
-lowest-bit v b e = omega arith
+      pub replaces : 0 < h → kinds_of r ≡ number_kind n ∷ below (bit_kinds h b) → Leaves a (On r) (replace_under l n (bit_kinds h b))
+      replaces t = left (replaced-is u h b t)
 
--- the value in the place p is the last
-lasts : (a : List ℕ) (p n : ℕ) (r : Held) → p < length a → r.height - 1 ≡ p → n ≡ word r % 2
-    → number_kind (get_or (set a p n) (r.height - 1) 0) ≡ number_kind (word r % 2)
-lasts a p n r l e o = ap (λ j. number_kind (get_or (set a p n) j 0)) e ∙ ap (λ x. number_kind x) (get_or-set_same a p n 0 l ∙ o)
-
-module _ (a : List ℕ) {w : Held} {n : ℕ} (e : length a ≡ 128) (k : Canonical w) (b : n < 2) where
-  -- the bits as after a pop and a push
-  keeps-replaced : {r : Held} → 0 < w.height → Replaced n w r → (kinds_of r ≡ number_kind n ∷ below w) × ArrayHolds (set a (w.height - 1) n) r
-  keeps-replaced {r} l p = (
-    kinds-pushed b u ∙ ap (λ x. number_kind n ∷ bit_kinds (w.height - 1) x) q.bits,
-    record {
-      whole = length-set a (w.height - 1) n ∙ e;
-      canonical = neat-pushed b u (neat-popped l q k) (omega (arith, k.low));
-      last = λ g. lasts a (w.height - 1) n r (omega (arith, k.low)) (ap (λ h. h - 1) p.height) (lowest-bit (word w / 2) b p.bits);
-    },
-  )
-    where
-      q : Popped w (halved w)
-      q = halves w
-
-      u : Pushed n (halved w) r
-      u = record { height = omega (arith, p.height); bits = p.bits ∙ ap (λ x. n + 2 * x) (sym q.bits) }
-
-  pub places : {r : Held} → 0 < w.height → Replaced n w r → Leaves (set a (w.height - 1) n) (record { reach = 2; held = r }) (next (number_kind n ∷ below w))
-  places {r} l p = let f = keeps-replaced l p in rw (← f.0) (goes refl f.1)
-
-module _ {a : List ℕ} {w : Held} {n : ℕ} (k : ArrayHolds a w) where
-  keeps-pushed : {r : Held} → n < 2 → w.height < 128 → Pushed n w r → ArrayHolds (set a w.height n) r
-  keeps-pushed {r} b l p = record {
-    whole = length-set a w.height n ∙ k.whole;
-    canonical = neat-pushed b p k.canonical l;
-    last = λ g. lasts a w.height n r (omega (arith, k.whole)) (omega (arith, p.height)) (lowest-bit (word w) b p.bits);
-  }
-
-  module _ (l : ℕ) where
-    pub pushes : {r : Held} → n < l → n < 2 → w.height < 128 → Pushed n w r
-        → Leaves (set a w.height n) (record { reach = 2; held = r }) (push_under l n (kinds_of w))
-    pushes u b t p = rw (lt-ltb n l u, bits-length w.height (word w), lt-ltb w.height 128 t, ← kinds-pushed b p) (goes refl (keeps-pushed b t p))
-
-    pub full : n < l → 128 ≤ w.height → Leaves a (record { reach = 0; held = w }) (push_under l n (kinds_of w))
-    full u t = rw (lt-ltb n l u, bits-length w.height (word w), le-ltb w.height 128 t) (stops refl k)
-
-    pub unpushed : l ≤ n → Leaves a (record { reach = 0; held = w }) (push_under l n (kinds_of w))
-    unpushed u = rw (le-ltb n l u) (stops refl k)
-
-    pub unplaced : (s : Shape) → l ≤ n → Leaves a (record { reach = 0; held = w }) (leaving_under l n s)
-    unplaced s u = rw (le-ltb n l u) (stops refl k)
-
-pub placed : (l n : ℕ) {b : List ℕ} {f : Flow} (s : Shape) → n < l → Leaves b f (next (number_kind n ∷ s)) → Leaves b f (leaving_under l n s)
-placed l n s u = likewise (ap (λ t. cond t (next (number_kind n ∷ s)) ill_typed) (lt-ltb n l u))
+      pub replaces-two : {s : Shape} → 1 < h → s ≡ below (bit_kinds h b) → kinds_of r ≡ number_kind n ∷ below s
+          → Leaves a (On r) (replace_two_under l n (bit_kinds h b))
+      replaces-two t e f = left (two-is u h b t) (f ∙ ap (λ s. number_kind n ∷ below s) e)
 
 -- ---- the limit of kinds, found to be x
+
+pub under-two : (reals : Bool) (n : ℕ) → n < kind_limit reals → n < 2
+under-two true n u = u
+under-two false n u = omega arith
 
 pub under-limit : (n : ℕ) {x l : ℕ} → x ≡ l → n < x → n < l
 under-limit n e u = omega arith
@@ -154,54 +113,21 @@ under-limit n e u = omega arith
 pub from-limit : (n : ℕ) {x l : ℕ} → x ≡ l → x ≤ n → l ≤ n
 from-limit n e u = omega arith
 
-pub under-two : (reals : Bool) (n : ℕ) → n < kind_limit reals → n < 2
-under-two true n u = u
-under-two false n u = omega arith
+-- ---- an instruction that takes one value, or two
 
--- ---- the last brought from the bits
+module _ (reals : Bool) {i : Instr} {n : ℕ} (q : Silent reals n i) where
+  pub one-taken : (h b : ℕ) → all_admitted reals (bit_kinds h b) ≡ true → move_of i [] ≡ ill_typed → ReplacesKind i (b % 2) n
+      → admitted_move reals i (bit_kinds h b) ≡ replace_under (kind_limit reals) n (bit_kinds h b)
+  one-taken zero b d e t = none-admitted reals i [] e
+  one-taken (suc h) b d e t = leaves-replaced reals i _ n (bit_kinds h (b / 2)) (t.is _) (below-admitted reals _ (bit_kinds h (b / 2)) d) q
 
-module _ (a : List ℕ) (w : Held) (e : length a ≡ 128) (k : Canonical w) where
-  pub uncovers-none : w.height ≡ 0 → ArrayHolds a w
-  uncovers-none z = record { whole = e; canonical = k; last = λ l. absurd (omega arith) }
-
-  pub uncovers : (x : ℕ) → x ≡ word w % 2 → 0 < w.height → ArrayHolds (set a (w.height - 1) x) w
-  uncovers x o l = record {
-    whole = length-set a (w.height - 1) x ∙ e;
-    canonical = k;
-    last = λ g. lasts a (w.height - 1) x w (omega (arith, k.low)) refl o;
-  }
-
--- ---- one value is taken, or two
-
-pub short : {a : List ℕ} {w : Held} {m : Move} → ArrayHolds a w → m ≡ ill_typed → Leaves a (record { reach = 0; held = w }) m
-short k e = rw e (stops refl k)
-
-module _ {a : List ℕ} {w : Held} (k : ArrayHolds a w) {i : Instr} {n : ℕ} (reals : Bool) (d : all_admitted reals (kinds_of w) ≡ true)
-    (q : Silent reals n i) where
-  module _ {b : List ℕ} {f : Flow} where
-    pub taken-one : 0 < w.height → ReplacesKind i (get_or a (w.height - 1) 0) n → Leaves b f (leaving_under (kind_limit reals) n (below w))
-        → Leaves b f (admitted_move reals i (kinds_of w))
-    taken-one l t = likewise (ap (admitted_move reals i) e ∙ leaves-replaced reals i _ n (below w) (t.is (below w))
-        (below-admitted reals _ (below w) (ap (all_admitted reals) (sym e) ∙ d)) q)
-      where
-        e : kinds_of w ≡ number_kind (get_or a (w.height - 1) 0) ∷ below w
-        e = last k l
-
-    -- the kind of the one below the last is x
-    pub taken-two : {v : Held} {x : ℕ} → 1 < w.height → Popped w v → x ≡ word w / 2 % 2 → ReplacesTwo i x (get_or a (w.height - 1) 0) n
-        → Leaves b f (leaving_under (kind_limit reals) n (below v))
-        → Leaves b f (admitted_move reals i (kinds_of w))
-    taken-two {v} {x} l p y t = likewise (ap (admitted_move reals i) all ∙ leaves-replaced reals i _ n (below v) (t.is (below v))
-        (below-admitted reals _ (below v) (below-admitted reals _ (number_kind x ∷ below v) (ap (all_admitted reals) (sym all) ∙ d))) q)
-      where
-        all : kinds_of w ≡ number_kind (get_or a (w.height - 1) 0) ∷ (number_kind x ∷ below v)
-        all =
-            let e : below w ≡ number_kind x ∷ below v = next_last l p ∙ ap (λ y. number_kind y ∷ below v) (sym y) in
-            last k (omega arith) ∙ ap (λ s. number_kind (get_or a (w.height - 1) 0) ∷ s) e
-
-  pub refused-two : {x : ℕ} → 1 < w.height → x ≡ word w / 2 % 2 → ReplacesTwo i x (get_or a (w.height - 1) 0) n → kind_limit reals ≤ n
-      → Leaves a (record { reach = 0; held = w }) (admitted_move reals i (kinds_of w))
-  refused-two l y t g = taken-two l (halves w) y t (unplaced k (kind_limit reals) (below (halved w)) g)
+  pub two-taken : (h b : ℕ) → all_admitted reals (bit_kinds h b) ≡ true → move_of i [] ≡ ill_typed → ((k : Kind) → move_of i (k ∷ []) ≡ ill_typed)
+      → ReplacesTwo i (b / 2 % 2) (b % 2) n
+      → admitted_move reals i (bit_kinds h b) ≡ replace_two_under (kind_limit reals) n (bit_kinds h b)
+  two-taken zero b d e f t = none-admitted reals i [] e
+  two-taken (suc zero) b d e f t = none-admitted reals i _ (f _)
+  two-taken (suc (suc h)) b d e f t = leaves-replaced reals i _ n (bit_kinds h (b / 2 / 2)) (t.is _)
+      (below-admitted reals _ (bit_kinds h (b / 2 / 2)) (below-admitted reals _ (number_kind (b / 2 % 2) ∷ bit_kinds h (b / 2 / 2)) d)) q
 
 -- ---- short of a value
 
@@ -211,51 +137,54 @@ module _ (w : ℕ) where
   none-word true i s e = e
   none-word false i s e = refl
 
-  indexed-empty : (b : BankOf) → move_of (of_bank load_indexed b w) [] ≡ ill_typed
+  indexed-empty : (b : Option Bank) → move_of (of_bank load_indexed b w) [] ≡ ill_typed
   unfolding move_of
-  indexed-empty (BankOf.Is b) = none-word (eqb w 0) (LoadIndexed b) [] refl
-  indexed-empty BankOf.Nothing = refl
+  indexed-empty (Some b) = none-word (eqb w 0) (LoadIndexed b) [] refl
+  indexed-empty None = refl
 
-  unary-empty : (o : UnaryOf) → move_of (of_unary o w) [] ≡ ill_typed
+  unary-empty : (o : Option UnaryOp) → move_of (of_unary o w) [] ≡ ill_typed
   unfolding move_of
-  unary-empty (UnaryOf.Is o) = none-word (eqb w 0) (Unary o) [] refl
-  unary-empty UnaryOf.Nothing = refl
+  unary-empty (Some o) = none-word (eqb w 0) (Unary o) [] refl
+  unary-empty None = refl
 
   since-empty : move_of (apply_since w) [] ≡ ill_typed
   unfolding move_of
   since-empty = none-word (eqb w 0) Since [] refl
 
-  match-empty : (u : MatchOf) → move_of (of_match u w) [] ≡ ill_typed
+  match-empty : (u : Option MatchOp) → move_of (of_match u w) [] ≡ ill_typed
   unfolding move_of
-  match-empty (MatchOf.Is o) = by (bank_numbered (range_bank w))
+  match-empty (Some o) = by (bank_numbered (range_bank w))
     where
-      by : (b : BankOf) → move_of (over_range (Match o) b (range_first w) (range_count w)) [] ≡ ill_typed
-      by (BankOf.Is b) = none-word (good_range b (range_first w) (range_count w)) (Match o b (range_first w) (range_count w)) [] refl
-      by BankOf.Nothing = refl
-  match-empty MatchOf.Nothing = refl
+      by : (b : Option Bank) → move_of (over_range (Match o) b (range_first w) (range_count w)) [] ≡ ill_typed
+      by (Some b) = none-word (good_range b (range_first w) (range_count w)) (Match o b (range_first w) (range_count w)) [] refl
+      by None = refl
+  match-empty None = refl
 
-  binary-few : (o : BinaryOf) (h v : ℕ) → h < 2 → move_of (of_binary o w) (bit_kinds h v) ≡ ill_typed
+  binary-empty : (o : Option BinaryOp) → move_of (of_binary o w) [] ≡ ill_typed
   unfolding move_of
-  binary-few (BinaryOf.Is o) zero v l = none-word (eqb w 0) (Binary o) [] refl
-  binary-few (BinaryOf.Is o) (suc zero) v l = none-word (eqb w 0) (Binary o) (number_kind (v % 2) ∷ []) refl
-  binary-few (BinaryOf.Is o) (suc (suc h)) v l = absurd (omega arith)
-  binary-few BinaryOf.Nothing h v l = refl
+  binary-empty (Some o) = none-word (eqb w 0) (Binary o) [] refl
+  binary-empty None = refl
 
-module _ (w : Held) (n : ℕ) where
-  empty : (i : Instr) → w.height < 1 → move_of i [] ≡ ill_typed → move_of i (kinds_of w) ≡ ill_typed
-  empty i l f = let e : w.height ≡ 0 = omega arith in rw e f
+  binary-one : (o : (Option BinaryOp)) (k : Kind) → move_of (of_binary o w) (k ∷ []) ≡ ill_typed
+  unfolding move_of
+  binary-one (Some o) k = none-word (eqb w 0) (Binary o) (k ∷ []) refl
+  binary-one None k = refl
 
-  pub indexed-short : w.height < 1 → move_of (instr_in Class.LoadIndexed n) (kinds_of w) ≡ ill_typed
-  indexed-short l = empty _ l (indexed-empty (word_of n) (bank_numbered (number_of n)))
+module _ (n : ℕ) where
+  pub indexed-short : move_of (instr_in Class.LoadIndexed n) [] ≡ ill_typed
+  indexed-short = indexed-empty (word_of n) (bank_numbered (number_of n))
 
-  pub unary-short : w.height < 1 → move_of (instr_in Class.Unary n) (kinds_of w) ≡ ill_typed
-  unary-short l = empty _ l (unary-empty (word_of n) (unary_of (number_of n)))
+  pub unary-short : move_of (instr_in Class.Unary n) [] ≡ ill_typed
+  unary-short = unary-empty (word_of n) (unary_of (number_of n))
 
-  pub since-short : w.height < 1 → move_of (instr_in Class.Since n) (kinds_of w) ≡ ill_typed
-  since-short l = empty _ l (since-empty (word_of n))
+  pub since-short : move_of (instr_in Class.Since n) [] ≡ ill_typed
+  since-short = since-empty (word_of n)
 
-  pub match-short : w.height < 1 → move_of (instr_in Class.Match n) (kinds_of w) ≡ ill_typed
-  match-short l = empty _ l (match-empty (word_of n) (match_of (number_of n)))
+  pub match-short : move_of (instr_in Class.Match n) [] ≡ ill_typed
+  match-short = match-empty (word_of n) (match_of (number_of n))
 
-  pub binary-short : w.height < 2 → move_of (instr_in Class.Binary n) (kinds_of w) ≡ ill_typed
-  binary-short l = binary-few (word_of n) (binary_of (number_of n)) w.height (word w) l
+  pub binary-short : move_of (instr_in Class.Binary n) [] ≡ ill_typed
+  binary-short = binary-empty (word_of n) (binary_of (number_of n))
+
+  pub binary-few : (k : Kind) → move_of (instr_in Class.Binary n) (k ∷ []) ≡ ill_typed
+  binary-few = binary-one (word_of n) (binary_of (number_of n))

@@ -44,10 +44,10 @@ has_room_lem k s n =
 -- ---- a move
 
 pub able : {p q : ℕ} {m : Move} {r : Shape} → MovesTo p m q r → m ≡ ill_typed → ⊥
-able next_place e = let z : ◌≡◌ {A = ℕ} 0 1 = cc in omega arith
-able jump_target e = let z : ◌≡◌ {A = ℕ} 0 1 = cc in omega arith
-able not_taken e = let z : ◌≡◌ {A = ℕ} 0 1 = cc in omega arith
-able taken e = let z : ◌≡◌ {A = ℕ} 0 1 = cc in omega arith
+able next_place e = cc
+able jump_target e = cc
+able not_taken e = cc
+able taken e = cc
 
 -- what it holds there is what it leaves
 pub held : {p q : ℕ} {m : Move} {r : Shape} → MovesTo p m q r → held_after m ≡ r
@@ -111,14 +111,14 @@ goes-known (Load b i) s k e = refl
 goes-known (LoadIndexed b) s k e = refl
 goes-known (Unary o) s k e = refl
 goes-known (Binary o) s k e = refl
-goes-known (Jump d) s k e = let z : ◌≡◌ {A = ℕ} 0 1 = cc in absurd (omega arith)
-goes-known (JumpIf t d) [] k e = let z : ◌≡◌ {A = ℕ} 0 1 = cc in absurd (omega arith)
-goes-known (JumpIf t d) (x ∷ s) k e = let z : ◌≡◌ {A = ℕ} 0 1 = cc in absurd (omega arith)
+goes-known (Jump d) s k e = cc
+goes-known (JumpIf t d) [] k e = cc
+goes-known (JumpIf t d) (x ∷ s) k e = cc
 goes-known Tick s k e = refl
 goes-known Since s k e = refl
 goes-known (Total o b i n) s k e = refl
 goes-known (Match o b i n) s k e = refl
-goes-known Unknown s k e = let z : ◌≡◌ {A = ℕ} 0 1 = cc in absurd (omega arith)
+goes-known Unknown s k e = cc
 
 pub unknown-moves : (s : Shape) → move_of Unknown s ≡ ill_typed
 unfolding move_of

@@ -1,4 +1,5 @@
 -- What one pass over the code knows at each place that it comes to: exactly what is reached there. Its beginning, its joins and its verdict.
+use Rattle.std.specs.Prelude.{Some}
 use mathlib.Core.Path.{◌≡◌, refl, sym, ap, ◌∙◌, subst}
 use mathlib.Core.Bool.{Bool, true}
 use mathlib.Core.List.{List, [], ◌∷◌}
@@ -7,7 +8,6 @@ use native.Mathlib.Omega.{arith}
 use lib.ListN.{length}
 use Rattle.values.specs.declared.Kind.{Kind}
 use Rattle.code.specs.declared.Instr.{Instr}
-use Rattle.verifier.specs.declared.Verdict.TheVariants.{Accepted}
 use Rattle.verifier.specs.Typing.{Shape, ill_typed}
 use Rattle.verifier.specs.Accepts.{MovesTo, instr_at}
 use Rattle.verifier.specs.Profile.{move_in, well_formed_in, ReachedIn, start, onward, AcceptsIn}
@@ -21,13 +21,13 @@ pub holds_same : {s r : Shape} → holds s ≡ holds r → s ≡ r
 holds_same e = cc
 
 pub unheld : {X : Type 0} {s : Shape} → unreached ≡ holds s → X
-unheld e = let z : ◌≡◌ {A = ℕ} 0 1 = cc in absurd (omega arith)
+unheld e = cc
 
 pub unfailed : {s : Shape} → holds s ≡ rejected → ⊥
-unfailed e = let z : ◌≡◌ {A = ℕ} 0 1 = cc in omega arith
+unfailed e = cc
 
 pub unarrived : unreached ≡ rejected → ⊥
-unarrived e = let z : ◌≡◌ {A = ℕ} 0 1 = cc in omega arith
+unarrived e = cc
 
 -- ---- what is known
 
@@ -153,23 +153,23 @@ accepted {reals} {c} {brought} {k} some few w = record {
   ended = w.comes.flow (k ∷ []) refl;
 }
 
-one-held : (o : State) (k : Kind) → verdict_of o ≡ Accepted k → o ≡ holds (k ∷ [])
-one-held rejected k e = let z : ◌≡◌ {A = ℕ} 0 1 = cc in absurd (omega arith)
-one-held unreached k e = let z : ◌≡◌ {A = ℕ} 0 1 = cc in absurd (omega arith)
-one-held (holds []) k e = let z : ◌≡◌ {A = ℕ} 0 1 = cc in absurd (omega arith)
+one-held : (o : State) (k : Kind) → verdict_of o ≡ Some k → o ≡ holds (k ∷ [])
+one-held rejected k e = cc
+one-held unreached k e = cc
+one-held (holds []) k e = cc
 one-held (holds (j ∷ [])) k e = cc
-one-held (holds (j ∷ (i ∷ s))) k e = let z : ◌≡◌ {A = ℕ} 0 1 = cc in absurd (omega arith)
+one-held (holds (j ∷ (i ∷ s))) k e = cc
 
 -- the verdict is right
 pub verdict-sound : {reals : Bool} {c : List Instr} {brought : ℕ → State} {o : State} → 0 < length c → length c ≤ 2048
     → Or reals c (Knows reals c (length c) brought) o
-    → (k : Kind) → verdict_of o ≡ Accepted k → AcceptsIn reals c k
+    → (k : Kind) → verdict_of o ≡ Some k → AcceptsIn reals c k
 verdict-sound {reals} {c} {brought} {o} some few w k e =
     let q : o ≡ holds (k ∷ []) = one-held o k e in
     accepted some few (subst (Knows reals c (length c) brought) q (passage w (λ r. unfailed (sym q ∙ r))))
 
 pub verdict-complete : {reals : Bool} {c : List Instr} {brought : ℕ → State} {o : State} → Or reals c (Knows reals c (length c) brought) o
     → (k : Kind) → AcceptsIn reals c k
-    → verdict_of o ≡ Accepted k
+    → verdict_of o ≡ Some k
 verdict-complete (refuses f) k a = absurd (f k a)
 verdict-complete (passes n w) k a = ap verdict_of (exact w (k ∷ []) a.ended)

@@ -1,26 +1,21 @@
 -- What leaves an integer does not read R, but for a match that counts: one law for each class.
+use Rattle.std.specs.Prelude.{Option, Some, None}
 use mathlib.Core.Path.{◌≡◌, refl, sym, ap, ◌∙◌}
 use mathlib.Core.Bool.{Bool, true, false, not, ◌&&◌, cond, false≢true}
 use mathlib.Core.List.{[], ◌∷◌}
 use Prim.Native.Nat.{ℕ}
-use native.Mathlib.Omega.{arith}
 use lib.Dec.{eqb, ltb}
 use lib.Ieee.{Float, nan, inf, fin, binary32, of_bits}
 use Rattle.values.specs.declared.Kind.{Kind}
 use Rattle.values.specs.declared.Kind.TheVariants.{Int, Real}
-use Rattle.operators.specs.declared.tables.UnaryOf.{UnaryOf}
-use Rattle.operators.specs.declared.tables.BinaryOf.{BinaryOf}
 use Rattle.operators.specs.Tables.{unary_of, binary_of}
 use Rattle.operators.specs.Kinds.{is_int, kind_number}
 use Rattle.memory.specs.declared.Bank.{Bank}
-use Rattle.memory.specs.declared.numbers.BankOf.{BankOf}
 use Rattle.memory.specs.Layout.{layout_of}
 use Rattle.memory.specs.Cells.{bank_kind, real_bank}
 use Rattle.memory.specs.Numbers.{bank_numbered, bank_typed}
 use Rattle.totals.specs.declared.TotalOp.{TotalOp}
 use Rattle.totals.specs.declared.MatchOp.{MatchOp}
-use Rattle.totals.specs.declared.tables.TotalOf.{TotalOf}
-use Rattle.totals.specs.declared.tables.MatchOf.{MatchOf}
 use Rattle.totals.specs.Totals.{good_range}
 use Rattle.totals.specs.Numbers.{total_of, match_of}
 use Rattle.code.specs.declared.Instr.{Instr}
@@ -35,6 +30,8 @@ use Rattle.verifier.specs.private.Shapes.{leaving, push_number, LeavesKind, Repl
 use Rattle.verifier.specs.private.Pass.{admitted_move}
 use Rattle.verifier.proofs.Moves.{unknown-moves}
 use Rattle.verifier.proofs.Admitted.{Silent, none-admitted}
+use Rattle.operators.specs.declared.BinaryOp.{BinaryOp}
+use Rattle.operators.specs.declared.UnaryOp.{UnaryOp}
 
 -- an instruction where a test holds
 tested : (t : Bool) (i : Instr) → reads_real i ≡ false → reads_real (cond t i Unknown) ≡ false
@@ -48,13 +45,13 @@ finite-reads nan = refl
 finite-reads (inf s) = refl
 finite-reads (fin s m e) = refl
 
-unary-reads : (o : UnaryOf) (w : ℕ) → reads_real (of_unary o w) ≡ false
-unary-reads (UnaryOf.Is o) w = tested (eqb w 0) (Instr.Unary o) refl
-unary-reads UnaryOf.Nothing w = refl
+unary-reads : (o : (Option UnaryOp)) (w : ℕ) → reads_real (of_unary o w) ≡ false
+unary-reads (Some o) w = tested (eqb w 0) (Instr.Unary o) refl
+unary-reads None w = refl
 
-binary-reads : (o : BinaryOf) (w : ℕ) → reads_real (of_binary o w) ≡ false
-binary-reads (BinaryOf.Is o) w = tested (eqb w 0) (Instr.Binary o) refl
-binary-reads BinaryOf.Nothing w = refl
+binary-reads : (o : (Option BinaryOp)) (w : ℕ) → reads_real (of_binary o w) ≡ false
+binary-reads (Some o) w = tested (eqb w 0) (Instr.Binary o) refl
+binary-reads None w = refl
 
 module _ {reals : Bool} {n : ℕ} (w : ℕ) where
   pub int-silent : Silent reals n (instr_in Class.PushInt w)
@@ -84,7 +81,7 @@ left-int : (k : Kind) → next (k ∷ []) ≡ next (Int ∷ []) → k ≡ Int
 left-int k e = cc
 
 real-int : {X : Type 0} → next (Real ∷ []) ≡ next (Int ∷ []) → X
-real-int e = let z : ◌≡◌ {A = ℕ} 0 1 = cc in absurd (omega arith)
+real-int e = cc
 
 load_int : (t : Bool) (b : Bank) (v : ℕ) → move_of (cond t (Instr.Load b v) Unknown) [] ≡ next (Int ∷ [])
     → reads_real (cond t (Instr.Load b v) Unknown) ≡ false
@@ -110,28 +107,28 @@ module _ {reals : Bool} {n : ℕ} (w : ℕ) where
   pub load-silent : LeavesKind (instr_in Class.Load w) n → Silent reals n (instr_in Class.Load w)
   load-silent t r z = by (bank_numbered (number_of w)) (t.is [] ∙ ap (λ n. push_number n []) z)
     where
-      by : (x : BankOf) → move_of (of_bank load_element x (word_of w)) [] ≡ next (Int ∷ []) → reads_real (of_bank load_element x (word_of w)) ≡ false
-      by (BankOf.Is b) e = load_int (ltb (word_of w) (layout_of b).elements) b (word_of w) e
-      by BankOf.Nothing e = refl
+      by : (x : Option Bank) → move_of (of_bank load_element x (word_of w)) [] ≡ next (Int ∷ []) → reads_real (of_bank load_element x (word_of w)) ≡ false
+      by (Some b) e = load_int (ltb (word_of w) (layout_of b).elements) b (word_of w) e
+      by None e = refl
 
   pub indexed-silent : ReplacesKind (instr_in Class.LoadIndexed w) 0 n → Silent reals n (instr_in Class.LoadIndexed w)
   indexed-silent t r z = by (bank_numbered (number_of w)) (t.is [] ∙ ap (λ n. leaving n []) z)
     where
-      by : (x : BankOf) → move_of (of_bank load_indexed x (word_of w)) (Int ∷ []) ≡ next (Int ∷ []) → reads_real (of_bank load_indexed x (word_of w)) ≡ false
-      by (BankOf.Is b) e = indexed-int (eqb (word_of w) 0) b e
-      by BankOf.Nothing e = refl
+      by : (x : Option Bank) → move_of (of_bank load_indexed x (word_of w)) (Int ∷ []) ≡ next (Int ∷ []) → reads_real (of_bank load_indexed x (word_of w)) ≡ false
+      by (Some b) e = indexed-int (eqb (word_of w) 0) b e
+      by None e = refl
 
   pub total-silent : LeavesKind (instr_in Class.Total w) n → Silent reals n (instr_in Class.Total w)
   total-silent t r z = by (total_of (number_of w)) (t.is [] ∙ ap (λ n. push_number n []) z)
     where
-      over : (o : TotalOp) (x : BankOf) (i m : ℕ) → move_of (over_range (Instr.Total o) x i m) [] ≡ next (Int ∷ [])
+      over : (o : TotalOp) (x : (Option Bank)) (i m : ℕ) → move_of (over_range (Instr.Total o) x i m) [] ≡ next (Int ∷ [])
           → reads_real (over_range (Instr.Total o) x i m) ≡ false
-      over o (BankOf.Is b) i m e = total-int (good_range b i m) o b i m e
-      over o BankOf.Nothing i m e = refl
+      over o (Some b) i m e = total-int (good_range b i m) o b i m e
+      over o None i m e = refl
 
-      by : (u : TotalOf) → move_of (of_total u (word_of w)) [] ≡ next (Int ∷ []) → reads_real (of_total u (word_of w)) ≡ false
-      by (TotalOf.Is o) e = over o (bank_numbered (range_bank (word_of w))) (range_first (word_of w)) (range_count (word_of w)) e
-      by TotalOf.Nothing e = refl
+      by : (u : Option TotalOp) → move_of (of_total u (word_of w)) [] ≡ next (Int ∷ []) → reads_real (of_total u (word_of w)) ≡ false
+      by (Some o) e = over o (bank_numbered (range_bank (word_of w))) (range_first (word_of w)) (range_count (word_of w)) e
+      by None e = refl
 
 -- ---- a match: its bank is asked
 
@@ -139,26 +136,26 @@ real-kind : (k : Kind) → eqb (kind_number k) 1 ≡ not (is_int k)
 real-kind Int = refl
 real-kind Real = refl
 
-clear-range : (o : MatchOp) (x : BankOf) (i m : ℕ) → eqb (bank_typed x) 1 ≡ false → reads_real (over_range (Instr.Match o) x i m) ≡ false
-clear-range o (BankOf.Is b) i m e = tested (good_range b i m) (Instr.Match o b i m) (sym (real-kind (bank_kind b)) ∙ e)
-clear-range o BankOf.Nothing i m e = refl
+clear-range : (o : MatchOp) (x : (Option Bank)) (i m : ℕ) → eqb (bank_typed x) 1 ≡ false → reads_real (over_range (Instr.Match o) x i m) ≡ false
+clear-range o (Some b) i m e = tested (good_range b i m) (Instr.Match o b i m) (sym (real-kind (bank_kind b)) ∙ e)
+clear-range o None i m e = refl
 
-clear-match : (u : MatchOf) (w : ℕ) → eqb (bank_typed (bank_numbered (range_bank w))) 1 ≡ false → reads_real (of_match u w) ≡ false
-clear-match (MatchOf.Is o) w e = clear-range o (bank_numbered (range_bank w)) (range_first w) (range_count w) e
-clear-match MatchOf.Nothing w e = refl
+clear-match : (u : (Option MatchOp)) (w : ℕ) → eqb (bank_typed (bank_numbered (range_bank w))) 1 ≡ false → reads_real (of_match u w) ≡ false
+clear-match (Some o) w e = clear-range o (bank_numbered (range_bank w)) (range_first w) (range_count w) e
+clear-match None w e = refl
 
 barred-if : (t : Bool) (i : Instr) (s : Shape) → reads_real i ≡ true → admitted_move false (cond t i Unknown) s ≡ ill_typed
 barred-if true i s e = ap (λ r. cond (not r && all_int (held_after (move_of i s))) (move_of i s) ill_typed) e
 barred-if false i s e = none-admitted false Unknown s (unknown-moves s)
 
-barred-range : (o : MatchOp) (x : BankOf) (i m : ℕ) (s : Shape) → eqb (bank_typed x) 1 ≡ true
+barred-range : (o : MatchOp) (x : (Option Bank)) (i m : ℕ) (s : Shape) → eqb (bank_typed x) 1 ≡ true
     → admitted_move false (over_range (Instr.Match o) x i m) s ≡ ill_typed
-barred-range o (BankOf.Is b) i m s e = barred-if (good_range b i m) (Instr.Match o b i m) s (sym (real-kind (bank_kind b)) ∙ e)
-barred-range o BankOf.Nothing i m s e = none-admitted false Unknown s (unknown-moves s)
+barred-range o (Some b) i m s e = barred-if (good_range b i m) (Instr.Match o b i m) s (sym (real-kind (bank_kind b)) ∙ e)
+barred-range o None i m s e = none-admitted false Unknown s (unknown-moves s)
 
-barred-match : (u : MatchOf) (w : ℕ) (s : Shape) → eqb (bank_typed (bank_numbered (range_bank w))) 1 ≡ true → admitted_move false (of_match u w) s ≡ ill_typed
-barred-match (MatchOf.Is o) w s e = barred-range o (bank_numbered (range_bank w)) (range_first w) (range_count w) s e
-barred-match MatchOf.Nothing w s e = none-admitted false Unknown s (unknown-moves s)
+barred-match : (u : (Option MatchOp)) (w : ℕ) (s : Shape) → eqb (bank_typed (bank_numbered (range_bank w))) 1 ≡ true → admitted_move false (of_match u w) s ≡ ill_typed
+barred-match (Some o) w s e = barred-range o (bank_numbered (range_bank w)) (range_first w) (range_count w) s e
+barred-match None w s e = none-admitted false Unknown s (unknown-moves s)
 
 pub match-silent : (reals : Bool) {n : ℕ} (w : ℕ) → bars_range reals (word_of w) ≡ false → Silent reals n (instr_in Class.Match w)
 match-silent true w e r z = absurd (false≢true (sym r))

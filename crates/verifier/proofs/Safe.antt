@@ -135,9 +135,9 @@ operands Unknown s n = absurd (n refl)
 -- ---- a run
 
 last : (st : List Value) (k : Kind) → map kind_of st ≡ k ∷ [] → EndsWell k (finish st)
-last [] k e = let z : ◌≡◌ {A = ℕ} 0 1 = cc in absurd (omega arith)
+last [] k e = cc
 last (v ∷ []) k e = value v (cc)
-last (v ∷ (w ∷ st)) k e = let z : ◌≡◌ {A = ℕ} 0 1 = cc in absurd (omega arith)
+last (v ∷ (w ∷ st)) k e = cc
 
 -- where it goes on, and how it ends
 led : {p d : ℕ} {m : Move} {st : List Value} → Follows p m (goes d st) → MovesTo p m (suc p + d) (map kind_of st) × (length st ≤ max_height)

@@ -2,10 +2,11 @@
 use mathlib.Core.Path.{◌≡◌, refl, sym, ap, ◌∙◌}
 use mathlib.Core.Bool.{Bool, true, false, cond, true≢false}
 use mathlib.Core.List.{List, [], ◌∷◌}
-use Prim.Native.Nat.{ℕ, zero, suc, ◌+◌, ◌-◌, ◌≤◌, ◌<◌, ◌%◌}
+use Prim.Native.Nat.{ℕ, zero, suc, ◌+◌, ◌-◌, ◌/◌, ◌%◌, ◌≤◌, ◌<◌}
 use native.Mathlib.Omega.{arith}
 use lib.Dec.{leb}
-use lib.ListN.{get_or}
+use Rattle.std.specs.Prelude.{Option, None, Some, is_some}
+use Rattle.values.specs.declared.Kind.{Kind}
 use Rattle.code.specs.declared.Instr.{Instr}
 use Rattle.code.specs.declared.Instr.TheVariants.{Jump, JumpIf, Unknown}
 use Rattle.code.specs.declared.Class.{Class}
@@ -15,51 +16,54 @@ use Rattle.code.specs.private.Classes.{class_of, instr_in}
 use Rattle.code.proofs.Parts.{decode-fetched}
 use Rattle.verifier.specs.declared.packing.Held.{Held}
 use Rattle.verifier.specs.declared.typing.Flow.{Flow}
-use Rattle.verifier.specs.declared.Verdict.{Verdict}
 use Rattle.verifier.specs.Typing.{Shape, Move, ill_typed, jump, fork, move_of}
 use Rattle.verifier.specs.Profile.{all_int, held_after, move_in, well_formed_in}
-use Rattle.verifier.specs.private.Shapes.{State, rejected, unreached, holds, kind_limit, push_under, LeavesKind, number_kind, bit_kinds, word}
-use Rattle.verifier.specs.private.Shapes.{kinds_of, ArrayHolds, Popped, state_at, state_of, Leaves, stops, goes}
+use Rattle.verifier.specs.private.Shapes.{State, rejected, unreached, holds, kind_limit, push_under, replace_under, replace_two_under, LeavesKind}
+use Rattle.verifier.specs.private.Shapes.{ReplacesKind, ReplacesTwo, number_kind, bit_kinds, kinds_of, below, state_of, state_if, Carries, Leaves, stops, goes}
 use Rattle.verifier.specs.private.Pass as Pass
 use Rattle.verifier.specs.private.Pass.{verdict_of, Skipping, Merges, Steps, stuck, strays, leaps, forks, leap_clash, fork_clash}
 use Rattle.verifier.specs.private.Pass.{admits, all_admitted, admitted_move}
 use Rattle.verifier.proofs.Moves.{upto, goes-known, unknown-moves, known_in}
 use Rattle.verifier.proofs.Admitted.{stays, both, barred-move, jumping, below-admitted, Silent, leaves-pushed}
 use Rattle.verifier.proofs.kinds.Standing.{in-class}
-use Rattle.verifier.proofs.Bits.{kinds-popped}
-
--- ---- what flows on
-
-pub state-holds : (n : ℕ) (s : Shape) → (n ≡ 0 → ⊥) → (n ≡ 1 → ⊥) → state_at n s ≡ holds s
-state-holds zero s h g = absurd (h refl)
-state-holds (suc zero) s h g = absurd (g refl)
-state-holds (suc (suc n)) s h g = refl
+use Rattle.verifier.proofs.Held.{one-taken, two-taken}
 
 -- ---- an instruction that is no jump
 
-pub typed-keeps : {a : List ℕ} {f : Flow} {m : Move} → Leaves a f m → ArrayHolds a f.held
-typed-keeps (stops e k) = k
-typed-keeps (goes e k) = k
+pub carried : {a : List ℕ} {f : Flow} {m : Move} → Leaves a f m → Carries a f
+carried (stops r) = rw r tt
+carried (goes r k) = rw r k
 
 module _ {i : Instr} {k p : ℕ} {s : Shape} {before : ℕ → State} {a : List ℕ} {f : Flow} where
   pub typed-steps : (reals : Bool) {m : Move} → admitted_move reals i s ≡ m → Leaves a f m → Steps reals i k p s before (state_of f) before
-  typed-steps true e (stops r h) = rw r (stuck e)
-  typed-steps true e (goes r h) = rw r (Pass.goes (goes-known i s k e) e)
+  typed-steps true e (stops r) = rw r (stuck e)
+  typed-steps true e (goes r _) = rw r (Pass.goes (goes-known i s k e) e)
   typed-steps false e l = by (admits false i (held_after (move_of i s))) refl e l
     where
       by : (b : Bool) {m : Move} → admits false i (held_after (move_of i s)) ≡ b → cond b (move_of i s) ill_typed ≡ m → Leaves a f m
           → Steps false i k p s before (state_of f) before
-      by true q e (stops r h) = rw r (stuck (rw e))
-      by true q e (goes r h) =
-          let x = both (reads_real i) (all_int (kinds_of f.held)) (ap (λ m. admits false i (held_after m)) (sym e) ∙ q) in
+      by true q e (stops r) = rw r (stuck (rw e))
+      by true q e (goes {w} r _) =
+          let x = both (reads_real i) (all_int (kinds_of w)) (ap (λ m. admits false i (held_after m)) (sym e) ∙ q) in
           rw r (Pass.goes (known_in i k (goes-known i s k e) x.0) (stays i s e x.1))
-      by false q e (stops r h) = rw r (barred-move refl q)
-      by false q e (goes r h) = let z : ◌≡◌ {A = ℕ} 0 1 = cc in absurd (omega arith)
+      by false q e (stops r) = rw r (barred-move refl q)
+      by false q e (goes r _) = cc
 
+module _ {i : Instr} {n k p : ℕ} {before : ℕ → State} {a : List ℕ} {f : Flow} (reals : Bool) (w : Held) (d : all_admitted reals (kinds_of w) ≡ true)
+    (q : Silent reals n i) where
   -- an instruction that leaves the number n of a kind
-  pub pushed-steps : (reals : Bool) {n : ℕ} → all_admitted reals s ≡ true → LeavesKind i n → Silent reals n i
-      → Leaves a f (push_under (kind_limit reals) n s) → Steps reals i k p s before (state_of f) before
-  pushed-steps reals {n} d t q = typed-steps reals (leaves-pushed reals i s n (t.is s) d q)
+  pub pushed-steps : LeavesKind i n → Leaves a f (push_under (kind_limit reals) n (kinds_of w)) → Steps reals i k p (kinds_of w) before (state_of f) before
+  pushed-steps t = typed-steps reals (leaves-pushed reals i (kinds_of w) n (t.is (kinds_of w)) d q)
+
+  -- in the place of the last value
+  pub replaced-steps : move_of i [] ≡ ill_typed → ReplacesKind i (w.bits % 2) n → Leaves a f (replace_under (kind_limit reals) n (kinds_of w))
+      → Steps reals i k p (kinds_of w) before (state_of f) before
+  replaced-steps e t = typed-steps reals (one-taken reals q w.height w.bits d e t)
+
+  -- and in the place of the last two
+  pub replaced-two-steps : move_of i [] ≡ ill_typed → ((k : Kind) → move_of i (k ∷ []) ≡ ill_typed) → ReplacesTwo i (w.bits / 2 % 2) (w.bits % 2) n
+      → Leaves a f (replace_two_under (kind_limit reals) n (kinds_of w)) → Steps reals i k p (kinds_of w) before (state_of f) before
+  replaced-two-steps e g t = typed-steps reals (two-taken reals q w.height w.bits d e g t)
 
 pub int-leaves : (w : ℕ) → LeavesKind (push_int w) 0
 unfolding move_of
@@ -83,9 +87,13 @@ leap-is : (d : ℕ) (s : Shape) → move_of (Jump d) s ≡ jump d s
 unfolding move_of
 leap-is d s = refl
 
-fork-is : (t : Bool) (d : ℕ) {h v : Held} → 0 < h.height → Popped h v → move_of (JumpIf t d) (kinds_of h) ≡ fork d (kinds_of v)
+fork-is : (t : Bool) (d h b : ℕ) → 0 < h → move_of (JumpIf t d) (bit_kinds h b) ≡ fork d (below (bit_kinds h b))
 unfolding move_of
-fork-is t d some o = rw (kinds-popped some o)
+fork-is t d zero b l = absurd (omega arith)
+fork-is t d (suc h) b l = refl
+
+forked : (t : Bool) (d : ℕ) (w : Held) {r : Shape} → 0 < w.height → r ≡ below (kinds_of w) → move_of (JumpIf t d) (kinds_of w) ≡ fork d r
+forked t d w l e = fork-is t d w.height w.bits l ∙ ap (fork d) (sym e)
 
 module _ (d m : ℕ) {p : ℕ} {before : ℕ → State} where
   module _ {s : Shape} where
@@ -108,13 +116,13 @@ module _ (d m : ℕ) {p : ℕ} {before : ℕ → State} where
     pub fork-strays : leb d m ≡ false → Steps true (JumpIf t d) m p (kinds_of h) before rejected before
     fork-strays e = strays e
 
-    module _ {v : Held} {after : ℕ → State} {b : Bool} (some : 0 < h.height) (o : Popped h v) where
-      pub fork-lands : leb d m ≡ true → b ≡ true → Merges (kinds_of v) (p + d) before b after
-          → Steps true (JumpIf t d) m p (kinds_of h) before (holds (kinds_of v)) after
-      fork-lands e y k = forks e (fork-is t d some o) (rw y at k)
+    module _ (some : 0 < h.height) {r : Shape} (o : r ≡ below (kinds_of h)) where
+      module _ {after : ℕ → State} {b : Bool} where
+        pub fork-lands : leb d m ≡ true → b ≡ true → Merges r (p + d) before b after → Steps true (JumpIf t d) m p (kinds_of h) before (holds r) after
+        fork-lands e y k = forks e (forked t d h some o) (rw y at k)
 
-      pub fork-fails : b ≡ false → Merges (kinds_of v) (p + d) before b after → Steps true (JumpIf t d) m p (kinds_of h) before rejected after
-      fork-fails y k = fork_clash (fork-is t d some o) (rw y at k)
+        pub fork-fails : b ≡ false → Merges r (p + d) before b after → Steps true (JumpIf t d) m p (kinds_of h) before rejected after
+        fork-fails y k = fork_clash (forked t d h some o) (rw y at k)
 
 -- ---- with reals or without
 
@@ -139,16 +147,17 @@ module _ (reals : Bool) {k p : ℕ} {s : Shape} {before : ℕ → State} {o : St
 
 -- ---- places that nothing comes to
 
-module _ {reals : Bool} {code : List ℕ} {n : ℕ} {tops : List ℕ} where
-  pub skipping-none : {p : ℕ} → p ≤ n → Skipping reals code n tops p p
-  skipping-none l = record { onward = omega arith; within = l; none = λ q f g. absurd (omega arith); each = λ q f g. absurd (omega arith) }
+pub absent : (o : Option Held) {b : Bool} {x : State} → b ≡ is_some o → b ≡ false → state_if o ≡ x → x ≡ unreached
+absent None e f g = sym g
+absent (Some w) e f g = cc
 
-  pub skipping-more : {p r : ℕ} → Skipping reals code n tops p r → r < n → get_or tops r 0 ≡ 0 → well_formed_in reals (n - suc r) (decode_at code r) ≡ true
-      → Skipping reals code n tops p (r + 1)
+module _ {reals : Bool} {code : List ℕ} {n : ℕ} {brought : ℕ → State} where
+  pub skipping-more : {p r : ℕ} → Skipping reals code n brought p r → r < n → brought r ≡ unreached
+      → well_formed_in reals (n - suc r) (decode_at code r) ≡ true → Skipping reals code n brought p (r + 1)
   skipping-more {p} {r} k l e f = record {
     onward = omega (arith, k.onward);
     within = omega arith;
-    none = λ q g h. upto (λ q. p ≤ q → get_or tops q 0 ≡ 0) r (λ q h g. k.none q g h) (λ _. e) q (omega arith) g;
+    none = λ q g h. upto (λ q. p ≤ q → brought q ≡ unreached) r (λ q h g. k.none q g h) (λ _. e) q (omega arith) g;
     each = λ q g h. upto (λ q. p ≤ q → well_formed_in reals (n - suc q) (decode_at code q) ≡ true) r (λ q h g. k.each q g h) (λ _. f) q (omega arith) g;
   }
 
@@ -162,13 +171,13 @@ stands_at reals code n p e f =
 -- ---- the end
 
 module _ (w : Held) where
-  pub end-one : {x : ℕ} → x ≡ word w % 2 → w.height ≡ 1 → Verdict.Accepted (number_kind x) ≡ verdict_of (holds (kinds_of w))
+  pub end-one : {x : ℕ} → x ≡ w.bits % 2 → w.height ≡ 1 → Some (number_kind x) ≡ verdict_of (holds (kinds_of w))
   end-one o e = rw (e, ← o)
 
-  pub end-other : (w.height ≡ 1 → ⊥) → Verdict.Refused ≡ verdict_of (holds (kinds_of w))
-  end-other n = go w.height (word w) n
+  pub end-other : (w.height ≡ 1 → ⊥) → None ≡ verdict_of (holds (kinds_of w))
+  end-other n = go w.height w.bits n
     where
-      go : (h v : ℕ) → (h ≡ 1 → ⊥) → Verdict.Refused ≡ verdict_of (holds (bit_kinds h v))
-      go zero v n = refl
-      go (suc zero) v n = absurd (n refl)
-      go (suc (suc h)) v n = refl
+      go : (h b : ℕ) → (h ≡ 1 → ⊥) → None ≡ verdict_of (holds (bit_kinds h b))
+      go zero b n = refl
+      go (suc zero) b n = absurd (n refl)
+      go (suc (suc h)) b n = refl

@@ -1,4 +1,5 @@
 -- The check as a function is right: what the pass knows of each place is what comes to it from the places before. `VerdictLaws`.
+use Rattle.std.specs.Prelude.{Option, Some, None}
 use mathlib.Core.Path.{◌≡◌, refl, sym, ap, ◌∙◌, subst}
 use mathlib.Core.Logic.{◌⊎◌, inl, inr}
 use mathlib.Core.Bool.{Bool, true, false, cond, true≢false, false≢true}
@@ -12,8 +13,6 @@ use Rattle.values.specs.declared.Kind.{Kind}
 use Rattle.values.specs.declared.Kind.TheVariants.{Int, Real}
 use Rattle.code.specs.declared.Instr.{Instr}
 use Rattle.code.specs.Instructions.{instructions}
-use Rattle.verifier.specs.declared.Verdict.{Verdict}
-use Rattle.verifier.specs.declared.Verdict.TheVariants.{Accepted, Refused}
 use Rattle.verifier.specs.Typing.{Shape, Move, ill_typed, next, jump, fork}
 use Rattle.verifier.specs.Accepts.{MovesTo, next_place, jump_target, not_taken, taken, instr_at, CorrectVerdict}
 use Rattle.verifier.specs.Verdicts.{State, rejected, unreached, holds, States, same_shape, join_state, join_at, propagate, entry_states}
@@ -31,11 +30,11 @@ use Rattle.verifier.proofs.Pass.{verdict-sound, verdict-complete}
 shape-agrees : (s r : Shape) → Agrees (same_shape s r) s r
 unfolding same_shape
 shape-agrees [] [] = record { yes = λ e. refl; no = λ e f. true≢false e }
-shape-agrees [] (k ∷ r) = record { yes = λ e. absurd (false≢true e); no = λ e f. let z : ◌≡◌ {A = ℕ} 0 1 = cc in omega arith }
-shape-agrees (j ∷ s) [] = record { yes = λ e. absurd (false≢true e); no = λ e f. let z : ◌≡◌ {A = ℕ} 0 1 = cc in omega arith }
+shape-agrees [] (k ∷ r) = record { yes = λ e. absurd (false≢true e); no = λ e f. cc }
+shape-agrees (j ∷ s) [] = record { yes = λ e. absurd (false≢true e); no = λ e f. cc }
 shape-agrees (Int ∷ s) (Int ∷ r) = record { yes = λ e. ap (λ s. Int ∷ s) ((shape-agrees s r).yes e); no = λ e f. (shape-agrees s r).no e (cc) }
-shape-agrees (Int ∷ s) (Real ∷ r) = record { yes = λ e. absurd (false≢true e); no = λ e f. let z : ◌≡◌ {A = ℕ} 0 1 = cc in omega arith }
-shape-agrees (Real ∷ s) (Int ∷ r) = record { yes = λ e. absurd (false≢true e); no = λ e f. let z : ◌≡◌ {A = ℕ} 0 1 = cc in omega arith }
+shape-agrees (Int ∷ s) (Real ∷ r) = record { yes = λ e. absurd (false≢true e); no = λ e f. cc }
+shape-agrees (Real ∷ s) (Int ∷ r) = record { yes = λ e. absurd (false≢true e); no = λ e f. cc }
 shape-agrees (Real ∷ s) (Real ∷ r) = record { yes = λ e. ap (λ s. Real ∷ s) ((shape-agrees s r).yes e); no = λ e f. (shape-agrees s r).no e (cc) }
 
 -- ---- what is known of a place that comes to have the kinds s
@@ -177,9 +176,9 @@ led p (fork d r) {S = S} w n = likewise (joined (joined w r (suc p + d)) r (suc 
 
 refusing : (m : Move) → (m ≡ ill_typed) ⊎ (m ≡ ill_typed → ⊥)
 refusing ill_typed = inl refl
-refusing (next r) = inr (λ e. let z : ◌≡◌ {A = ℕ} 0 1 = cc in omega arith)
-refusing (jump d r) = inr (λ e. let z : ◌≡◌ {A = ℕ} 0 1 = cc in omega arith)
-refusing (fork d r) = inr (λ e. let z : ◌≡◌ {A = ℕ} 0 1 = cc in omega arith)
+refusing (next r) = inr (λ e. cc)
+refusing (jump d r) = inr (λ e. cc)
+refusing (fork d r) = inr (λ e. cc)
 
 -- ---- the pass
 
@@ -349,33 +348,33 @@ module _ (reals : Bool) (c : List Instr) where
 
 -- ---- the laws
 
-unaccepted : {X : Type 0} {k : Kind} → Refused ≡ Accepted k → X
-unaccepted e = let z : ◌≡◌ {A = ℕ} 0 1 = cc in absurd (omega arith)
+unaccepted : {X : Type 0} {k : Kind} → None ≡ Some k → X
+unaccepted e = cc
 
-pub sound : (reals : Bool) (c : List Instr) (k : Kind) → verdict_in reals c ≡ Accepted k → AcceptsIn reals c k
+pub sound : (reals : Bool) (c : List Instr) (k : Kind) → verdict_in reals c ≡ Some k → AcceptsIn reals c k
 unfolding dataflow_in
 sound reals [] k e = unaccepted e
 sound reals (i ∷ left) k e = go (leb (length (i ∷ left)) 2048) refl e
   where
-    go : (b : Bool) → leb (length (i ∷ left)) 2048 ≡ b → cond b (verdict_of (dataflow_in reals (i ∷ left) 0 entry_states)) Refused ≡ Accepted k
+    go : (b : Bool) → leb (length (i ∷ left)) 2048 ≡ b → cond b (verdict_of (dataflow_in reals (i ∷ left) 0 entry_states)) None ≡ Some k
         → AcceptsIn reals (i ∷ left) k
     go true l e = verdict-sound (omega arith) (leb-true (length (i ∷ left)) 2048 l) (judged reals (i ∷ left)) k e
     go false l e = unaccepted e
 
-pub complete : (reals : Bool) (c : List Instr) (k : Kind) → AcceptsIn reals c k → verdict_in reals c ≡ Accepted k
+pub complete : (reals : Bool) (c : List Instr) (k : Kind) → AcceptsIn reals c k → verdict_in reals c ≡ Some k
 complete reals c k a = rw (le-leb (length c) 2048 a.few) (verdict-complete (judged reals c) k a)
 
-pub determined : (reals : Bool) (code : List ℕ) (n : ℕ) (v : Verdict) → CorrectVerdictIn reals code n v → v ≡ verdict_in reals (instructions code n)
-determined reals code n (Accepted k) r = sym (complete reals (instructions code n) k (r.sound k refl))
-determined reals code n Refused r = go (verdict_in reals (instructions code n)) refl
+pub determined : (reals : Bool) (code : List ℕ) (n : ℕ) (v : Option Kind) → CorrectVerdictIn reals code n v → v ≡ verdict_in reals (instructions code n)
+determined reals code n (Some k) r = sym (complete reals (instructions code n) k (r.sound k refl))
+determined reals code n None r = go (verdict_in reals (instructions code n)) refl
   where
-    go : (v : Verdict) → verdict_in reals (instructions code n) ≡ v → Refused ≡ verdict_in reals (instructions code n)
-    go (Accepted k) e = r.complete k (sound reals (instructions code n) k e) ∙ sym e
-    go Refused e = sym e
+    go : (v : Option Kind) → verdict_in reals (instructions code n) ≡ v → None ≡ verdict_in reals (instructions code n)
+    go (Some k) e = r.complete k (sound reals (instructions code n) k e) ∙ sym e
+    go None e = sym e
 
 -- ---- with reals
 
-pub correct : (code : List ℕ) (n : ℕ) (v : Verdict) → v ≡ verdict_in true (instructions code n) → CorrectVerdict code n v
+pub correct : (code : List ℕ) (n : ℕ) (v : Option Kind) → v ≡ verdict_in true (instructions code n) → CorrectVerdict code n v
 correct code n v e = record {
   sound = λ k f. full-accepts (instructions code n) k (sound true (instructions code n) k (sym e ∙ f));
   complete = λ k a. e ∙ complete true (instructions code n) k (accepts-full (instructions code n) k a);
@@ -388,7 +387,7 @@ verdict-laws = record {
   determined = λ code n v r. determined true code n v (in-full r) ∙ full_verdict (instructions code n);
 }
   where
-    in-full : {code : List ℕ} {n : ℕ} {v : Verdict} → CorrectVerdict code n v → CorrectVerdictIn true code n v
+    in-full : {code : List ℕ} {n : ℕ} {v : (Option Kind)} → CorrectVerdict code n v → CorrectVerdictIn true code n v
     in-full {code} {n} r = record {
       sound = λ k e. accepts-full (instructions code n) k (r.sound k e);
       complete = λ k a. r.complete k (full-accepts (instructions code n) k a);

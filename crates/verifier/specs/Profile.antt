@@ -1,13 +1,11 @@
 -- The check in the full box (reals true) and in the profile (false). Paper 02, Ask 12: "Code checked for the profile holds only integers and has no
 -- instruction that reads R, else 15". A push of a real that is never reached holds nothing; a load of R is refused, reached or not.
-use Rattle.std.specs.Prelude.{◌≡◌, ◌↔◌, Bool, true, false, not, ◌&&◌, cond, List, [], ◌∷◌, ℕ, suc, ◌-◌, ◌≤◌, ◌<◌, leb, length}
+use Rattle.std.specs.Prelude.{◌≡◌, ◌↔◌, Bool, true, false, not, ◌&&◌, cond, List, [], ◌∷◌, ℕ, suc, ◌-◌, ◌≤◌, ◌<◌, leb, length, Option, Some, None}
 use Rattle.values.specs.declared.Kind.{Kind}
 use Rattle.operators.specs.Kinds.{is_int}
 use Rattle.code.specs.declared.Instr.{Instr}
 use Rattle.code.specs.Instructions.{instructions}
 use Rattle.code.specs.Reals.{reads_real}
-use Rattle.verifier.specs.declared.Verdict.{Verdict}
-use Rattle.verifier.specs.declared.Verdict.TheVariants.{Accepted, Refused}
 use Rattle.verifier.specs.Typing.{Shape, Move, ill_typed, next, jump, fork, move_of, well_formed}
 use Rattle.verifier.specs.Accepts.{MovesTo, instr_at, Accepts}
 use Rattle.verifier.specs.Verdicts.{State, rejected, unreached, holds, States, propagate, verdict_of, entry_states, verdict}
@@ -47,9 +45,9 @@ pub record AcceptsIn (reals : Bool) (c : List Instr) (k : Kind) : Type 0 where
   pub ended : ReachedIn reals c (length c) (k ∷ [])
 
 -- the check of n instructions is right
-pub record CorrectVerdictIn (reals : Bool) (code : List ℕ) (n : ℕ) (v : Verdict) : Type 0 where
-  pub sound : (k : Kind) → v ≡ Accepted k → AcceptsIn reals (instructions code n) k
-  pub complete : (k : Kind) → AcceptsIn reals (instructions code n) k → v ≡ Accepted k
+pub record CorrectVerdictIn (reals : Bool) (code : List ℕ) (n : ℕ) (v : (Option Kind)) : Type 0 where
+  pub sound : (k : Kind) → v ≡ Some k → AcceptsIn reals (instructions code n) k
+  pub complete : (k : Kind) → AcceptsIn reals (instructions code n) k → v ≡ Some k
 
 -- ---- the check as a function of the instructions, as Verdicts has it with reals
 
@@ -62,8 +60,8 @@ unfoldable pub dataflow_in : Bool → List Instr → ℕ → States → State
 dataflow_in reals [] p f = f p
 dataflow_in reals (i ∷ left) p f = cond (well_formed_in reals (length left) i) (dataflow_in reals left (suc p) (transfer_in reals p i (f p) f)) rejected
 
-abbrev pub verdict_in : Bool → List Instr → Verdict
-verdict_in reals c = cond (leb (length c) 2048) (verdict_of (dataflow_in reals c 0 entry_states)) Refused
+abbrev pub verdict_in : Bool → List Instr → Option Kind
+verdict_in reals c = cond (leb (length c) 2048) (verdict_of (dataflow_in reals c 0 entry_states)) None
 
 -- proofs/Profile.antt proves the record
 pub record ProfileVerdicts : Type 0 where
@@ -71,6 +69,6 @@ pub record ProfileVerdicts : Type 0 where
   pub full : (c : List Instr) (k : Kind) → AcceptsIn true c k ↔ Accepts c k
   pub full_verdict : (c : List Instr) → verdict_in true c ≡ verdict c
   -- the check as a function says the same
-  pub exact : (reals : Bool) (c : List Instr) (k : Kind) → verdict_in reals c ≡ Accepted k ↔ AcceptsIn reals c k
+  pub exact : (reals : Bool) (c : List Instr) (k : Kind) → verdict_in reals c ≡ Some k ↔ AcceptsIn reals c k
   -- so a contract can be an equation
-  pub determined : (reals : Bool) (code : List ℕ) (n : ℕ) (v : Verdict) → CorrectVerdictIn reals code n v → v ≡ verdict_in reals (instructions code n)
+  pub determined : (reals : Bool) (code : List ℕ) (n : ℕ) (v : Option Kind) → CorrectVerdictIn reals code n v → v ≡ verdict_in reals (instructions code n)

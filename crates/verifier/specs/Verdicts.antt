@@ -1,13 +1,11 @@
 -- The check as a function of the instructions: one pass from the first to the last, with what is known of each place. What a reader believes is `Accepts`;
 -- proofs/Verdicts.antt proves `VerdictLaws`, that the function says the same, so that a contract can be an equation.
-use Rattle.std.specs.Prelude.{◌≡◌, ◌↔◌, Bool, true, false, ◌&&◌, cond, List, [], ◌∷◌, ℕ, suc, ◌+◌, eqb, leb, length}
+use Rattle.std.specs.Prelude.{◌≡◌, ◌↔◌, Bool, true, false, ◌&&◌, cond, List, [], ◌∷◌, ℕ, suc, ◌+◌, eqb, leb, length, Option, Some, None}
 use Rattle.std.specs.Bool.{beq}
 use Rattle.values.specs.declared.Kind.{Kind}
 use Rattle.operators.specs.Kinds.{is_int}
 use Rattle.code.specs.declared.Instr.{Instr}
 use Rattle.code.specs.Instructions.{instructions}
-use Rattle.verifier.specs.declared.Verdict.{Verdict}
-use Rattle.verifier.specs.declared.Verdict.TheVariants.{Accepted, Refused}
 use Rattle.verifier.specs.Typing.{Shape, Move, ill_typed, next, jump, fork, move_of, well_formed}
 use Rattle.verifier.specs.Accepts.{Accepts, CorrectVerdict}
 
@@ -55,28 +53,28 @@ dataflow [] p f = f p
 dataflow (i ∷ left) p f = cond (well_formed (length left) i) (dataflow left (suc p) (transfer p i (f p) f)) rejected
 
 -- "the end has one value"
-abbrev pub verdict_of : State → Verdict
-verdict_of rejected = Refused
-verdict_of unreached = Refused
-verdict_of (holds []) = Refused
-verdict_of (holds (k ∷ [])) = Accepted k
-verdict_of (holds (k ∷ (j ∷ s))) = Refused
+abbrev pub verdict_of : State → Option Kind
+verdict_of rejected = None
+verdict_of unreached = None
+verdict_of (holds []) = None
+verdict_of (holds (k ∷ [])) = Some k
+verdict_of (holds (k ∷ (j ∷ s))) = None
 
 -- the first place is reached with nothing held
 abbrev pub entry_states : States
 entry_states = join_at [] 0 (λ p. unreached)
 
 -- "code of 1 to 2,048 instructions": none end with no value
-abbrev pub verdict : List Instr → Verdict
-verdict c = cond (leb (length c) 2048) (verdict_of (dataflow c 0 entry_states)) Refused
+abbrev pub verdict : List Instr → Option Kind
+verdict c = cond (leb (length c) 2048) (verdict_of (dataflow c 0 entry_states)) None
 
-abbrev pub is_accepted : Verdict → Bool
-is_accepted (Accepted k) = true
-is_accepted Refused = false
+abbrev pub is_accepted : Option Kind → Bool
+is_accepted (Some k) = true
+is_accepted None = false
 
 pub record VerdictLaws : Type 0 where
-  pub exact : (c : List Instr) (k : Kind) → verdict c ≡ Accepted k ↔ Accepts c k
+  pub exact : (c : List Instr) (k : Kind) → verdict c ≡ Some k ↔ Accepts c k
   -- the kind at the end is the only one
   pub unique : (c : List Instr) (j k : Kind) → Accepts c j → Accepts c k → j ≡ k
   -- the check's contract is an equation
-  pub determined : (code : List ℕ) (n : ℕ) (v : Verdict) → CorrectVerdict code n v → v ≡ verdict (instructions code n)
+  pub determined : (code : List ℕ) (n : ℕ) (v : Option Kind) → CorrectVerdict code n v → v ≡ verdict (instructions code n)

@@ -155,9 +155,7 @@ pub fn known(w: u64, left: usize) -> bool
     match code::class_of(w) {
         Class::PushInt => true,
         Class::PushReal => real_kind(w) < kinds::NOT_TAKEN,
-        Class::Jump => stays(w, left),
-        Class::JumpIfFalse => stays(w, left),
-        Class::JumpIfTrue => stays(w, left),
+        Class::Jump | Class::JumpIfFalse | Class::JumpIfTrue => stays(w, left),
         Class::Tick => tick_kind(w) < kinds::NOT_TAKEN,
         Class::Since => since_kind(w, kinds::INT) < kinds::NOT_TAKEN,
         Class::Load => load_kind(w) < kinds::NOT_TAKEN,

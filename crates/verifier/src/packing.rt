@@ -1,92 +1,94 @@
-// The kinds of the values held as bits, so that a jump compares and keeps them whole, however many they are.
-ghost use Rattle.std.specs.Prelude.{◌≡◌, ◌/◌, ◌%◌, ◌^◌, ◌<◌, length};
-ghost use Rattle.verifier.specs.private.Shapes.{kinds_of, word, Canonical, ArrayHolds, Pushed, Popped, Replaced};
-ghost use Rattle.verifier.specs.private.Pass.{Agrees};
+// The kinds of the values held as bits, so that a jump compares and keeps them whole, however many they are. An array has them too: it is right
+// for the last value, which the next instruction asks for. Below it, where only jumps reach a place, it may have the kinds of values that other
+// code held, so the one below comes from the bits.
+ghost use Rattle.std.specs.Prelude.{◌≡◌, ◌-◌, ◌/◌, ◌%◌, ◌^◌, ◌≤◌, ◌<◌, length};
 
-// How many, and a bit for each, the last pushed in the lowest: 1 for a real.
-#[derive(Clone, Copy)]
+use operators::kinds::INT;
+
+// How many, and a bit for each, the last pushed in the lowest: 1 for a real. No other bit is set, so that equal kinds are equal bits.
+#[derive(Clone, Copy, PartialEq)]
 pub struct Held {
     pub height: usize,
-    pub low: u64,
-    pub high: u64,
+    pub bits: u128,
+    ghost low: { height ≤ 128 },
+    ghost few: { bits < 2 ^ height },
 }
 
-// One more kind, in the lowest bit.
-pub fn pushed(w: Held, n: u8) -> Held
-    requires { (w.height < 128) × (w.high < 2 ^ 63) × (n < 2) }
-    ensures { Pushed n w result }
-{
-    let low = w.low;
-    let high = w.high;
-    Held {
-        height: w.height + 1,
-        low: low % 9223372036854775808 * 2 + (n as u64),
-        high: high * 2 + low / 9223372036854775808,
+impl Held {
+    ghost use Rattle.operators.specs.Kinds.{number_kind};
+    ghost use Rattle.std.specs.Prelude.{[], ◌∷◌};
+    ghost use Rattle.verifier.specs.private.Shapes.{kinds_of, below, ArrayHolds};
+
+    pub fn none() -> Held
+        ensures { kinds_of result ≡ [] }
+    {
+        Held { height: 0, bits: 0 }
     }
-}
 
-// Without the last, which is the lowest bit.
-pub fn popped(w: Held) -> Held
-    requires { 0 < w.height }
-    ensures { Popped w result }
-{
-    let low = w.low;
-    let high = w.high;
-    Held {
-        height: w.height - 1,
-        low: high % 2 * 9223372036854775808 + low / 2,
-        high: high / 2,
+    // One more kind, in the lowest bit.
+    pub fn pushed(self, n: u8) -> Held
+        requires { (self.height < 128) × (n < 2) }
+        ensures { kinds_of result ≡ number_kind n ∷ kinds_of self }
+    {
+        Held {
+            height: self.height + 1,
+            bits: self.bits * 2 + (n as u128),
+        }
     }
-}
 
-// Another kind for the last.
-pub fn replaced(w: Held, n: u8) -> Held
-    requires { n < 2 }
-    ensures { Replaced n w result }
-{
-    let low = w.low;
-    Held {
-        height: w.height,
-        low: low / 2 * 2 + (n as u64),
-        high: w.high,
+    // Without the last, which is the lowest bit.
+    pub fn popped(self) -> Held
+        requires { 0 < self.height }
+        ensures height { result.height ≡ self.height - 1 }
+        ensures rest { kinds_of result ≡ below (kinds_of self) }
+    {
+        Held {
+            height: self.height - 1,
+            bits: self.bits / 2,
+        }
     }
-}
 
-pub fn same(a: Held, b: Held) -> bool
-    requires { Canonical a × Canonical b }
-    ensures { Agrees result (kinds_of a) (kinds_of b) }
-{
-    if a.height != b.height {
-        return false;
+    // Another kind for the last.
+    pub fn replaced(self, n: u8) -> Held
+        requires { (0 < self.height) × (n < 2) }
+        ensures { kinds_of result ≡ number_kind n ∷ below (kinds_of self) }
+    {
+        Held {
+            height: self.height,
+            bits: self.bits / 2 * 2 + (n as u128),
+        }
     }
-    if a.low != b.low {
-        return false;
+
+    pub fn lowest(self) -> u8
+        ensures { result ≡ self.bits % 2 }
+    {
+        (self.bits % 2) as u8
     }
-    a.high == b.high
-}
 
-pub fn lowest(w: Held) -> u8
-    ensures { result ≡ word w % 2 }
-{
-    let low = w.low;
-    (low % 2) as u8
-}
-
-pub fn second(w: Held) -> u8
-    ensures { result ≡ word w / 2 % 2 }
-{
-    let low = w.low;
-    (low / 2 % 2) as u8
-}
-
-// The kind of the last comes from the bits, whatever the array has.
-pub fn uncover(kinds: &mut [u8; 128], w: Held)
-    requires { (length kinds.old ≡ 128) × Canonical w }
-    ensures { ArrayHolds kinds.new w }
-{
-    let h = w.height;
-    if h == 0 {
-        return;
+    pub fn second(self) -> u8
+        ensures { result ≡ self.bits / 2 % 2 }
+    {
+        (self.bits / 2 % 2) as u8
     }
-    kinds[h - 1] = lowest(w);
+
+    // The array gets the kind of the last.
+    pub fn note(self, kinds: &mut [u8; 128])
+        requires { length kinds.old ≡ 128 }
+        ensures { ArrayHolds kinds.new self }
+    {
+        if 0 < self.height {
+            kinds[self.height - 1] = self.lowest();
+        }
+    }
+
+    // The kind of the last from the array, and INT where nothing is held.
+    pub fn last(self, kinds: &[u8; 128]) -> u8
+        requires { ArrayHolds kinds.now self }
+        ensures { result ≡ self.bits % 2 }
+    {
+        if self.height == 0 {
+            return INT;
+        }
+        kinds[self.height - 1]
+    }
 }

@@ -2,4 +2,4 @@
 use Rattle.c_report.proofs.fill.Goals as goal
 
 pub returns : goal.returns
-returns c = rw (c.kind_number.ensures, c.bank_number-number.ensures, c.low-count.ensures, c.low-place.ensures)
+returns c = rw (c.kind_number.ensures, c.from-number.ensures, c.low-count.ensures, c.low-place.ensures)

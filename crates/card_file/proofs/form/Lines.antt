@@ -1,5 +1,5 @@
 -- The four lines, found one after the other: one law for each way through `card_form`. Assumes nothing.
-use mathlib.Core.Path.{◌≡◌, sym, ap, ◌∙◌}
+use mathlib.Core.Path.{◌≡◌, refl, sym, ap, ◌∙◌}
 use mathlib.Core.Bool.{Bool, true, false, ◌&&◌, cond, and-false}
 use mathlib.Core.List.{List}
 use Prim.Native.Nat.{ℕ, ◌+◌, ◌-◌, ◌≤◌, ◌<◌}
@@ -8,15 +8,19 @@ use lib.Dec.{ltb}
 use lib.ListN.{length, take, drop, length-drop}
 use lib.Seq.{drop-drop}
 use borrow.Author.Tests.{lt-ltb, le-ltb}
+use Rattle.std.specs.Prelude.{Some, None}
 use Rattle.lines.specs.Printing.{width_of}
 use Rattle.lines.proofs.printing.Digits.{length_digits}
 use Rattle.card_laws.specs.Lines.{field, field_of}
 use Rattle.card_laws.specs.Cards.{card_key, target_key, expr_key, check_key, Form, formed, out, card_number, is_check, numbered, with_check, with_expr}
 use Rattle.card_laws.specs.Cards.{with_target, with_number, card_form}
 use Rattle.card_laws.proofs.Cards.{number_is, five}
-use Rattle.card_file.specs.declared.form.Field.TheVariants.{Value, Wrong}
 use Rattle.card_file.specs.Spans.{length_in, target_at, expr_at, check_at, card_end, spans}
 use Rattle.card_file.proofs.form.Fields.{FieldIn, field_in, no_field}
+
+no_spans : None ≡ spans out
+unfolding spans
+no_spans = refl
 
 -- a line found at a place: its value, and where the next line begins
 record LineAt (s key : List ℕ) (at end : ℕ) (value after : List ℕ) : Type 0 where
@@ -48,11 +52,11 @@ pub record One (s : List ℕ) (a : ℕ) : Type 0 where
   pub text : take (a - 5) (drop 5 s) ≡ v
   pub rest : drop (a + 1) s ≡ r
 
-pub none_1 : (s : List ℕ) → Wrong ≡ length_in (field_of card_key (drop 0 s)) → spans out ≡ spans (card_form s)
+pub none_1 : (s : List ℕ) → None ≡ length_in (field_of card_key (drop 0 s)) → None ≡ spans (card_form s)
 unfolding card_form
-none_1 s e = ap spans (sym (ap with_number (no_field card_key s e)))
+none_1 s e = no_spans ∙ ap spans (sym (ap with_number (no_field card_key s e)))
 
-pub one : (s : List ℕ) (n : ℕ) → Value n ≡ length_in (field_of card_key (drop 0 s)) → One s (5 + n)
+pub one : (s : List ℕ) (n : ℕ) → Some n ≡ length_in (field_of card_key (drop 0 s)) → One s (5 + n)
 unfolding card_form
 one s n e =
     let f : FieldIn card_key s n = field_in card_key s n e in
@@ -78,11 +82,11 @@ pub record Two (s : List ℕ) (a b : ℕ) : Type 0 where
   pub inside : b + 1 ≤ length s
   pub rest : drop (b + 1) s ≡ r
 
-pub none_2 : (s : List ℕ) (a : ℕ) → One s a → Wrong ≡ length_in (field_of target_key (drop (a + 1) s)) → spans out ≡ spans (card_form s)
-none_2 s a o e = ap spans (sym (o.form ∙ ap (λ (l : List ℕ). with_target o.v (field_of target_key l)) (sym o.rest)
+pub none_2 : (s : List ℕ) (a : ℕ) → One s a → None ≡ length_in (field_of target_key (drop (a + 1) s)) → None ≡ spans (card_form s)
+none_2 s a o e = no_spans ∙ ap spans (sym (o.form ∙ ap (λ (l : List ℕ). with_target o.v (field_of target_key l)) (sym o.rest)
     ∙ ap (with_target o.v) (no_field target_key (drop (a + 1) s) e)))
 
-pub two : (s : List ℕ) (a n : ℕ) → One s a → Value n ≡ length_in (field_of target_key (drop (a + 1) s)) → Two s a (a + 8 + n)
+pub two : (s : List ℕ) (a n : ℕ) → One s a → Some n ≡ length_in (field_of target_key (drop (a + 1) s)) → Two s a (a + 8 + n)
 two s a n o e =
     let f : FieldIn target_key (drop (a + 1) s) n = field_in target_key (drop (a + 1) s) n e in
     let l : LineAt s target_key (a + 1) (a + 8 + n) f.value f.after = line_at s target_key (a + 1) n (a + 8 + n) o.inside (omega arith) f in
@@ -106,12 +110,12 @@ pub record Three (s : List ℕ) (a b c : ℕ) : Type 0 where
   pub inside : c + 1 ≤ length s
   pub rest : drop (c + 1) s ≡ r
 
-pub none-3 : (s : List ℕ) (a b : ℕ) → Two s a b → Wrong ≡ length_in (field_of expr_key (drop (b + 1) s)) → spans out ≡ spans (card_form s)
+pub none-3 : (s : List ℕ) (a b : ℕ) → Two s a b → None ≡ length_in (field_of expr_key (drop (b + 1) s)) → None ≡ spans (card_form s)
 none-3 s a b o e =
-    ap spans (sym (o.form ∙ ap (λ (l : List ℕ). with_expr o.one.v o.t (field_of expr_key l)) (sym o.rest)
+    no_spans ∙ ap spans (sym (o.form ∙ ap (λ (l : List ℕ). with_expr o.one.v o.t (field_of expr_key l)) (sym o.rest)
     ∙ ap (with_expr o.one.v o.t) (no_field expr_key (drop (b + 1) s) e)))
 
-pub three : (s : List ℕ) (a b n : ℕ) → Two s a b → Value n ≡ length_in (field_of expr_key (drop (b + 1) s)) → Three s a b (b + 6 + n)
+pub three : (s : List ℕ) (a b n : ℕ) → Two s a b → Some n ≡ length_in (field_of expr_key (drop (b + 1) s)) → Three s a b (b + 6 + n)
 three s a b n o e =
     let f : FieldIn expr_key (drop (b + 1) s) n = field_in expr_key (drop (b + 1) s) n e in
     let l : LineAt s expr_key (b + 1) (b + 6 + n) f.value f.after = line_at s expr_key (b + 1) n (b + 6 + n) o.inside (omega arith) f in
@@ -135,12 +139,12 @@ pub record Four (s : List ℕ) (a b c d : ℕ) : Type 0 where
   pub inside : d + 1 ≤ length s
   pub text : take (d - (c + 7)) (drop (c + 7) s) ≡ k
 
-pub none-4 : (s : List ℕ) (a b c : ℕ) → Three s a b c → Wrong ≡ length_in (field_of check_key (drop (c + 1) s)) → spans out ≡ spans (card_form s)
+pub none-4 : (s : List ℕ) (a b c : ℕ) → Three s a b c → None ≡ length_in (field_of check_key (drop (c + 1) s)) → None ≡ spans (card_form s)
 none-4 s a b c o e =
-    ap spans (sym (o.form ∙ ap (λ (l : List ℕ). with_check o.two.one.v o.two.t o.e (field_of check_key l)) (sym o.rest)
+    no_spans ∙ ap spans (sym (o.form ∙ ap (λ (l : List ℕ). with_check o.two.one.v o.two.t o.e (field_of check_key l)) (sym o.rest)
     ∙ ap (with_check o.two.one.v o.two.t o.e) (no_field check_key (drop (c + 1) s) e)))
 
-pub four : (s : List ℕ) (a b c n : ℕ) → Three s a b c → Value n ≡ length_in (field_of check_key (drop (c + 1) s)) → Four s a b c (c + 7 + n)
+pub four : (s : List ℕ) (a b c n : ℕ) → Three s a b c → Some n ≡ length_in (field_of check_key (drop (c + 1) s)) → Four s a b c (c + 7 + n)
 four s a b c n o e =
     let f : FieldIn check_key (drop (c + 1) s) n = field_in check_key (drop (c + 1) s) n e in
     let l : LineAt s check_key (c + 1) (c + 7 + n) f.value f.after = line_at s check_key (c + 1) n (c + 7 + n) o.inside (omega arith) f in
@@ -168,19 +172,19 @@ module _ (s : List ℕ) (a b c d n : ℕ) (o : Four s a b c d) (u : n ≡ card_n
   form : card_form s ≡ cond (ltb 0 n && is_check o.k) Whole out
   form = o.form ∙ ap (λ (m : ℕ). numbered m o.three.two.t o.three.e o.k o.r) number
 
-  pub zero_number : n ≡ 0 → spans out ≡ spans (card_form s)
-  zero_number z = ap spans (sym (form ∙ ap (λ (t : Bool). cond (t && is_check o.k) Whole out) (le-ltb 0 n (omega arith))))
+  pub zero_number : n ≡ 0 → None ≡ spans (card_form s)
+  zero_number z = no_spans ∙ ap spans (sym (form ∙ ap (λ (t : Bool). cond (t && is_check o.k) Whole out) (le-ltb 0 n (omega arith))))
 
   module _ {t : Bool} (v : t ≡ is_check (take (d - (c + 7)) (drop (c + 7) s))) where
     check : is_check o.k ≡ t
     check = sym (v ∙ ap is_check o.text)
 
-    pub no-check : t ≡ false → spans out ≡ spans (card_form s)
-    no-check z = ap spans (sym (form ∙ ap (λ (x : Bool). cond (ltb 0 n && x) Whole out) (check ∙ z)
+    pub no-check : t ≡ false → None ≡ spans (card_form s)
+    no-check z = no_spans ∙ ap spans (sym (form ∙ ap (λ (x : Bool). cond (ltb 0 n && x) Whole out) (check ∙ z)
         ∙ ap (λ (x : Bool). cond x Whole out) (and-false (ltb 0 n))))
 
     pub whole : (n ≡ 0 → ⊥) → t ≡ true
-        → record { good = true; number = n; target = a + 8; expr = b + 6; check = c + 7; end = d + 1 } ≡ spans (card_form s)
+        → Some (record { number = n; target = a + 8; expr = b + 6; check = c + 7; end = d + 1 }) ≡ spans (card_form s)
     unfolding spans
     whole p z =
         let positive : 0 < n = omega (arith, p) in

@@ -7,6 +7,7 @@ use native.Mathlib.Omega.{arith}
 use lib.Dec.{ltb}
 use lib.ListN.{length, take, drop, length-append}
 use lib.Seq.{take_at, drop_at}
+use Rattle.std.specs.Prelude.{Some, None, Result, Ok, Err, is_some}
 use Rattle.tokens.specs.Symbols.{equal_bytes}
 use Rattle.lines.specs.Printing.{width_of, low_digits}
 use Rattle.lines.proofs.printing.Digits.{length_digits}
@@ -15,26 +16,25 @@ use Rattle.text.specs.Judge as Judge
 use Rattle.text.specs.Targets.{Target, to_cell, to_indexed, no_target, target_of}
 use Rattle.memory.specs.declared.Bank.{Bank}
 use Rattle.targets.specs.declared.Element.{Element}
-use Rattle.targets.specs.declared.Found.TheVariants.{In, Other}
 use Rattle.targets.specs.Found.{found_of}
-use Rattle.compiler.specs.declared.Coded.TheVariants.{Done, Refused}
 use Rattle.compiler.specs.Compile.{coded_answer}
-use Rattle.card_laws.specs.declared.Verdict.{Verdict}
-use Rattle.card_laws.specs.declared.Verdict.TheVariants.{Fine, Refusal}
+use Rattle.card_laws.specs.Verdicts.{Verdict}
 use Rattle.card_laws.specs.Lines.{ended}
 use Rattle.card_laws.specs.Cards.{card, target_key, expr_key, check_key, card_line, check_of, checked_lines, check_text, Form, formed, out, card_form}
 use Rattle.card_laws.specs.Reading.{unless_refused, judged}
 use Rattle.card_laws.specs.Formulas.{judged_expr, judged_target, formula_answer}
 use Rattle.card_laws.proofs.Cards.{Formed, form-is, five, ended-append}
 use Rattle.card_file.specs.declared.form.FourLines.{FourLines}
-use Rattle.card_file.specs.Spans.{spans, verdict_in, is_target, target_test}
+use Rattle.card_file.specs.Spans.{card_places, spans, places_in, is_target, target_test}
+use Rattle.compiler.specs.Compile.{refusal}
+use Rattle.targets.proofs.Pairs.{answer-is}
 
 -- ---- the formula
-pub no_target_lem : (t e : List ℕ) → false ≡ is_target t → Refusal 2 ≡ formula_answer t e
+pub no_target_lem : (t e : List ℕ) → false ≡ is_target t → Err 2 ≡ formula_answer t e
 unfolding formula_answer
 no_target_lem t e h = by (target_of t) h
   where
-    by : (x : Target) → false ≡ target_test x → Refusal 2 ≡ judged_target x (judged_expr (judge e))
+    by : (x : Target) → false ≡ target_test x → Err 2 ≡ judged_target x (judged_expr (judge e))
     by (to_cell b i) w = absurd (let z : ◌≡◌ {A = ℕ} 0 1 = cc in omega arith)
     by (to_indexed b i) w = absurd (let z : ◌≡◌ {A = ℕ} 0 1 = cc in omega arith)
     by no_target w = refl
@@ -48,19 +48,19 @@ a-target t e h = by (target_of t) h
     by (to_indexed b i) w = refl
     by no_target w = absurd (let z : ◌≡◌ {A = ℕ} 0 1 = cc in omega arith)
 
-pub accepted-formula : (t e : List ℕ) (n : ℕ) → true ≡ is_target t → Done n ≡ coded_answer (judge e) → Fine ≡ formula_answer t e
+pub accepted-formula : (t e : List ℕ) (n : ℕ) → true ≡ is_target t → Ok n ≡ coded_answer (judge e) → Ok tt ≡ formula_answer t e
 accepted-formula t e n h q = by (judge e) q ∙ a-target t e h
   where
-    by : (j : Judgement) → Done n ≡ coded_answer j → Fine ≡ judged_expr j
+    by : (j : Judgement) → Ok n ≡ coded_answer j → Ok tt ≡ judged_expr j
     by (accepted x) w = refl
     by (Judge.refused a p) w = absurd (let z : ◌≡◌ {A = ℕ} 0 1 = cc in omega arith)
 
-pub refused-formula : (t e : List ℕ) (a p : ℕ) → true ≡ is_target t → Refused a p ≡ coded_answer (judge e) → Refusal a ≡ formula_answer t e
+pub refused-formula : (t e : List ℕ) (a p : ℕ) → true ≡ is_target t → Err (refusal a p) ≡ coded_answer (judge e) → Err a ≡ formula_answer t e
 refused-formula t e a p h q = by (judge e) q ∙ a-target t e h
   where
-    by : (j : Judgement) → Refused a p ≡ coded_answer j → Refusal a ≡ judged_expr j
+    by : (j : Judgement) → Err (refusal a p) ≡ coded_answer j → Err a ≡ judged_expr j
     by (accepted x) w = absurd (let z : ◌≡◌ {A = ℕ} 0 1 = cc in omega arith)
-    by (Judge.refused b q) w = let e : a ≡ b = cc in ap Refusal e
+    by (Judge.refused b q) w = ap Err (answer-is w)
 
 -- ---- the parts
 part : (s p m q : List ℕ) (a n : ℕ) → s ≡ p ++ (m ++ q) → a ≡ length p → n ≡ length m → take n (drop a s) ≡ m
@@ -73,6 +73,7 @@ pub record Parts (s : List ℕ) (f : FourLines) : Type 0 where
   pub k : List ℕ
   pub r : List ℕ
   pub form : card_form s ≡ formed n t e k r
+  pub places : f ≡ card_places (card n t e)
   pub number : f.number ≡ n
   pub target_at : f.target ≡ 13 + width_of n
   pub expr-at : f.expr ≡ 19 + width_of n + length t
@@ -84,13 +85,14 @@ pub record Parts (s : List ℕ) (f : FourLines) : Type 0 where
   pub expr : take (f.check - 7 - f.expr) (drop f.expr s) ≡ e
   pub check : take (f.check + 5 - f.check) (drop f.check s) ≡ k
 
-pub parts : (s : List ℕ) (f : FourLines) → f ≡ spans (card_form s) → f.good ≡ true → Parts s f
+pub parts : (s : List ℕ) (f : FourLines) → Some f ≡ spans (card_form s) → Parts s f
 unfolding spans
-parts s f h g = go (card_form s) refl h
+parts s f h = go (card_form s) refl h
   where
-    go : (x : Form) → card_form s ≡ x → f ≡ spans x → Parts s f
-    go out q w = absurd (let z : false ≡ true = sym (ap (λ (l : FourLines). l.good) w) ∙ g in let i : ◌≡◌ {A = ℕ} 0 1 = cc in omega arith)
-    go (formed n t e k r) q w =
+    go : (x : Form) → card_form s ≡ x → Some f ≡ spans x → Parts s f
+    go out q z = absurd (let i : ◌≡◌ {A = ℕ} 0 1 = cc in omega arith)
+    go (formed n t e k r) q z =
+        let w : f ≡ card_places (card n t e) = cc in
         let i : Formed s n t e k r = form-is s n t e k r q in
         let width : length (card_line n) ≡ 5 + width_of n = omega (arith, length_digits 10 (width_of n) n) in
         let five-long : length k ≡ 5 = (five k i.digits).0 in
@@ -132,6 +134,7 @@ parts s f h g = go (card_form s) refl h
           k = k;
           r = r;
           form = q;
+          places = w;
           number = ap (λ (l : FourLines). l.number) w;
           target_at = f1;
           expr-at = f2;
@@ -153,14 +156,18 @@ parts s f h g = go (card_form s) refl h
         }
 
 -- ---- the judgement
-pub out_of_form : (s : List ℕ) (last : ℕ) (f : FourLines) → f ≡ spans (card_form s) → f.good ≡ false
-    → Refusal 16 ≡ verdict_in (judged formula_answer last (card_form s))
+pub out_of_form : (s : List ℕ) (last : ℕ) → None ≡ spans (card_form s) → Err 16 ≡ places_in (judged formula_answer last (card_form s))
 unfolding spans judged
-out_of_form s last f h g = go (card_form s) h
+out_of_form s last h = go (card_form s) h
   where
-    go : (x : Form) → f ≡ spans x → Refusal 16 ≡ verdict_in (judged formula_answer last x)
+    go : (x : Form) → None ≡ spans x → Err 16 ≡ places_in (judged formula_answer last x)
     go out w = refl
-    go (formed n t e k r) w = absurd (let z : true ≡ false = sym (ap (λ (l : FourLines). l.good) w) ∙ g in let i : ◌≡◌ {A = ℕ} 0 1 = cc in omega arith)
+    go (formed n t e k r) w = absurd (let i : ◌≡◌ {A = ℕ} 0 1 = cc in omega arith)
+
+-- a formula's verdict on a card whose lines stand so
+abbrev pub with_places : FourLines → Verdict → Result FourLines ℕ
+with_places f (Ok _) = Ok f
+with_places f (Err a) = Err a
 
 module _ (s : List ℕ) (last : ℕ) (f : FourLines) (p : Parts s f) {ds : List ℕ} {sum : ℕ}
     (u : sum ≡ check_of (take (f.check - 7 + 1 - (f.target - 7)) (drop (f.target - 7) s))) (v : ds ≡ low_digits 10 5 sum) where
@@ -172,42 +179,31 @@ module _ (s : List ℕ) (last : ℕ) (f : FourLines) (p : Parts s f) {ds : List 
     same : equal_bytes p.k (check_text p.t p.e) ≡ t
     same = sym (w ∙ ap (λ (l : List ℕ). equal_bytes l ds) p.check ∙ ap (equal_bytes p.k) digits)
 
-    pub check-differs : {a : ℕ} → a ≡ 17 → t ≡ false → Refusal a ≡ verdict_in (judged formula_answer last (card_form s))
+    pub check-differs : {a : ℕ} → a ≡ 17 → t ≡ false → Err a ≡ places_in (judged formula_answer last (card_form s))
     unfolding judged
-    check-differs is z = rw (p.form, same ∙ z) (ap Refusal is)
+    check-differs is z = rw (p.form, same ∙ z) (ap Err is)
 
     module _ (z : t ≡ true) where
       above : {x y : Bool} → y ≡ ltb last f.number → y ≡ x → ltb last p.n ≡ x
       above e h = ap (ltb last) (sym p.number) ∙ sym e ∙ h
 
-      pub not_above : {y : Bool} → y ≡ ltb last f.number → y ≡ false → Refusal 18 ≡ verdict_in (judged formula_answer last (card_form s))
+      pub not_above : {y : Bool} → y ≡ ltb last f.number → y ≡ false → Err 18 ≡ places_in (judged formula_answer last (card_form s))
       unfolding judged
       not_above e h = rw (p.form, same ∙ z, above e h)
 
-      pub own : {r : Verdict} → r ≡ formula_answer (take (f.expr - 6 - f.target) (drop f.target s)) (take (f.check - 7 - f.expr) (drop f.expr s))
-          → {y : Bool} → y ≡ ltb last f.number → y ≡ true → r ≡ verdict_in (judged formula_answer last (card_form s))
+      pub own : {v : Verdict} → v ≡ formula_answer (take (f.expr - 6 - f.target) (drop f.target s)) (take (f.check - 7 - f.expr) (drop f.expr s))
+          → {y : Bool} → y ≡ ltb last f.number → y ≡ true → with_places f v ≡ places_in (judged formula_answer last (card_form s))
       unfolding judged
-      own {r} q {y} g h =
-          let i : r ≡ formula_answer p.t p.e = q ∙ ap (λ (l : List ℕ). formula_answer l _) p.target ∙ ap (formula_answer p.t) p.expr in
-          i ∙ sym (rw (p.form, same ∙ z, above g h) (by (formula_answer p.t p.e)))
+      own {v} q {y} g h =
+          let i : v ≡ formula_answer p.t p.e = q ∙ ap (λ (l : List ℕ). formula_answer l _) p.target ∙ ap (formula_answer p.t) p.expr in
+          ap (with_places f) i ∙ sym (rw (p.form, same ∙ z, above g h) (by (formula_answer p.t p.e)))
         where
-          by : (x : Verdict) → verdict_in (unless_refused (card p.n p.t p.e) p.r x) ≡ x
-          by Fine = refl
-          by (Refusal a) = refl
+          by : (x : Verdict) → places_in (unless_refused (card p.n p.t p.e) p.r x) ≡ with_places f x
+          by (Ok _) = ap Ok (sym p.places)
+          by (Err a) = refl
 
 -- ---- the target
-pub in-bank : (s : List ℕ) (b : Bank) (e : Element) → In b e ≡ found_of (target_of s) → true ≡ is_target s
-in-bank s b e q = by (target_of s) q
-  where
-    by : (x : Target) → In b e ≡ found_of x → true ≡ target_test x
-    by (to_cell c i) w = refl
-    by (to_indexed c t) w = refl
-    by no_target w = absurd (let z : ◌≡◌ {A = ℕ} 0 1 = cc in omega arith)
-
-pub in-none : (s : List ℕ) → Other ≡ found_of (target_of s) → false ≡ is_target s
-in-none s q = by (target_of s) q
-  where
-    by : (x : Target) → Other ≡ found_of x → false ≡ target_test x
-    by (to_cell c i) w = absurd (let z : ◌≡◌ {A = ℕ} 0 1 = cc in omega arith)
-    by (to_indexed c t) w = absurd (let z : ◌≡◌ {A = ℕ} 0 1 = cc in omega arith)
-    by no_target w = refl
+pub found-some : (g : Target) → is_some (found_of g) ≡ target_test g
+found-some (to_cell b i) = refl
+found-some (to_indexed b t) = refl
+found-some no_target = refl

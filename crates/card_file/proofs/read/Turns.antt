@@ -7,11 +7,11 @@ use native.Mathlib.Nat.{add-zero}
 use native.Mathlib.Omega.{arith}
 use lib.ListN.{length, take, drop, set, replicate, length-append, length-drop, length-replicate, drop_of_length-le}
 use lib.Seq.{sets, set_comm, drop_at, drop-drop, length-sets}
+use Rattle.std.specs.Prelude.{Some, Ok, Err}
 use Rattle.words.proofs.Lists.{rest_of}
 use Rattle.lines.specs.Printing.{width_of}
 use Rattle.lines.specs.private.Steps.{Puts}
 use Rattle.lines.proofs.Stores.{then}
-use Rattle.card_laws.specs.declared.Verdict.TheVariants.{Fine, Refusal}
 use Rattle.card_laws.specs.Cards.{Card, card, number_of, card_bytes, cards_bytes, Form, formed, out, card_form}
 use Rattle.card_laws.specs.Reading.{CardRead, taken, refused, good, bad, then_cards, last_of, judged, read_card, read_from}
 use Rattle.card_laws.specs.Reading.{read_cards, GoodCard, Valid, none, next}
@@ -21,7 +21,7 @@ use Rattle.card_laws.proofs.Cards.{Judged, judged-is, Stands, card-is}
 use Rattle.card_laws.proofs.Reading.{step, end, also_cards, also-good, also-bad, also-append, last-append, cards-append, card-size, card-some}
 use Rattle.card_laws.proofs.Reading.{valid-append, Sizes, sizes, good-size, not-nothing}
 use Rattle.card_file.specs.declared.form.FourLines.{FourLines}
-use Rattle.card_file.specs.Spans.{spans, verdict_in}
+use Rattle.card_file.specs.Spans.{card_places, spans, places_in}
 use Rattle.card_file.specs.Words.{card_words, cards_words, read_words, span_words, SmallSpans}
 use Rattle.card_file.proofs.judging.Parts.{Parts, parts}
 
@@ -37,23 +37,26 @@ pub record Taken (d : List ℕ) (last : ℕ) (f : FourLines) : Type 0 where
   pub words : (at : ℕ) → span_words at f ≡ card_words at c
   pub order : (f.target + 6 ≤ f.expr) × (f.expr + 7 ≤ f.check) × (f.check ≤ f.end)
 
-verdict-taken : (x : CardRead) → Fine ≡ verdict_in x → (c : Card) × (r : List ℕ) × (x ≡ taken c r)
-verdict-taken (taken c r) e = (c, r, refl)
-verdict-taken (refused a) e = absurd (let z : ◌≡◌ {A = ℕ} 0 1 = cc in omega arith)
+places-taken : (x : CardRead) {f : FourLines} → Ok f ≡ places_in x → (c : Card) × (r : List ℕ) × (x ≡ taken c r) × (f ≡ card_places c)
+places-taken (taken c r) {f} e = (c, r, refl, cc)
+places-taken (refused a) e = absurd (let z : ◌≡◌ {A = ℕ} 0 1 = cc in omega arith)
 
-not-out : (d : List ℕ) (last : ℕ) (f : FourLines) → f ≡ spans (card_form d) → Fine ≡ verdict_in (judged formula_answer last (card_form d)) → f.good ≡ true
+-- a card that is taken stands in its form
+in_form : (d : List ℕ) (last : ℕ) (f : FourLines) → Ok f ≡ places_in (judged formula_answer last (card_form d)) → Some f ≡ spans (card_form d)
 unfolding spans judged
-not-out d last f e v = go (card_form d) e v
+in_form d last f v = go (card_form d) v
   where
-    go : (x : Form) → f ≡ spans x → Fine ≡ verdict_in (judged formula_answer last x) → f.good ≡ true
-    go out q w = absurd (let z : ◌≡◌ {A = ℕ} 0 1 = cc in omega arith)
-    go (formed n t e k r) q w = ap (λ (l : FourLines). l.good) q
+    go : (x : Form) → Ok f ≡ places_in (judged formula_answer last x) → Some f ≡ spans x
+    go out w = absurd (let z : ◌≡◌ {A = ℕ} 0 1 = cc in omega arith)
+    go (formed n t e k r) w =
+        let q = places-taken (judged formula_answer last (formed n t e k r)) w in
+        let j : Judged formula_answer last n t e k r q.0 q.1 = judged-is formula_answer last n t e k r q.0 q.1 q.2 in
+        ap Some (q.3 ∙ ap card_places (sym j.card-is))
 
-pub card-taken : (d : List ℕ) (last : ℕ) (f : FourLines) → f ≡ spans (card_form d) → Fine ≡ verdict_in (judged formula_answer last (card_form d)) →
-    Taken d last f
-card-taken d last f e v =
-    let p : Parts d f = parts d f e (not-out d last f e v) in
-    let q = verdict-taken (judged formula_answer last (card_form d)) v in
+pub card-taken : (d : List ℕ) (last : ℕ) (f : FourLines) → Ok f ≡ places_in (judged formula_answer last (card_form d)) → Taken d last f
+card-taken d last f v =
+    let p : Parts d f = parts d f (in_form d last f v) in
+    let q = places-taken (judged formula_answer last (card_form d)) v in
     let s : Stands formula_answer last d q.0 q.1 = card-is formula_answer last d q.0 q.1 q.2 in
     let j : Judged formula_answer last p.n p.t p.e p.k p.r q.0 q.1 =
     judged-is formula_answer last p.n p.t p.e p.k p.r q.0 q.1 (ap (judged formula_answer last) (sym p.form) ∙ q.2) in
@@ -159,13 +162,13 @@ one_more {file} {words} {at} {to} {last} {count} g h =
     ∙ ap (also_cards g.cards) (step formula_answer (g.fuel - 1) last at (drop at file) (not-nothing (drop at file) (omega (arith, length-drop at file))))
 
 pub stopped : {file words : List ℕ} {at to last count a : ℕ} → (g : Reading file words at to last count) → at < length file
-    → Refusal a ≡ verdict_in (judged formula_answer last (card_form (drop at file))) → read_words (bad a at) ≡ read_words (read_cards formula_answer file)
+    → Err a ≡ places_in (judged formula_answer last (card_form (drop at file))) → read_words (bad a at) ≡ read_words (read_cards formula_answer file)
 stopped {file} {words} {at} {to} {last} {count} {a} g h v =
     ap read_words (sym (one_more g h ∙ ap (λ (x : CardRead). also_cards g.cards
     (then_cards at x (λ c r. read_from formula_answer (g.fuel - 1) (number_of c) (at + length (card_bytes c)) r)))
     (by (read_card formula_answer last (drop at file)) v) ∙ also-bad g.cards a at))
   where
-    by : (x : CardRead) → Refusal a ≡ verdict_in x → x ≡ refused a
+    by : (x : CardRead) → Err a ≡ places_in x → x ≡ refused a
     by (taken c r) e = absurd (let z : ◌≡◌ {A = ℕ} 0 1 = cc in omega arith)
     by (refused b) e = let q : a ≡ b = cc in ap refused (sym q)
 
@@ -230,15 +233,14 @@ finished {file} {words} {at} {to} {last} {count} g h =
 abbrev Rest : List ℕ → ℕ → List ℕ
 Rest file at = take (length file - at) (drop at file)
 
-pub taken_at : (file : List ℕ) (at last : ℕ) (f : FourLines) → f ≡ spans (card_form (Rest file at))
-    → Fine ≡ verdict_in (judged formula_answer last (card_form (Rest file at))) → Taken (drop at file) last f
-taken_at file at last f e v =
-    card-taken (drop at file) last f (e ∙ ap (λ (s : List ℕ). spans (card_form s)) (rest_of file at))
-    (v ∙ ap (λ (s : List ℕ). verdict_in (judged formula_answer last (card_form s))) (rest_of file at))
+pub taken_at : (file : List ℕ) (at last : ℕ) (f : FourLines) → Ok f ≡ places_in (judged formula_answer last (card_form (Rest file at)))
+    → Taken (drop at file) last f
+taken_at file at last f v =
+    card-taken (drop at file) last f (v ∙ ap (λ (s : List ℕ). places_in (judged formula_answer last (card_form s))) (rest_of file at))
 
 pub stopped-at : {file words : List ℕ} {at to last count a : ℕ} → Reading file words at to last count → at < length file
-    → Refusal a ≡ verdict_in (judged formula_answer last (card_form (Rest file at))) → read_words (bad a at) ≡ read_words (read_cards formula_answer file)
-stopped-at {file} {words} {at} {to} {last} g h v = stopped g h (v ∙ ap (λ (s : List ℕ). verdict_in (judged formula_answer last (card_form s)))
+    → Err a ≡ places_in (judged formula_answer last (card_form (Rest file at))) → read_words (bad a at) ≡ read_words (read_cards formula_answer file)
+stopped-at {file} {words} {at} {to} {last} g h v = stopped g h (v ∙ ap (λ (s : List ℕ). places_in (judged formula_answer last (card_form s)))
     (rest_of file at))
 
 pub long : {file words : List ℕ} {at to last count : ℕ} → Reading file words at to last count → length words ≡ 323

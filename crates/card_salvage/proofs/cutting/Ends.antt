@@ -1,5 +1,5 @@
 -- Where a part ends, byte after byte: one law for each way through `card_begins`, `ends_at` and `part_end`. Assumes nothing.
-use mathlib.Core.Path.{◌≡◌, refl, sym, ap, ◌∙◌}
+use mathlib.Core.Path.{◌≡◌, refl, sym, ap, subst, ◌∙◌}
 use mathlib.Core.Bool.{Bool, true, false, ◌&&◌, cond}
 use mathlib.Core.List.{List, [], ◌∷◌, ◌++◌, append_assoc}
 use Prim.Native.Nat.{ℕ, suc, ◌+◌, ◌-◌, ◌≤◌, ◌<◌}
@@ -82,8 +82,8 @@ module _ (f : List ℕ) (at i : ℕ) (w : Within f at i) where
   pub ends : true ≡ card_follows (get_or f i 0) (drop (i + 1) f) → PartTo f at (i + 1)
   ends e = ends-here (cut-here f i w.inside true e)
 
-  pub file-ends : length f ≤ i + 1 → PartTo f at (i + 1)
-  file-ends h = ends-here (cut-here f i w.inside (card_follows (get_or f i 0) (drop (i + 1) f)) refl ∙ by (card_follows (get_or f i 0) (drop (i + 1) f)))
+  pub file-ends : length f ≤ i + 1 → PartTo f at (length f)
+  file-ends h = let e : i + 1 ≡ length f = omega (arith, w.inside) in subst (PartTo f at) e (ends-here (cut-here f i w.inside (card_follows (get_or f i 0) (drop (i + 1) f)) refl ∙ by (card_follows (get_or f i 0) (drop (i + 1) f))))
     where
       none : drop (i + 1) f ≡ []
       none = drop_of_length-le f {i = i + 1} h

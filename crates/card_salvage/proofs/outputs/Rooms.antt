@@ -7,10 +7,10 @@ use native.Mathlib.Omega.{arith}
 use lib.Dec.{leb}
 use lib.ListN.{length, take, drop, length-append}
 use borrow.Author.Tests.{le-leb, lt-leb}
+use Rattle.std.specs.Prelude.{Result}
 use Rattle.card_laws.specs.Formulas.{formula_answer}
 use Rattle.salvage_laws.specs.Salvage.{Part, kept_bytes, named_bytes, salvaged, fits}
 use Rattle.salvage_laws.proofs.Theorems.{salvage-theorems}
-use Rattle.card_salvage.specs.declared.answers.Answer.{Answer}
 use Rattle.card_salvage.specs.private.Steps.{last_in, kept_of, kept_size, name_of}
 use Rattle.card_salvage.proofs.outputs.Taken.{parts_left, none_left, Taken}
 
@@ -34,13 +34,13 @@ pub record Rooms (f : List ℕ) (room other left named-left at last : ℕ) : Typ
 pub start : (f : List ℕ) (room other : ℕ) → Rooms f room other room other 0 0
 start f room other = record { kept = refl; named = refl }
 
-kept_next : {f : List ℕ} {last at end : ℕ} {a : Answer} → Taken f last at end a
+kept_next : {f : List ℕ} {last at end : ℕ} {a : Result ℕ ℕ} → Taken f last at end a
     → length (kept_bytes (parts_left f last at)) ≡ kept_size a (end - at) + length (kept_bytes (parts_left f (last_in last a) end))
 kept_next {f} {last} {at} {end} {a} t =
     ap length t.kept ∙ length-append (kept_of a (take (end - at) (drop at f))) (kept_bytes (parts_left f (last_in last a) end))
     ∙ ap (λ (n : ℕ). n + length (kept_bytes (parts_left f (last_in last a) end))) (sym t.size)
 
-named-next : {f : List ℕ} {last at end : ℕ} {a : Answer} → Taken f last at end a
+named-next : {f : List ℕ} {last at end : ℕ} {a : Result ℕ ℕ} → Taken f last at end a
     → length (named_bytes (parts_left f last at)) ≡ length (name_of a at (end - at)) + length (named_bytes (parts_left f (last_in last a) end))
 named-next {f} {last} {at} {end} {a} t = ap length t.named ∙ length-append (name_of a at (end - at)) (named_bytes (parts_left f (last_in last a) end))
 
@@ -51,17 +51,17 @@ module _ {f : List ℕ} {room other left named-left at last : ℕ} (r : Rooms f 
   abbrev named-bytes : List ℕ
   named-bytes = named_bytes (salvaged formula_answer f)
 
-  pub no_room : {end n : ℕ} {a : Answer} → Taken f last at end a → n ≡ kept_size a (end - at) → left < n → false ≡ fits room other (salvaged formula_answer f)
+  pub no_room : {end n : ℕ} {a : Result ℕ ℕ} → Taken f last at end a → n ≡ kept_size a (end - at) → left < n → false ≡ fits room other (salvaged formula_answer f)
   no_room t e h =
       sym (ap (λ (b : Bool). b && leb (length named-bytes) other) (lt-leb (length kept-bytes) room (omega (arith, r.kept, kept_next t, e))))
 
-  pub no-room-named : {end n : ℕ} {a : Answer} → Taken f last at end a → n ≡ length (name_of a at (end - at)) → named-left < n
+  pub no-room-named : {end n : ℕ} {a : Result ℕ ℕ} → Taken f last at end a → n ≡ length (name_of a at (end - at)) → named-left < n
       → false ≡ fits room other (salvaged formula_answer f)
   no-room-named t e h =
       sym (ap (λ (b : Bool). leb (length kept-bytes) room && b) (lt-leb (length named-bytes) other (omega (arith, r.named, named-next t, e)))
       ∙ and-false (leb (length kept-bytes) room))
 
-  pub next : {end n m : ℕ} {a : Answer} → Taken f last at end a → n ≡ kept_size a (end - at) → m ≡ length (name_of a at (end - at)) → n ≤ left
+  pub next : {end n m : ℕ} {a : Result ℕ ℕ} → Taken f last at end a → n ≡ kept_size a (end - at) → m ≡ length (name_of a at (end - at)) → n ≤ left
       → m ≤ named-left
       → {last' : ℕ} → last' ≡ last_in last a → Rooms f room other (left - n) (named-left - m) end last'
   next {end} {n} {m} {a} t e d h k {last'} l =

@@ -5,13 +5,13 @@ use Prim.Native.Nat.{ℕ, ◌+◌, ◌-◌, ◌≤◌}
 use native.Mathlib.Omega.{arith}
 use lib.ListN.{length, take, drop, length-append}
 use lib.Seq.{length-sets}
+use Rattle.std.specs.Prelude.{Result}
 use Rattle.words.specs.Ascii.{ascii}
 use Rattle.lines.specs.Printing.{decimal_text}
 use Rattle.lines.specs.private.Steps.{Puts}
 use Rattle.lines.proofs.Stores.{then, as-text}
 use Rattle.card_laws.specs.Formulas.{formula_answer}
 use Rattle.salvage_laws.specs.Salvage.{kept_bytes, named_bytes, name_lines, salvaged}
-use Rattle.card_salvage.specs.declared.answers.Answer.{Answer}
 use Rattle.card_salvage.specs.private.Steps.{last_in, kept_of, name_of}
 use Rattle.card_salvage.proofs.outputs.Taken.{parts_left, none_left, Taken}
 
@@ -53,7 +53,7 @@ module _ {f old old' now now' : List ℕ} {kept_at named-at at last : ℕ} (w : 
   pub named-long : length now' ≡ length old'
   named-long = put-long w.named
 
-  module _ {end : ℕ} {a : Answer} (t : Taken f last at end a) where
+  module _ {end : ℕ} {a : Result ℕ ℕ} (t : Taken f last at end a) where
     pub room : length (kept_bytes (salvaged formula_answer f)) ≤ length old → kept_at + length (kept_of a (take (end - at) (drop at f))) ≤ length now
     room h = put-room w.kept (kept_of a (take (end - at) (drop at f))) (kept_bytes (parts_left f (last_in last a) end)) t.kept h
 

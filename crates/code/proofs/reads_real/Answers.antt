@@ -1,24 +1,27 @@
 -- `code::reads_real` meets its contract: an arm for each class that reads a bank, and one for the others.
-use mathlib.Core.Path.{refl}
+use mathlib.Core.Path.{refl, ◌∙◌}
+use mathlib.Core.Logic.{inl, inr}
 use Rattle.code.specs.declared.Class.TheVariants.{Load, LoadIndexed, Total, Match}
 use Rattle.code.proofs.Reals.{by-class, load-reads, indexed-reads, total-reads, match-reads, other-reads}
 use Rattle.code.proofs.reads_real.Goals as goal
 
 pub returns-in-Load : goal.returns-in-Load
-returns-in-Load c = by-class _ Load c.class_of.ensures c.in-Load.is
-    (load-reads _ c.bank_kind.ensures c.number_of.ensures)
-
-pub returns-in-LoadIndexed : goal.returns-in-LoadIndexed
-returns-in-LoadIndexed c = by-class _ LoadIndexed c.class_of.ensures c.in-LoadIndexed.is
-    (indexed-reads _ c.bank_kind-in-LoadIndexed.ensures c.number_of-in-LoadIndexed.ensures)
+returns-in-Load c =
+    let number = c.from.ensures ∙ c.number_of.ensures in
+    elim c.in-Load.is [
+      | inl e ↦ by-class _ Load c.class_of.ensures e (load-reads _ c.bank_kind.ensures number)
+      | inr e ↦ by-class _ LoadIndexed c.class_of.ensures e (indexed-reads _ c.bank_kind.ensures number)
+    ]
 
 pub returns-in-Total : goal.returns-in-Total
-returns-in-Total c = by-class _ Total c.class_of.ensures c.in-Total.is
-    (total-reads _ c.bank_kind-in-Total.ensures c.range_bank.ensures c.word_of.ensures)
-
-pub returns-in-Match : goal.returns-in-Match
-returns-in-Match c = by-class _ Match c.class_of.ensures c.in-Match.is
-    (match-reads _ c.bank_kind-in-Match.ensures c.range_bank-in-Match.ensures c.word_of-in-Match.ensures)
+returns-in-Total c =
+    let kind = c.bank_kind-in-Total.ensures in
+    let bank = c.from-in-Total.ensures ∙ c.range_bank.ensures in
+    let word = c.word_of.ensures in
+    elim c.in-Total.is [
+      | inl e ↦ by-class _ Total c.class_of.ensures e (total-reads _ kind bank word)
+      | inr e ↦ by-class _ Match c.class_of.ensures e (match-reads _ kind bank word)
+    ]
 
 pub returns-in_default : goal.returns-in_default
 returns-in_default c =

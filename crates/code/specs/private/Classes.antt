@@ -1,19 +1,9 @@
 -- Opcodes by class, for the contracts of `class_of` and `number_of` and of what is done for a class. A reader believes Instructions alone, to which
 -- proofs/Page.antt ties this.
-use Rattle.std.specs.Prelude.{true, false, cond, ℕ, ◌+◌, ◌%◌, eqb, ltb}
-use Rattle.operators.specs.declared.tables.UnaryOf.{UnaryOf}
-use Rattle.operators.specs.declared.tables.UnaryOf.TheVariants as UnaryOf
-use Rattle.operators.specs.declared.tables.BinaryOf.{BinaryOf}
-use Rattle.operators.specs.declared.tables.BinaryOf.TheVariants as BinaryOf
+use Rattle.std.specs.Prelude.{true, false, cond, ℕ, ◌+◌, ◌%◌, eqb, ltb, Option, Some, None}
 use Rattle.operators.specs.Tables.{unary_of, binary_of}
 use Rattle.memory.specs.declared.Bank.{Bank}
-use Rattle.memory.specs.declared.numbers.BankOf.{BankOf}
-use Rattle.memory.specs.declared.numbers.BankOf.TheVariants as BankOf
 use Rattle.memory.specs.Numbers.{bank_numbered}
-use Rattle.totals.specs.declared.tables.TotalOf.{TotalOf}
-use Rattle.totals.specs.declared.tables.TotalOf.TheVariants as TotalOf
-use Rattle.totals.specs.declared.tables.MatchOf.{MatchOf}
-use Rattle.totals.specs.declared.tables.MatchOf.TheVariants as MatchOf
 use Rattle.totals.specs.Numbers.{total_of, match_of}
 use Rattle.code.specs.declared.Instr.{Instr}
 use Rattle.code.specs.declared.Instr.TheVariants as Instr
@@ -23,6 +13,10 @@ use Rattle.code.specs.declared.Class.TheVariants.{Binary, Total, Match, Unknown}
 use Rattle.code.specs.Instructions.{PUSH-INT, PUSH-REAL, JUMP, JUMP-IF-FALSE, JUMP-IF-TRUE, TICK, SINCE, LOAD, LOAD-INDEXED, UNARY, BINARY, TOTAL, MATCH}
 use Rattle.code.specs.Instructions.{push_int, push_real, load_element, load_indexed, apply_unary, apply_binary, apply_total, apply_match, push_tick}
 use Rattle.code.specs.Instructions.{apply_since, opcode_of, word_of}
+use Rattle.totals.specs.declared.TotalOp.{TotalOp}
+use Rattle.totals.specs.declared.MatchOp.{MatchOp}
+use Rattle.operators.specs.declared.BinaryOp.{BinaryOp}
+use Rattle.operators.specs.declared.UnaryOp.{UnaryOp}
 
 -- from the first opcode of a class to that of the next
 abbrev pub class_size : ℕ
@@ -46,25 +40,25 @@ abbrev pub number_of : ℕ → ℕ
 number_of n = opcode_of n % class_size
 
 -- the instruction of a bank or an operator, if there is one of the number
-abbrev pub of_bank : (Bank → ℕ → Instr) → BankOf → ℕ → Instr
-of_bank f (BankOf.Is b) w = f b w
-of_bank f BankOf.Nothing w = Instr.Unknown
+abbrev pub of_bank : (Bank → ℕ → Instr) → Option Bank → ℕ → Instr
+of_bank f (Some b) w = f b w
+of_bank f None w = Instr.Unknown
 
-abbrev pub of_unary : UnaryOf → ℕ → Instr
-of_unary (UnaryOf.Is o) w = apply_unary o w
-of_unary UnaryOf.Nothing w = Instr.Unknown
+abbrev pub of_unary : Option UnaryOp → ℕ → Instr
+of_unary (Some o) w = apply_unary o w
+of_unary None w = Instr.Unknown
 
-abbrev pub of_binary : BinaryOf → ℕ → Instr
-of_binary (BinaryOf.Is o) w = apply_binary o w
-of_binary BinaryOf.Nothing w = Instr.Unknown
+abbrev pub of_binary : Option BinaryOp → ℕ → Instr
+of_binary (Some o) w = apply_binary o w
+of_binary None w = Instr.Unknown
 
-abbrev pub of_total : TotalOf → ℕ → Instr
-of_total (TotalOf.Is o) w = apply_total o w
-of_total TotalOf.Nothing w = Instr.Unknown
+abbrev pub of_total : Option TotalOp → ℕ → Instr
+of_total (Some o) w = apply_total o w
+of_total None w = Instr.Unknown
 
-abbrev pub of_match : MatchOf → ℕ → Instr
-of_match (MatchOf.Is o) w = apply_match o w
-of_match MatchOf.Nothing w = Instr.Unknown
+abbrev pub of_match : Option MatchOp → ℕ → Instr
+of_match (Some o) w = apply_match o w
+of_match None w = Instr.Unknown
 
 -- the instruction of a class, a number in it and a word
 abbrev pub classed : Class → ℕ → ℕ → Instr

@@ -19,20 +19,20 @@ returns-then-out-lt-LEAST_TEXT c =
 
 pub put_lines-requires : goal.put_lines-requires
 put_lines-requires c = record {
-  known_code = accepted-known c.check.ensures _ c.in-Accepted.is;
+  known_code = accepted-known c.check.ensures _ c.in-Some.is;
   listing_room_in_bounds = c.if-out-lt-LEAST_TEXT.false;
 }
 
-pub returns-in-Accepted : goal.returns-in-Accepted
-returns-in-Accepted c =
-    let e = good-is c.check.ensures (length c.args.out.now) _ c.if-out-lt-LEAST_TEXT.false c.in-Accepted.is in
+pub returns-in-Some : goal.returns-in-Some
+returns-in-Some c =
+    let e = good-is c.check.ensures (length c.args.out.now) _ c.if-out-lt-LEAST_TEXT.false c.in-Some.is in
     record {
       answer_value = (
         ap (λ (x : Listed). x.answer) e,
         c.put_lines.ensures.puts.end ∙ (zero-add _ ∙ ap (λ (x : Listed). length x.text) e),
         omega (
           arith,
-          (accepted-known c.check.ensures _ c.in-Accepted.is).1,
+          (accepted-known c.check.ensures _ c.in-Some.is).1,
           c.put_lines.ensures.upper_bound,
           c.if-out-lt-LEAST_TEXT.false,
         ),
@@ -40,9 +40,9 @@ returns-in-Accepted c =
       out_after = c.put_lines.ensures.puts.bytes ∙ ap (λ (x : Listed). sets c.args.out.now 0 x.text) e;
     }
 
-pub returns-in-Refused : goal.returns-in-Refused
-returns-in-Refused c =
-    let e = bad-is c.check.ensures (length c.args.out.now) c.if-out-lt-LEAST_TEXT.false c.in-Refused.is in
+pub returns-in-None : goal.returns-in-None
+returns-in-None c =
+    let e = bad-is c.check.ensures (length c.args.out.now) c.if-out-lt-LEAST_TEXT.false c.in-None.is in
     record {
       answer_value = (ap (λ (x : Listed). x.answer) e, ap (λ (x : Listed). length x.text) e, omega arith);
       out_after = ap (λ (x : Listed). sets c.args.out.now 0 x.text) e;

@@ -7,17 +7,17 @@ use Rattle.words.specs.Ascii.{ascii}
 use Rattle.code_listing.proofs.put_indexed.Goals as goal
 
 pub put_row-requires : goal.put_row-requires
-put_row-requires c = omega (arith, row-length 1 c.bank_number.result (ascii "X\nC\nV\nN\nD\nR") tt)
+put_row-requires c = omega (arith, row-length 1 c.from.result (ascii "X\nC\nV\nN\nD\nR") tt)
 
-pub returns-in-Is-clause-puts : goal.returns-in-Is-clause-puts
-returns-in-Is-clause-puts c =
-    as-text (letter-known c.args.w c.number_of.ensures c.bank_numbered.ensures c.in-Is.is c.bank_number.ensures)
+pub returns-in-Some-clause-puts : goal.returns-in-Some-clause-puts
+returns-in-Some-clause-puts c =
+    as-text (letter-known c.args.w c.number_of.ensures c.bank_numbered.ensures c.in-Some.is c.from.ensures)
     (then c.put_all-next.ensures c.put_row.ensures)
 
-pub returns-in-Is-clause-upper_bound : goal.returns-in-Is-clause-upper_bound
-returns-in-Is-clause-upper_bound c = omega (
+pub returns-in-Some-clause-upper_bound : goal.returns-in-Some-clause-upper_bound
+returns-in-Some-clause-upper_bound c = omega (
   arith,
   c.put_row.ensures.end,
   c.put_all-next.ensures.end,
-  row-length 1 c.bank_number.result (ascii "X\nC\nV\nN\nD\nR") tt,
+  row-length 1 c.from.result (ascii "X\nC\nV\nN\nD\nR") tt,
 )

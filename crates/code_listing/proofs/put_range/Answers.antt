@@ -8,13 +8,13 @@ use Rattle.code_listing.proofs.put_range.Goals as goal
 pub put_decimal-requires : goal.put_decimal-requires
 put_decimal-requires c = omega (arith, at_most 4 c.range_count.result (omega (arith, c.range_count.ensures)))
 
-pub returns-in-Is-clause-puts : goal.returns-in-Is-clause-puts
-returns-in-Is-clause-puts c =
-    as-text (range-known c.args.word c.range_bank.ensures c.bank_numbered.ensures c.in-Is.is c.range_first.ensures c.range_count.ensures)
+pub returns-in-Some-clause-puts : goal.returns-in-Some-clause-puts
+returns-in-Some-clause-puts c =
+    as-text (range-known c.args.word c.range_bank.ensures c.bank_numbered.ensures c.in-Some.is c.range_first.ensures c.range_count.ensures)
     (then (then (then c.put_all-a.ensures c.put_name-b.ensures.puts) c.put_all-c.ensures) c.put_decimal.ensures.puts)
 
-pub returns-in-Is-clause-upper_bound : goal.returns-in-Is-clause-upper_bound
-returns-in-Is-clause-upper_bound c = omega (
+pub returns-in-Some-clause-upper_bound : goal.returns-in-Some-clause-upper_bound
+returns-in-Some-clause-upper_bound c = omega (
   arith,
   c.put_decimal.ensures.value,
   c.put_all-c.ensures.end,

@@ -1,8 +1,9 @@
--- `compiler::compile_sized` meets its contract: what did not fit has changed nothing.
+-- `compiler::compile_sized` meets its contract: what did not fit has changed nothing, and the largest draft has room for every formula.
 use mathlib.Core.Path.{◌≡◌, sym, ◌∙◌}
+use native.Mathlib.Omega.{arith}
 use lib.ListN.{length}
 use Rattle.profile_text.specs.Judge.{judge_in}
-use Rattle.compiler.proofs.Answers.{kept, unchanged}
+use Rattle.compiler.proofs.Answers.{Told, kept, unchanged, all-fits}
 use Rattle.compiler.proofs.compile_sized.Goals as goal
 use Rattle.compiler.proofs.compile_sized.Goals.{Joined-text-lt512, then-text-lt512+else-not-is_longer, else-text-lt512}
 
@@ -27,8 +28,19 @@ returns-then-not-is_longer c =
     (sym c.is_longer.ensures ∙ c.if-not-is_longer.true) (w.value, w.code_after) in
     record { value = h.0; code_after = h.1 }
 
-pub compile_long-requires : goal.compile_long-requires
-compile_long-requires c = (c.requires.0, rw (same (goal.at.compile_long-requires c).Joined-text-lt512) c.requires.1)
+pub compile_within-requires : goal.compile_within-requires
+compile_within-requires c =
+    let q = same (goal.at.compile_within-requires c).Joined-text-lt512 in
+    record {
+      sized = (c.requires.0, omega (arith, c.requires.0.short), omega arith);
+      most_in_bounds = (omega arith, omega arith, rw q c.requires.1);
+    }
 
 pub returns : goal.returns
-returns c = rw (same (goal.at.returns c).Joined-text-lt512) at c.compile_long.ensures
+returns c =
+    let a = c.args in
+    let w = c.compile_within.ensures in
+    let h = all-fits a.reals a.opened a.text.now _ _ _ c.requires.0 (w.value, w.code_after) in
+    let told : Told a.code.now (judge_in a.reals a.opened a.text.now) c.compile_within.result c.compile_within.new.code =
+    rw (same (goal.at.returns c).Joined-text-lt512) at h in
+    record { value = told.0; code_after = told.1 }

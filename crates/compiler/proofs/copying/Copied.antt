@@ -1,12 +1,16 @@
--- Words copied as bytes, eight stores a word.
+-- Words copied as bytes, a word after the other.
 use mathlib.Core.Path.{◌≡◌, refl, sym, ap, ◌∙◌}
 use mathlib.Core.List.{List, [], ◌∷◌, ◌++◌, append_assoc, append-nil}
-use Prim.Native.Nat.{ℕ, suc, ◌+◌, ◌*◌, ◌/◌, ◌%◌, ◌<◌}
+use Prim.Native.Nat.{ℕ, suc, ◌+◌, ◌*◌, ◌/◌, ◌≤◌, ◌<◌}
 use native.Mathlib.Nat.{add-zero, zero-add}
-use native.Mathlib.Numerals.{add-one, add-two, add-three, add-four, add_five, add_six, add_seven}
+use native.Mathlib.Numerals.{add-one}
 use native.Mathlib.Omega.{arith}
-use lib.ListN.{length, get_or, set, take, length-append}
-use lib.Seq.{sets, take-suc, length-take-le}
+use lib.ListN.{length, get_or, set, take, drop, length-append}
+use lib.Seq.{sets, sets-eq, take-suc, length-take-le}
+use borrow.Rule.Slice.PartMut.{put_mid}
+use Rattle.std.specs.Int.{w64, to_le_bytes}
+use Rattle.std.proofs.lemmas.Slice.{put_mid-paste}
+use Rattle.std.proofs.lemmas.List.Edits.{paste_all}
 use Rattle.words.specs.Words.{bytes_of}
 use Rattle.draft.specs.private.Draft.{word_bytes}
 
@@ -27,10 +31,7 @@ bytes_count [] = refl
 bytes_count (w ∷ a) = length-append (bytes_of 8 w) (word_bytes a) ∙ rw (bytes_count a) (omega arith)
 
 -- the bytes of a word by one division each
-bytes-by : (w : ℕ)
-    → w % 256 ∷ w / 256 % 256 ∷ w / 65536 % 256 ∷ w / 16777216 % 256 ∷ w / 4294967296 % 256 ∷ w / 1099511627776 % 256 ∷ w / 281474976710656 % 256
-    ∷ w / 72057594037927936 % 256 ∷ []
-    ≡ bytes_of 8 w
+bytes-by : (w : ℕ) → to_le_bytes w64 w ≡ bytes_of 8 w
 bytes-by w =
     let two : w / 65536 ≡ w / 256 / 256 = omega arith in
     let three : w / 16777216 ≡ w / 256 / 256 / 256 = omega arith in
@@ -38,13 +39,13 @@ bytes-by w =
     let five : w / 1099511627776 ≡ w / 256 / 256 / 256 / 256 / 256 = omega arith in
     let six : w / 281474976710656 ≡ w / 256 / 256 / 256 / 256 / 256 / 256 = omega arith in
     let seven : w / 72057594037927936 ≡ w / 256 / 256 / 256 / 256 / 256 / 256 / 256 = omega arith in
-    rw (two, three, four, five, six, seven)
+    rw (two, three, four, five, six, seven) refl
 
--- eight stores are one run of stores
-stores : (t : List ℕ) (p a b c d e f g h : ℕ)
-    → set (set (set (set (set (set (set (set t p a) (p + 1) b) (p + 2) c) (p + 3) d) (p + 4) e) (p + 5) f) (p + 6) g) (p + 7) h
-    ≡ sets t p (a ∷ b ∷ c ∷ d ∷ e ∷ f ∷ g ∷ h ∷ [])
-stores t p a b c d e f g h = rw (add-one p, add-two p, add-three p, add-four p, add_five p, add_six p, add_seven p)
+-- a part that is written whole
+written : (t : List ℕ) (p k : ℕ) (bs : List ℕ) → k ≡ length bs → p + length bs ≤ length t → put_mid p k t bs ≡ sets t p bs
+written t p k bs e h =
+    put_mid-paste p k t bs bs (length bs) refl (sym e) refl ∙ paste_all t p bs (length bs) refl
+    ∙ sym (append_assoc (take p t) bs (drop (p + length bs) t)) ∙ sym (sets-eq bs t p h)
 
 module _ (d s : List ℕ) (i : ℕ) (h : i < length d) where
   one_more : sets (sets s 0 (word_bytes (take i d))) (8 * i) (bytes_of 8 (get_or d i 0)) ≡ sets s 0 (word_bytes (take (suc i) d))
@@ -60,13 +61,13 @@ module _ (d s : List ℕ) (i : ℕ) (h : i < length d) where
       )
 
   -- the first i words are there as bytes, and now the next
-  pub copied_more : {t : List ℕ} {b₀ b₁ b₂ b₃ b₄ b₅ b₆ b₇ : ℕ} → t ≡ sets s 0 (word_bytes (take i d))
-      → b₀ ≡ get_or d i 0 % 256 → b₁ ≡ get_or d i 0 / 256 % 256 → b₂ ≡ get_or d i 0 / 65536 % 256 → b₃ ≡ get_or d i 0 / 16777216 % 256
-      → b₄ ≡ get_or d i 0 / 4294967296 % 256 → b₅ ≡ get_or d i 0 / 1099511627776 % 256 → b₆ ≡ get_or d i 0 / 281474976710656 % 256
-      → b₇ ≡ get_or d i 0 / 72057594037927936 % 256
-      → set (set (set (set (set (set (set (set t (8 * i) b₀) (8 * i + 1) b₁) (8 * i + 2) b₂) (8 * i + 3) b₃) (8 * i + 4) b₄) (8 * i + 5) b₅) (8 * i + 6) b₆)
-      (8 * i + 7) b₇
-      ≡ sets s 0 (word_bytes (take (i + 1) d))
-  copied_more {t} {b₀} {b₁} {b₂} {b₃} {b₄} {b₅} {b₆} {b₇} q e₀ e₁ e₂ e₃ e₄ e₅ e₆ e₇ =
-      let bs : b₀ ∷ b₁ ∷ b₂ ∷ b₃ ∷ b₄ ∷ b₅ ∷ b₆ ∷ b₇ ∷ [] ≡ bytes_of 8 (get_or d i 0) = cc (bytes-by (get_or d i 0)) in
-      rw (add-one i) (stores t (8 * i) b₀ b₁ b₂ b₃ b₄ b₅ b₆ b₇ ∙ ap (sets t (8 * i)) bs ∙ ap (λ u. sets u (8 * i) (bytes_of 8 (get_or d i 0))) q ∙ one_more)
+  pub copied_more : {t bs : List ℕ} {k : ℕ} → t ≡ sets s 0 (word_bytes (take i d)) → bs ≡ to_le_bytes w64 (get_or d i 0) → k ≡ 8
+      → 8 * i + 8 ≤ length t → put_mid (8 * i) k t bs ≡ sets s 0 (word_bytes (take (i + 1) d))
+  copied_more {t} {bs} {k} q e z room =
+      let whole : bs ≡ bytes_of 8 (get_or d i 0) = e ∙ bytes-by (get_or d i 0) in
+      let eight : length bs ≡ 8 = ap length whole in
+      written t (8 * i) k bs (z ∙ sym eight) (omega (arith, eight, room))
+      ∙ ap (sets t (8 * i)) whole
+      ∙ ap (λ u. sets u (8 * i) (bytes_of 8 (get_or d i 0))) q
+      ∙ one_more
+      ∙ ap (λ n. sets s 0 (word_bytes (take n d))) (sym (add-one i))

@@ -2,5 +2,5 @@
 use mathlib.Core.Path.{refl}
 use Rattle.compiler.proofs.is_longer.Goals as goal
 
-pub returns-in-Done : goal.returns-in-Done
-returns-in-Done c = rw c.in-Done.is refl
+pub returns-in-Ok : goal.returns-in-Ok
+returns-in-Ok c = rw c.in-Ok.is refl

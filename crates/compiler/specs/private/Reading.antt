@@ -1,7 +1,7 @@
 -- For the contracts of private functions: what the reader, which walks a table of tokens, writes a draft and builds no tree, has to do with the parser on
 -- tokens. A result `Done j e k w` stands for a tree of kind k, with the diagnostic w, whose code ends at e in the draft, and for the tokens from the
 -- position j on.
-use Rattle.std.specs.Prelude.{◌≡◌, Bool, false, cond, List, [], ◌∷◌, ℕ, ◌+◌, ◌-◌, ◌*◌, ◌≤◌, ◌<◌, leb, ltb, ℤ, length}
+use Rattle.std.specs.Prelude.{◌≡◌, Bool, false, cond, List, [], ◌∷◌, ℕ, ◌+◌, ◌-◌, ◌*◌, ◌≤◌, ◌<◌, leb, ltb, ℤ, length, Ok, Err}
 use Rattle.values.specs.declared.Kind.{Kind}
 use Rattle.memory.specs.declared.Bank.{Bank}
 use Rattle.tokens.specs.declared.Function.{Function}
@@ -16,9 +16,8 @@ use Rattle.tree_code.specs.Code.{code_of}
 use Rattle.draft.specs.private.Results.{Read, Done, Bad, Deep, read_next, read_end, read_kind, read_wrong}
 use Rattle.draft.specs.private.Draft.{put_code}
 use Rattle.draft.specs.private.Ranges.{function_match, cell_bank, count_of, CellWord}
-use Rattle.compiler.specs.declared.Coded.{Coded}
-use Rattle.compiler.specs.declared.Coded.TheVariants.{Done as Coding, Refused}
-use Rattle.compiler.specs.Compile.{coded_answer, coded_bytes}
+use Rattle.compiler.specs.Compile.{Coded, coded_answer, coded_bytes}
+use Rattle.token_table.specs.Refusals.{refusal}
 
 -- the tree's kind and diagnostic are these, and its code was put into the draft from pc up to e
 pub record DraftHolds (pc : ℕ) (o o' : List ℕ) (e : ℕ) (k : Kind) (w : Diagnostic) (t : Tree) : Type 0 where
@@ -110,5 +109,5 @@ fitted_bytes most code (refused a p) = code
 
 -- the answer is code of more instructions than that
 abbrev pub is_longer : Coded → ℕ → Bool
-is_longer (Coding n) most = ltb most n
-is_longer (Refused a p) most = false
+is_longer (Ok n) most = ltb most n
+is_longer (Err r) most = false

@@ -39,3 +39,7 @@ module _ (s : List ℕ) (i : ℕ) {w n : ℕ} (q : w ≡ word_at s i) (r : n ≡
 
   pub sign-stops : 3 ≤ n → prefix_number (word_at s i) ≡ 3
   sign-stops h = sign-none (word_at s i) (rw here at h)
+
+-- behind the table
+pub sign-behind : (s : List ℕ) (i : ℕ) → length s ≤ i → prefix_number (word_at s i) ≡ 3
+sign-behind s i h = let z : word_at s i ≡ 0 = get_or-eq_default s 0 h in rw z refl

@@ -1,7 +1,7 @@
 -- The earlier of two diagnostics is the lesser of their numbers, where one of them or both may be none.
-use mathlib.Core.Path.{◌≡◌, refl, sym, ap, ◌∙◌}
+use mathlib.Core.Path.{◌≡◌, refl, sym}
 use mathlib.Core.Bool.{Bool, true, false, cond}
-use Prim.Native.Nat.{ℕ, ◌+◌, ◌*◌, ◌/◌, ◌%◌, ◌≤◌, ◌<◌, min}
+use Prim.Native.Nat.{ℕ, ◌+◌, ◌*◌, ◌/◌, ◌%◌, ◌<◌, min}
 use native.Mathlib.Omega.{arith}
 use lib.Dec.{ltb}
 use borrow.Author.Tests.{lt-ltb, le-ltb, ltb-true, ltb-false}
@@ -10,7 +10,7 @@ use Rattle.grammar.specs.Tree.{clear, at, earlier}
 use Rattle.grammar.proofs.Diagnostics.{numbered, earlier-least}
 use Rattle.draft.specs.private.Results.{diagnosed}
 
-lesser : (a b : ℕ) → diagnosed (min a b) ≡ earlier (diagnosed a) (diagnosed b)
+pub lesser : (a b : ℕ) → diagnosed (min a b) ≡ earlier (diagnosed a) (diagnosed b)
 lesser a b = go (ltb a 1048576) (ltb b 1048576) refl refl
   where
     go : (x y : Bool) → ltb a 1048576 ≡ x → ltb b 1048576 ≡ y → diagnosed (min a b) ≡ earlier (cond x (numbered a) clear) (cond y (numbered b) clear)
@@ -31,12 +31,6 @@ lesser a b = go (ltb a 1048576) (ltb b 1048576) refl refl
         let h = ltb-false a 1048576 p in
         let g = ltb-false b 1048576 q in
         rw (le-ltb (min a b) 1048576 (omega arith))
-
-pub earlier-first : (a b : ℕ) → a ≤ b → diagnosed a ≡ earlier (diagnosed a) (diagnosed b)
-earlier-first a b h = let e : a ≡ min a b = omega arith in ap diagnosed e ∙ lesser a b
-
-pub earlier-second : (a b : ℕ) → b ≤ a → diagnosed b ≡ earlier (diagnosed a) (diagnosed b)
-earlier-second a b h = let e : b ≡ min a b = omega arith in ap diagnosed e ∙ lesser a b
 
 pub word-diagnosed : (w a : ℕ) → a < 16 → (n : ℕ) → n ≡ 16 * word_place w + a → diagnosed n ≡ at (word_place w) a
 word-diagnosed w a h n e =

@@ -1,4 +1,5 @@
 -- Where the token that stands at a place ends: parts of a numeral, and what the scanner found there.
+use Rattle.std.specs.Prelude.{Result, Ok, Err}
 use mathlib.Core.Path.{◌≡◌, refl, sym, ap, ◌∙◌}
 use mathlib.Core.Bool.{true, false, and-false}
 use mathlib.Core.List.{List, [], ◌∷◌, map}
@@ -12,8 +13,6 @@ use borrow.Author.Tests.{eq-eqb, ne_eqb}
 use Rattle.memory.specs.Names.{is_digit, digits_of}
 use Rattle.tokens.specs.declared.Token.{Token}
 use Rattle.tokens.specs.declared.Token.TheVariants.{Symbol}
-use Rattle.tokens.specs.declared.Scanned.{Scanned}
-use Rattle.tokens.specs.declared.Scanned.TheVariants.{Good, Bad}
 use Rattle.tokens.specs.Bytes.{is_letter, is_word, is_run, run_len}
 use Rattle.tokens.specs.Numerals.{behind_digits, behind_part, behind_mantissa, is_sign, opens_exponent, tail_len, numeral_len, numeral_of}
 use Rattle.tokens.specs.Symbols.{symbols, symbol_count, symbol_bytes, longest}
@@ -132,9 +131,9 @@ numeral s at whole m r h w l k p e =
     omega (arith, a, b, t)
 
 -- ---- the scanner's answer
-pub judged-end : (p n : ℕ) (j : Scanned) {t : Token} {q e : ℕ} → lexeme p n j ≡ Found t q e → e ≡ p + n
-judged-end p n (Good u) m = cc
-judged-end p n (Bad a) m = let z : ◌≡◌ {A = ℕ} 0 1 = cc in absurd (omega arith)
+pub judged-end : (p n : ℕ) (j : (Result Token ℕ)) {t : Token} {q e : ℕ} → lexeme p n j ≡ Found t q e → e ≡ p + n
+judged-end p n (Ok u) m = cc
+judged-end p n (Err a) m = let z : ◌≡◌ {A = ℕ} 0 1 = cc in absurd (omega arith)
 
 symbol_end : (p n : ℕ) {t : Token} {q e : ℕ} → symbol_lexeme p n ≡ Found t q e → (t ≡ Symbol n) × (e ≡ p + length (symbol_bytes n))
 symbol_end p n m =

@@ -1,34 +1,26 @@
--- `levels` meets its contract. The invariant: the most so far, or the most from here on, is the most. The measure is what is left.
+-- `levels` meets its contract. The invariant: the most so far, or the most from here on, is the most.
 use mathlib.Core.Path.{◌∙◌}
-use Prim.Native.Nat.{◌-◌}
 use native.Mathlib.Nat.{zero-max}
 use native.Mathlib.Omega.{arith}
 use lib.ListN.{get_or}
 use Rattle.formatter.proofs.Depths.{open-most, depth-step, depth-end}
 use Rattle.formatter.proofs.levels.Goals as goal
 
-pub loop-i-init : goal.loop-i-init
-loop-i-init c = (omega arith, omega arith, zero-max _)
+pub loop-b-init : goal.loop-b-init
+loop-b-init c = (omega arith, omega arith, zero-max _)
 
-pub open_behind-depth-requires : goal.open_behind-depth-requires
-open_behind-depth-requires c = omega (
-  arith,
-  c.loop-i.invariant.0,
-  c.loop-i.invariant.1,
-  c.requires,
-)
-
-pub loop-i-preserved : goal.loop-i-preserved
-loop-i-preserved c =
-    let l = c.loop-i in
+pub loop-b-preserved : goal.loop-b-preserved
+loop-b-preserved c =
+    let l = c.loop-b in
     let text = c.args.text.now in
-    let o = c.open_behind-depth.ensures in (
-      omega arith,
-      omega (arith, o, open-most l.depth (get_or text l.i 0), l.invariant.1),
-      depth-step text l.i l.most l.depth c.loop-i-test.true c.larger-most.ensures o ∙ l.invariant.2,
+    let o = c.open_behind-depth.ensures in
+    let m = c.max-most.ensures in (
+      omega (arith, o, open-most l.depth (get_or text l.b-index 0), l.invariant.0),
+      omega (arith, m),
+      depth-step text l.b-index l.most l.depth c.loop-b-test.true m o l.invariant.1 ∙ l.invariant.2,
     )
 
 pub returns : goal.returns
 returns c =
-    let l = c.loop-i in
-    c.larger.ensures ∙ depth-end c.args.text.now l.i l.most l.depth (omega arith) ∙ l.invariant.2
+    let l = c.loop-b in
+    depth-end c.args.text.now l.b-index l.most l.depth (omega arith) l.invariant.1 ∙ l.invariant.2

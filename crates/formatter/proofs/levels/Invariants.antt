@@ -1,12 +1,9 @@
--- `levels` meets its contract. The invariant: the most so far, or the most from here on, is the most. The measure is what is left.
+-- `levels` meets its contract. The invariant: the most so far, or the most from here on, is the most.
 use mathlib.Core.Path.{◌≡◌}
-use Prim.Native.Nat.{◌-◌, ◌≤◌, max}
-use lib.ListN.{length, drop}
+use Prim.Native.Nat.{◌≤◌, max}
+use lib.ListN.{drop}
 use Rattle.format_laws.specs.Formatted.{levels_from, levels}
 use Rattle.formatter.proofs.levels.Given as goal
 
-abbrev pub invariant-loop-i : goal.invariant-loop-i
-invariant-loop-i l = (l.i ≤ length l.text) × (l.depth ≤ l.i) × (max l.most (levels_from l.depth (drop l.i l.text)) ≡ levels l.text)
-
-abbrev pub decreases-loop-i : goal.decreases-loop-i
-decreases-loop-i l = length l.text - l.i
+abbrev pub invariant-loop-b : goal.invariant-loop-b
+invariant-loop-b l = (l.depth ≤ l.b-index) × (l.depth ≤ l.most) × (max l.most (levels_from l.depth (drop l.b-index l.text)) ≡ levels l.text)

@@ -1,6 +1,6 @@
 -- For the contracts of private functions: what a walk over the table of an accepted text's tokens writes. The parser's result is known beforehand, so no
 -- refusal is left.
-use Rattle.std.specs.Prelude.{◌≡◌, List, [], ◌∷◌, ◌++◌, ℕ, suc, ◌+◌, ◌≤◌, ◌<◌, length}
+use Rattle.std.specs.Prelude.{◌≡◌, List, [], ◌∷◌, ◌++◌, ℕ, ◌+◌, ◌≤◌, ◌<◌, length}
 use Rattle.words.specs.Ascii.{ascii}
 use Rattle.tokens.specs.declared.Token.TheVariants.{Symbol}
 use Rattle.tokens.specs.Symbols.{symbol_bytes}
@@ -10,7 +10,7 @@ use Rattle.grammar.specs.Tree.{Tree}
 use Rattle.grammar.specs.Grammar.{tok}
 use Rattle.grammar.specs.Symbols.{loosest, close_paren, comma}
 use Rattle.grammar.specs.Parse.{Result, ok, bad, expression, operand, primary}
-use Rattle.text.specs.Judge.{accepted, judge, judge_from}
+use Rattle.text.specs.Judge.{accepted, judge}
 use Rattle.format_laws.specs.Formatted.{lexeme, top, formatted}
 use Rattle.format_writer.specs.private.Scratch.{Holds, Counted}
 use Rattle.format_writer.specs.private.Spelling.{Stands}

@@ -1,4 +1,4 @@
--- The functions from the first total on: their form and operator by number, computed for each.
+-- The functions of the families, and those past the last: their form and operator by number, computed for each.
 use mathlib.Core.Path.{◌≡◌, refl, ap}
 use mathlib.Core.Bool.{Bool, true, false, ◌&&◌, ◌||◌}
 use Prim.Native.Nat.{ℕ, ◌-◌, ◌≤◌, ◌<◌}
@@ -10,7 +10,7 @@ use Rattle.operators.specs.Tables.{unary_number}
 use Rattle.operators.specs.declared.UnaryOp.TheVariants as U
 use Rattle.tokens.specs.declared.Function.{Function}
 use Rattle.tokens.specs.declared.Function.TheVariants.{Abs}
-use Rattle.tokens.specs.Words.{functions, function_count, first_total, first_match}
+use Rattle.tokens.specs.Words.{functions, function_count, first_match}
 use Rattle.tokens.proofs.Tests.{both}
 use Rattle.tokens.proofs.Below.{below, below_at}
 use Rattle.grammar.specs.Symbols.{form_of}
@@ -31,10 +31,6 @@ stands k n m f e l h = go (ltb f n) (le-ltb f n l) (below_at (entry k n) m f e h
     go : (x : Bool) → x ≡ false → (x || (eqb (function_form f) k && eqb (function_operator f) (f - n))) ≡ true → Stands f k n
     go true q t = let z : ◌≡◌ {A = ℕ} 0 1 = cc in absurd (omega arith)
     go false q t = let b = both (eqb (function_form f) k) _ t in record { form = eqb-true _ _ b.0; operator = eqb-true _ _ b.1 }
-
-pub a-total : (f : ℕ) → first_total ≤ f → f < first_match → Stands f 6 first_total
-unfolding below entry
-a-total f = stands 6 first_total first_match f refl
 
 pub a-match : (f : ℕ) → first_match ≤ f → f < function_count → Stands f 7 first_match
 unfolding below entry

@@ -1,11 +1,8 @@
--- `images::byte_of` meets its contract. The invariant: the bits from k on make the byte. The measure is what is left.
+-- `images::byte_of` meets its contract. The invariant: the bits from k on make the byte.
 use mathlib.Core.Path.{◌≡◌}
-use Prim.Native.Nat.{◌+◌, ◌-◌, ◌≤◌}
+use Prim.Native.Nat.{◌+◌, ◌-◌}
 use Rattle.images.specs.Conversions.{byte_of}
 use Rattle.images.proofs.byte_of.Given as goal
 
 abbrev pub invariant-loop-k : goal.invariant-loop-k
-invariant-loop-k l = (l.k ≤ 8) × (l.byte ≡ byte_of l.old (l.at + l.k) (8 - l.k))
-
-abbrev pub decreases-loop-k : goal.decreases-loop-k
-decreases-loop-k l = l.k
+invariant-loop-k l = l.byte ≡ byte_of l.old (l.at + l.k) (8 - l.k)

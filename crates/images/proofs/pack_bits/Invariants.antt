@@ -1,6 +1,6 @@
--- `images::pack_bits` meets its contract. The invariant: k bytes are there. The measure is what is left.
+-- `images::pack_bits` meets its contract. The invariant: k bytes are there.
 use mathlib.Core.List.{List}
-use Prim.Native.Nat.{ℕ, ◌-◌, ◌*◌, ◌≤◌}
+use Prim.Native.Nat.{ℕ, ◌*◌}
 use Rattle.images.specs.Conversions.{byte_of}
 use Rattle.images.proofs.Filling.{Filled}
 use Rattle.images.proofs.pack_bits.Given as goal
@@ -10,7 +10,4 @@ abbrev pub eight : List ℕ → ℕ → ℕ
 eight old k = byte_of old (8 * k) 8
 
 abbrev pub invariant-loop-k : goal.invariant-loop-k
-invariant-loop-k l = (l.k ≤ 16) × Filled (eight l.old) l.initial.image l.k l.image
-
-abbrev pub decreases-loop-k : goal.decreases-loop-k
-decreases-loop-k l = 16 - l.k
+invariant-loop-k l = Filled (eight l.old) l.initial.image l.k l.image

@@ -1,6 +1,7 @@
 -- Eight hexadecimal digits make a pattern of 32 bits, and are read as a formula's. Assumes nothing.
+use Rattle.std.specs.Prelude.{Some, None, Ok, Err}
 use mathlib.Core.Path.{◌≡◌, refl, sym, ap, subst, ◌∙◌}
-use mathlib.Core.Bool.{Bool, true, false, ◌&&◌, cond, and-false}
+use mathlib.Core.Bool.{Bool, true, false, ◌&&◌, cond}
 use mathlib.Core.List.{List, [], ◌∷◌}
 use Prim.Native.Nat.{ℕ, suc, ◌+◌, ◌-◌, ◌*◌, ◌^◌, ◌≤◌, ◌<◌}
 use native.Mathlib.Nat.{lt_of_lt_of_le, mul-le-mul_right, mul_assoc, mul-one, one-mul, pow-succ'}
@@ -8,17 +9,15 @@ use native.Mathlib.Omega.{arith}
 use lib.Dec.{eqb}
 use lib.ListN.{length, get_or, take, drop, length-drop}
 use lib.Seq.{take_all}
-use borrow.Author.Tests.{eq-eqb, ne_eqb, eqb-true}
+use borrow.Author.Tests.{eq-eqb, eqb-true}
 use Rattle.values.specs.declared.Value.TheVariants.{Int}
 use Rattle.values.specs.Patterns.{signed_of}
 use Rattle.values.proofs.patterns.Readings.{low_signed}
 use Rattle.words.proofs.Tests.{both}
 use Rattle.tokens.specs.declared.Token.TheVariants.{Number}
-use Rattle.tokens.specs.declared.Scanned.TheVariants.{Good, Bad}
 use Rattle.tokens.specs.Bytes.{all, is_hex}
 use Rattle.tokens.specs.Numerals.{non_empty, hex_digit, hex_from, hex_of, is_hex_run}
 use Rattle.tokens.proofs.Tests.{hex-small}
-use Rattle.lines.specs.declared.forms.Form.TheVariants.{Pattern, Other}
 use Rattle.lines.specs.Forms.{hex_form}
 use Rattle.lines.specs.private.Steps.{scanned_form}
 use Rattle.lines.proofs.forms.Integers.{picked}
@@ -39,16 +38,16 @@ some_of [] h = absurd (omega arith)
 some_of (c ∷ cs) h = refl
 
 -- ---- the digits after `0x`
-digits : (cs : List ℕ) → length cs ≡ 8 → scanned_form (hex_of cs) ≡ cond (all is_hex cs) (Pattern (hex_from 0 cs)) Other
+digits : (cs : List ℕ) → length cs ≡ 8 → scanned_form (hex_of cs) ≡ cond (all is_hex cs) (Some (hex_from 0 cs)) None
 digits cs l = rw (some_of cs (omega arith), l) (by (all is_hex cs) refl)
   where
     by : (t : Bool) → all is_hex cs ≡ t
-        → scanned_form (cond t (Good (Number (Int (signed_of 32 (hex_from 0 cs))))) (Bad 4)) ≡ cond t (Pattern (hex_from 0 cs)) Other
-    by true e = ap Pattern (low_signed 32 (hex_from 0 cs) (eight cs l e))
+        → scanned_form (cond t (Ok (Number (Int (signed_of 32 (hex_from 0 cs))))) (Err 4)) ≡ cond t (Some (hex_from 0 cs)) None
+    by true e = ap Some (low_signed 32 (hex_from 0 cs) (eight cs l e))
     by false e = refl
 
 -- ---- the text
-shape : (s : List ℕ) → length s ≡ 10 → get_or s 0 0 ≡ 48 → get_or s 1 0 ≡ 120 → s ≡ 48 ∷ 120 ∷ drop 2 s
+shape : (s : List ℕ) → 2 ≤ length s → get_or s 0 0 ≡ 48 → get_or s 1 0 ≡ 120 → s ≡ 48 ∷ 120 ∷ drop 2 s
 shape [] l a b = absurd (omega arith)
 shape (c ∷ []) l a b = absurd (omega arith)
 shape (c ∷ d ∷ cs) l a b = cc
@@ -57,28 +56,16 @@ shape (c ∷ d ∷ cs) l a b = cc
 rest : (s : List ℕ) → take (length s - 2) (drop 2 s) ≡ drop 2 s
 rest s = take_all (length s - 2) (drop 2 s) (rw length-drop (omega arith))
 
-pub pattern : (s : List ℕ) → length s ≡ 10 → get_or s 0 0 ≡ 48 → get_or s 1 0 ≡ 120 → scanned_form (hex_of (take (length s - 2) (drop 2 s))) ≡ hex_form s
-pattern s l a b =
-    let e = shape s l a b in
-    let n : length (drop 2 s) ≡ 8 = omega (arith, ap length e) in
+pub pattern : (s : List ℕ) → 2 ≤ length s → get_or s 0 0 ≡ 48 → get_or s 1 0 ≡ 120 → length (take (length s - 2) (drop 2 s)) ≡ 8
+    → scanned_form (hex_of (take (length s - 2) (drop 2 s))) ≡ hex_form s
+pattern s m a b k =
+    let n : length (drop 2 s) ≡ 8 = ap length (sym (rest s)) ∙ k in
+    let e = shape s m a b in
     let t : eqb (suc (suc (length (drop 2 s)))) 10 ≡ true = eq-eqb (suc (suc (length (drop 2 s)))) 10 (omega arith) in
     ap (λ (x : List ℕ). scanned_form (hex_of x)) (rest s) ∙ subst (λ (x : List ℕ). scanned_form (hex_of (drop 2 x)) ≡ hex_form x) (sym e)
     (rw t (digits (drop 2 s) n))
 
-pub other_length : (s : List ℕ) → (length s ≡ 10 → ⊥) → Other ≡ hex_form s
-other_length s n = rw (ne_eqb (length s) 10 n, and-false)
-
-pub other-first : (s : List ℕ) → (get_or s 0 0 ≡ 48 → ⊥) → Other ≡ hex_form s
-other-first [] n = refl
-other-first (c ∷ []) n = refl
-other-first (c ∷ d ∷ cs) n = rw (ne_eqb c 48 n)
-
-pub other-second : (s : List ℕ) → (get_or s 1 0 ≡ 120 → ⊥) → Other ≡ hex_form s
-other-second [] n = refl
-other-second (c ∷ []) n = refl
-other-second (c ∷ d ∷ cs) n = rw (ne_eqb d 120 n, and-false)
-
-pub below : (cs : List ℕ) (n : ℕ) → hex_form cs ≡ Pattern n → n < 2 ^ 32
+pub below : (cs : List ℕ) (n : ℕ) → hex_form cs ≡ Some n → n < 2 ^ 32
 below cs n e =
     let h = picked (is_hex_run cs && eqb (length cs) 10 && all is_hex (drop 2 cs)) (hex_from 0 (drop 2 cs)) n (sym e) in
     let g = both (is_hex_run cs && eqb (length cs) 10) (all is_hex (drop 2 cs)) h.0 in

@@ -1,8 +1,8 @@
 -- How many digits a number has: one more than its tenth has, whatever the fuel, and no more than its bound has. Assumes nothing.
-use mathlib.Core.Path.{◌≡◌, refl, ap}
+use mathlib.Core.Path.{◌≡◌, refl, ap, ◌∙◌}
 use mathlib.Core.Logic.{◌⊎◌, inl, inr, ⊎_elim}
 use mathlib.Core.Bool.{Bool, true, false, cond}
-use Prim.Native.Nat.{ℕ, zero, suc, ◌/◌, ◌*◌, ◌^◌, ◌≤◌, ◌<◌}
+use Prim.Native.Nat.{ℕ, zero, suc, ◌+◌, ◌/◌, ◌*◌, ◌^◌, ◌≤◌, ◌<◌}
 use native.Mathlib.Nat.{pow-suc}
 use native.Mathlib.Omega.{arith}
 use lib.Dec.{ltb}
@@ -45,3 +45,10 @@ pub at_most : (k n : ℕ) → n < 10 ^ suc k → width_of n ≤ suc k
 at_most zero n h = rw (one n h) (omega arith)
 at_most (suc k) n h =
     ⊎_elim (λ few. rw (one n few) (omega arith)) (λ many. rw (more n many) (omega (arith, at_most k (n / 10) (tenth k n h)))) (few-or-many n)
+
+pub by-power : (k n : ℕ) → 10 ^ k ≤ n → n < 10 * 10 ^ k → width_of n ≡ k + 1
+by-power zero n l h = one n (omega arith)
+by-power (suc k) n l h =
+    let low : 10 ^ k * 10 ≤ n = rw (pow-suc 10 k) at l in
+    let high : n < 10 * (10 ^ k * 10) = rw (pow-suc 10 k) at h in
+    more n (omega arith) ∙ ap suc (by-power k (n / 10) (omega arith) (omega arith)) ∙ omega arith

@@ -1,6 +1,6 @@
--- `list_cases::table_of` is safe and ends.
-use Rattle.std.proofs.Common.{◌-◌, length}
+-- `list_cases::table_of` is safe: a piece begins before the bytes that are still to come.
+use Rattle.std.proofs.Common.{◌≤◌}
 use Rattle.list_cases.proofs.table_of.Given as goal
 
-abbrev pub decreases-loop-at : goal.decreases-loop-at
-decreases-loop-at l = length l.line - l.at
+abbrev pub invariant-loop-i : goal.invariant-loop-i
+invariant-loop-i l = l.from ≤ l.i

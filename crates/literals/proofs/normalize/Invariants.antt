@@ -5,7 +5,9 @@ use Rattle.literals.proofs.MixedNumbers.{Doubled}
 use Rattle.literals.proofs.normalize.Given as goal
 
 abbrev pub invariant-loop-number : goal.invariant-loop-number
-invariant-loop-number l = Doubled l.b l.a (numerator l.b l.a l.initial.number) l.shift l.number
+invariant-loop-number l =
+    let x = l.initial.number in
+    Doubled x.b x.a (numerator x.b x.a x) l.shift l.number
 
 abbrev pub decreases-loop-number : goal.decreases-loop-number
 decreases-loop-number l = 142 - l.shift

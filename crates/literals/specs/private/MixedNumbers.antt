@@ -3,7 +3,7 @@ use Rattle.std.specs.Prelude.{◌≡◌, ◌↔◌, false, ℕ, ◌+◌, ◌*◌
 use Rattle.std.specs.Float.{binary32}
 use Rattle.std.specs.Float.Ieee.{round, to_bits}
 use Rattle.std.specs.Float.Ieee.Nearest.{closest}
-use Rattle.literals.specs.declared.Mixed.{Mixed}
+use Rattle.literals.specs.declared.mixed.Mixed.{Mixed}
 
 -- what stands over b * a
 abbrev pub numerator : ℕ → ℕ → Mixed → ℕ
@@ -11,6 +11,8 @@ numerator b a x = (x.whole * b + x.high) * a + x.low
 
 -- x is n / (b * a)
 pub record Represents (b a n : ℕ) (x : Mixed) : Type 0 where
+  pub b-is : x.b ≡ b
+  pub a-is : x.a ≡ a
   pub low : x.low < a
   pub high : x.high < b
   pub is : n ≡ numerator b a x

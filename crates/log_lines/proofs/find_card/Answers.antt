@@ -1,23 +1,26 @@
 -- `find_card` meets its contract.
 use native.Mathlib.Omega.{arith}
-use Prim.Native.Nat.{◌-◌}
-use Rattle.log_lines.proofs.Rows.{seek, none_left, past-last, met, passed}
+use Rattle.log_lines.proofs.Rows.{seek, none_left, met, passed, within}
 use Rattle.log_lines.proofs.find_card.Goals as goal
 
-pub loop-p-init : goal.loop-p-init
-loop-p-init c = seek c.args.cards.now c.args.read.now c.args.k c.requires
+pub loop-card-init : goal.loop-card-init
+loop-card-init c = seek c.args.cards.now c.args.read.now c.args.k c.requires (omega arith)
 
-pub returns-then-left-eq0 : goal.returns-then-left-eq0
-returns-then-left-eq0 c = none_left c.loop-p.invariant c.if-left-eq0.true
+pub overflow_mul-p : goal.overflow_mul-p
+overflow_mul-p c = omega (arith, within c.loop-card.invariant (λ e. omega (arith, c.loop-card-test.true)))
+
+pub overflow_add-p : goal.overflow_add-p
+overflow_add-p c = omega (arith, within c.loop-card.invariant (λ e. omega (arith, c.loop-card-test.true)))
+
+pub bounds-read-p : goal.bounds-read-p
+bounds-read-p c = omega (arith, within c.loop-card.invariant (λ e. omega (arith, c.loop-card-test.true)))
 
 pub returns-then-read-p : goal.returns-then-read-p
-returns-then-read-p c = met c.loop-p.invariant c.if-left-eq0.false c.if-read-p.true
+returns-then-read-p c = met c.loop-card.invariant (λ e. omega (arith, c.loop-card-test.true)) c.if-read-p.true
 
-pub loop-p-smaller : goal.loop-p-smaller
-loop-p-smaller c = omega arith
-
-pub loop-p-preserved : goal.loop-p-preserved
-loop-p-preserved c = passed c.loop-p.invariant c.if-left-eq0.false c.if-read-p.false
+pub loop-card-preserved : goal.loop-card-preserved
+loop-card-preserved c =
+    passed c.loop-card.invariant (λ e. omega (arith, c.loop-card-test.true)) c.if-read-p.false (omega arith) (omega (arith, c.loop-card-test.true))
 
 pub returns : goal.returns
-returns c = past-last c.loop-p.invariant c.loop-p-test.false
+returns c = none_left c.loop-card.invariant (omega (arith, c.loop-card-test.false))

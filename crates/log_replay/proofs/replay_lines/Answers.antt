@@ -24,8 +24,8 @@ entry_at-requires c = c.until-k.ensures.0
 pub overflow_add-from : goal.overflow_add-from
 overflow_add-from c = omega (arith, c.until-k.ensures.1)
 
-pub overflow_add-from-in-On : goal.overflow_add-from-in-On
-overflow_add-from-in-On c = omega (
+pub overflow_add-from-in-Some : goal.overflow_add-from-in-Some
+overflow_add-from-in-Some c = omega (
   arith,
   (go_on c.loop-from.invariant c.until-k.ensures.0
       c.entry_at.ensures.value
@@ -36,7 +36,7 @@ overflow_add-from-in-On c = omega (
         long c.loop-from.invariant,
         c.if-out-end-lt-LINE_ROOM.false,
       ))
-      c.in-On.is (omega (
+      c.in-Some.is (omega (
         arith,
         c.loop-from.invariant.image,
       ))).inside,
@@ -54,7 +54,7 @@ loop-from-smaller c = omega (
         long c.loop-from.invariant,
         c.if-out-end-lt-LINE_ROOM.false,
       ))
-      c.in-On.is (omega (
+      c.in-Some.is (omega (
         arith,
         c.loop-from.invariant.image,
       ))).inside,
@@ -71,7 +71,7 @@ loop-from-preserved c = go_on c.loop-from.invariant c.until-k.ensures.0
       long c.loop-from.invariant,
       c.if-out-end-lt-LINE_ROOM.false,
     ))
-    c.in-On.is (omega (
+    c.in-Some.is (omega (
       arith,
       c.loop-from.invariant.image,
     ))
@@ -90,17 +90,17 @@ put_refusal-last-requires c = omega (
         long c.loop-from.invariant,
         c.if-out-end-lt-LINE_ROOM.false,
       ))
-      c.in-Stop.is).1,
+      c.in-None.is).1,
 )
 
-pub returns-in-Stop : goal.returns-in-Stop
-returns-in-Stop c = halt c.loop-from.invariant c.until-k.ensures.0 c.entry_at.ensures.value
+pub returns-in-None : goal.returns-in-None
+returns-in-None c = halt c.loop-from.invariant c.until-k.ensures.0 c.entry_at.ensures.value
     c.take_line.ensures
     c.loop-from-test.true (omega (
       arith,
       long c.loop-from.invariant,
       c.if-out-end-lt-LINE_ROOM.false,
-    )) c.in-Stop.is c.put_refusal-last.ensures
+    )) c.in-None.is c.put_refusal-last.ensures
 
 pub overflow_add-result : goal.overflow_add-result
 overflow_add-result c = omega (arith, c.requires.memory_len.1, c.loop-from.invariant.inside)

@@ -1,22 +1,20 @@
 -- `through_last_end` meets its contract.
+use mathlib.Core.Path.{◌≡◌, ◌∙◌}
+use Prim.Native.Nat.{◌+◌, ◌-◌}
 use native.Mathlib.Omega.{arith}
 use Rattle.log_window.proofs.Ends.{start, found, further, none}
 use Rattle.log_window.proofs.through_last_end.Goals as goal
 
-pub loop-n-init : goal.loop-n-init
-loop-n-init c = start _
+pub loop-k-init : goal.loop-k-init
+loop-k-init c = start _
 
-pub bounds-bytes-n : goal.bounds-bytes-n
-bounds-bytes-n c = omega (arith, c.loop-n.invariant.inside)
+pub returns-then-bytes-k-eq10 : goal.returns-then-bytes-k-eq10
+returns-then-bytes-k-eq10 c =
+    let e : c.loop-k.k - 1 + 1 ≡ c.loop-k.k = omega (arith, c.loop-k-test.true) in
+    e ∙ found c.loop-k.invariant (omega (arith, c.loop-k-test.true)) c.if-bytes-k-eq10.true
 
-pub returns-then-bytes-n-eq10 : goal.returns-then-bytes-n-eq10
-returns-then-bytes-n-eq10 c = found c.loop-n.invariant c.loop-n-test.true c.if-bytes-n-eq10.true
-
-pub loop-n-smaller : goal.loop-n-smaller
-loop-n-smaller c = omega arith
-
-pub loop-n-preserved : goal.loop-n-preserved
-loop-n-preserved c = further c.loop-n.invariant c.loop-n-test.true c.if-bytes-n-eq10.false
+pub loop-k-preserved : goal.loop-k-preserved
+loop-k-preserved c = further c.loop-k.invariant (omega (arith, c.loop-k-test.true)) c.if-bytes-k-eq10.false
 
 pub returns : goal.returns
-returns c = none c.loop-n.invariant c.loop-n-test.false
+returns c = none c.loop-k.invariant (omega (arith, c.loop-k-test.false))

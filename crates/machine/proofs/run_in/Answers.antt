@@ -1,9 +1,11 @@
 -- `run_in` meets its contract: at each turn what is left to run, from the values held, gives what the whole run gives.
-use mathlib.Core.Path.{refl, ◌∙◌}
-use Prim.Native.Nat.{◌≤◌}
+use mathlib.Core.Path.{◌≡◌, refl, ◌∙◌}
+use Prim.Native.Nat.{◌/◌, ◌≤◌}
 use native.Mathlib.Omega.{arith}
-use lib.ListN.{length-set}
+use lib.ListN.{length, length-set}
+use borrow.Author.Rules.{rules}
 use Rattle.memory.specs.Environment.{memory_at}
+use Rattle.machine.specs.private.Steps.{minimum}
 use Rattle.machine.proofs.Held.{none, held, held-finish}
 use Rattle.machine.proofs.Performs.{none_made}
 use Rattle.machine.proofs.Rest.{starts, minimum-left, minimum-right, finishes}
@@ -52,7 +54,7 @@ made c =
           (w.step-is ∙ w.binary-step.ensures E) w.count-is
       | in-Total w ↦ totalled b E l.h l.stack _ class w.in-Total.is (w.total-visited.ensures a.tick) (w.step-is ∙ w.outcome_step-step.ensures) w.count-is
       | in-Match w ↦
-          matched b E l.h l.stack _ class w.in-Match.is w.from_top-in-Match.ensures.0 (w.matching-visited.ensures a.tick) w.less_one.ensures
+          matched b E l.h l.stack _ class w.in-Match.is w.from_top-in-Match.ensures.0 (w.matching-visited.ensures a.tick) w.saturating_sub.ensures
           (w.step-is ∙ w.outcome_step-step-in-Match.ensures) w.count-is
       | in-Unknown w ↦
           performed b E l.h l.stack _ class w.in-Unknown.is tt (λ p. refl) (λ p. refl)
@@ -61,17 +63,18 @@ made c =
 
 pub overflow_cast-there : goal.overflow_cast-there
 overflow_cast-there c =
-    let q : c.min-there.result ≤ c.args.n = rw c.min-there.ensures (minimum-left _ _) in
+    let e : c.min-there.result ≡ minimum c.args.n (length c.args.code.now / 8) = search rules in
+    let q : c.min-there.result ≤ c.args.n = rw e (minimum-left _ _) in
     omega (arith, q)
 
 pub loop-place-init : goal.loop-place-init
 unfolding held
-loop-place-init c = (
+loop-place-init c = let e : c.min-there.result ≡ minimum c.args.n (length c.args.code.now / 8) = search rules in (
   refl,
   omega arith,
   omega arith,
-  rw c.min-there.ensures (minimum-left _ _),
-  rw c.min-there.ensures (minimum-right _ _),
+  rw e (minimum-left _ _),
+  rw e (minimum-right _ _),
   omega arith,
   omega arith,
   starts _ _ _ _,
@@ -230,5 +233,6 @@ finished-requires c = omega arith
 pub returns : goal.returns
 returns c =
     let l = c.loop-place in
-    c.finished.ensures ∙ finishes l.h _ l.invariant.7 (rw c.min-there.ensures at c.loop-place-test.false)
+    let e : c.min-there.result ≡ minimum c.args.n (length c.args.code.now / 8) = search rules in
+    c.finished.ensures ∙ finishes l.h _ l.invariant.7 (rw e at c.loop-place-test.false)
     (held-finish l.h l.stack)

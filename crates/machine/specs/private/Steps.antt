@@ -1,26 +1,19 @@
 -- How the code works out `act` on an array of which the first h values are held. For the contracts of the private functions; a reader believes Machine alone.
-use Rattle.std.specs.Prelude.{◌≡◌, Bool, false, not, ◌||◌, cond, List, ℕ, zero, suc, ◌+◌, ◌-◌, eqb, ltb, pos}
+use Rattle.std.specs.Prelude.{◌≡◌, Bool, false, not, ◌||◌, cond, List, ℕ, zero, suc, ◌+◌, ◌-◌, eqb, ltb, pos, Option, Some, None}
 use Rattle.std.specs.Bool.{beq}
 use Rattle.values.specs.declared.Value.{Value}
 use Rattle.values.specs.declared.Value.TheVariants.{Int, Real}
 use Rattle.values.specs.declared.Fault.{Fault}
 use Rattle.values.specs.declared.Fault.TheVariants.{Overflow}
 use Rattle.values.specs.declared.Outcome.{Outcome}
-use Rattle.values.specs.declared.Outcome.TheVariants as Outcome
 use Rattle.values.specs.Patterns.{signed_of}
 use Rattle.operators.specs.Operators.{unary_rule, since_rule, binary_rule, truth_rule}
 use Rattle.operators.specs.Reals.{real_value}
 use Rattle.memory.specs.declared.Bank.{Bank}
 use Rattle.memory.specs.Layout.{layout_of}
 use Rattle.memory.specs.Environment.{Environment, indexed_cell, memory_at}
-use Rattle.memory.specs.declared.numbers.BankOf.{BankOf}
-use Rattle.memory.specs.declared.numbers.BankOf.TheVariants as BankOf
 use Rattle.memory.specs.Numbers.{bank_numbered}
 use Rattle.totals.specs.declared.Visited.{Visited}
-use Rattle.totals.specs.declared.tables.TotalOf.{TotalOf}
-use Rattle.totals.specs.declared.tables.TotalOf.TheVariants as TotalOf
-use Rattle.totals.specs.declared.tables.MatchOf.{MatchOf}
-use Rattle.totals.specs.declared.tables.MatchOf.TheVariants as MatchOf
 use Rattle.totals.specs.Totals.{total_over, match_over, good_range}
 use Rattle.totals.specs.private.Admitted.{no_visit, total_in, match_in}
 use Rattle.code.specs.declared.Instr.{Instr}
@@ -31,9 +24,10 @@ use Rattle.machine.specs.declared.Ended.{Ended}
 use Rattle.machine.specs.declared.Ended.TheVariants.{Done, Stopped, Stuck}
 use Rattle.machine.specs.declared.Ran.{Ran}
 use Rattle.machine.specs.declared.How.{How}
-use Rattle.machine.specs.declared.How.TheVariants as How
 use Rattle.machine.specs.declared.Step.{Step}
 use Rattle.machine.specs.Machine.{max_height}
+use Rattle.totals.specs.declared.MatchOp.{MatchOp}
+use Rattle.totals.specs.declared.TotalOp.{TotalOp}
 
 abbrev pub minimum : ℕ → ℕ → ℕ
 minimum a b = cond (ltb a b) a b
@@ -129,21 +123,31 @@ abbrev pub IsTickOn : ℕ → Instr → ℕ → Value → Step → Type 0
 IsTickOn t i h r x = (reals : Bool) (m : List ℕ) (l : Value) → x ≡ step_in reals (memory_at t m) i h l r
 
 -- ---- what going over a range comes to: where there is no range, no operator or no value to compare with, no visit
-abbrev pub bank_visit : (Bank → ℕ → ℕ → Visited) → BankOf → ℕ → ℕ → Visited
-bank_visit f (BankOf.Is b) i n = cond (good_range b i n) (f b i n) no_visit
-bank_visit f BankOf.Nothing i n = no_visit
+abbrev pub bank_visit : (Bank → ℕ → ℕ → Visited) → Option Bank → ℕ → ℕ → Visited
+bank_visit f (Some b) i n = cond (good_range b i n) (f b i n) no_visit
+bank_visit f None i n = no_visit
 
 -- over the range of the word w
 abbrev pub word_visit : (Bank → ℕ → ℕ → Visited) → ℕ → Visited
 word_visit f w = bank_visit f (bank_numbered (range_bank w)) (range_first w) (range_count w)
 
-abbrev pub total_visit : Bool → Environment → TotalOf → ℕ → Visited
-total_visit reals E (TotalOf.Is o) w = word_visit (total_in reals E o) w
-total_visit reals E TotalOf.Nothing w = no_visit
+-- the range of the word w is n cells of the bank b from i on
+pub record IsRange (w : ℕ) (b : Bank) (i n : ℕ) : Type 0 where
+  pub bank : bank_numbered (range_bank w) ≡ Some b
+  pub first : i ≡ range_first w
+  pub count : n ≡ range_count w
 
-abbrev pub match_visit : Bool → Environment → MatchOf → Value → ℕ → Visited
-match_visit reals E (MatchOf.Is o) v w = word_visit (match_in reals E o v) w
-match_visit reals E MatchOf.Nothing v w = no_visit
+-- it has none, or its bank lacks some
+abbrev pub NoRange : ℕ → Type 0
+NoRange w = (f : Bank → ℕ → ℕ → Visited) → word_visit f w ≡ no_visit
+
+abbrev pub total_visit : Bool → Environment → Option TotalOp → ℕ → Visited
+total_visit reals E (Some o) w = word_visit (total_in reals E o) w
+total_visit reals E None w = no_visit
+
+abbrev pub match_visit : Bool → Environment → Option MatchOp → Value → ℕ → Visited
+match_visit reals E (Some o) v w = word_visit (match_in reals E o v) w
+match_visit reals E None v w = no_visit
 
 -- with the last of h values
 abbrev pub on_last : ℕ → Visited → Visited

@@ -1,4 +1,5 @@
 -- A word's cell, from its letter and its number, which is below the bank's limit. Assumes nothing.
+use Rattle.std.specs.Prelude.{Option, Some, None}
 use mathlib.Core.Path.{◌≡◌, refl, sym, ap}
 use mathlib.Core.Bool.{Bool, true, false, cond}
 use mathlib.Core.List.{List, [], ◌∷◌}
@@ -8,10 +9,6 @@ use lib.Dec.{lit≤}
 use lib.ListN.{length, get_or, drop}
 use Rattle.memory.specs.declared.Bank.{Bank}
 use Rattle.memory.specs.declared.Bank.TheVariants.{X, C, «V», N, D, R}
-use Rattle.memory.specs.declared.names.Letter.{Letter}
-use Rattle.memory.specs.declared.names.Letter.TheVariants as L
-use Rattle.memory.specs.declared.names.Number.TheVariants as E
-use Rattle.memory.specs.declared.names.Named.TheVariants as A
 use Rattle.memory.specs.Layout.{layout_of}
 use Rattle.memory.specs.Names.{letter_bank, decimal_value, decimal_limit, number_below, number_rule, cell_after_letter, named_rule}
 
@@ -24,31 +21,31 @@ few D = lit≤ tt
 few R = lit≤ tt
 
 -- ---- the letter and the rest
-pub empty : (w : List ℕ) → length w ≡ 0 → named_rule w ≡ A.Other
+pub empty : (w : List ℕ) → length w ≡ 0 → named_rule w ≡ None
 unfolding named_rule
 empty [] h = refl
 empty (c ∷ cs) h = absurd (omega arith)
 
-pub named : (w : List ℕ) {l : Letter} → 0 < length w → l ≡ letter_bank (get_or w 0 0) → named_rule w ≡ cell_after_letter (drop 1 w) l
+pub named : (w : List ℕ) {l : (Option Bank)} → 0 < length w → l ≡ letter_bank (get_or w 0 0) → named_rule w ≡ cell_after_letter (drop 1 w) l
 unfolding named_rule
 named [] h e = absurd (omega arith)
 named (c ∷ cs) h e = ap (cell_after_letter cs) (sym e)
 
 -- ---- the cell of a bank and its digits
-no_number : (n : ℕ) → E.Other ≡ E.Is n → ⊥
+no_number : (n : ℕ) → None ≡ Some n → ⊥
 no_number n e = let z : ◌≡◌ {A = ℕ} 0 1 = cc in omega arith
 
 module _ (b : Bank) (cs : List ℕ) where
-  pub no_cell : number_rule (layout_of b).elements cs ≡ E.Other → cell_after_letter cs (L.Of b) ≡ A.Other
+  pub no_cell : number_rule (layout_of b).elements cs ≡ None → cell_after_letter cs (Some b) ≡ None
   no_cell e = by (number_below (layout_of b).elements cs) e
     where
-      by : (t : Bool) → cond t (E.Is (decimal_value cs)) E.Other ≡ E.Other → cond t (A.Cell b (decimal_value cs)) A.Other ≡ A.Other
+      by : (t : Bool) → cond t (Some (decimal_value cs)) None ≡ None → cond {A = Option (Bank × ℕ)} t (Some (b, decimal_value cs)) None ≡ None
       by true f = absurd (no_number (decimal_value cs) (sym f))
       by false f = refl
 
-  pub cell-is : {n : ℕ} → number_rule (layout_of b).elements cs ≡ E.Is n → cell_after_letter cs (L.Of b) ≡ A.Cell b n
+  pub cell-is : {n : ℕ} → number_rule (layout_of b).elements cs ≡ Some n → cell_after_letter cs (Some b) ≡ Some (b, n)
   cell-is {n} e = by (number_below (layout_of b).elements cs) e
     where
-      by : (t : Bool) → cond t (E.Is (decimal_value cs)) E.Other ≡ E.Is n → cond t (A.Cell b (decimal_value cs)) A.Other ≡ A.Cell b n
+      by : (t : Bool) → cond t (Some (decimal_value cs)) None ≡ Some n → cond {A = Option (Bank × ℕ)} t (Some (b, decimal_value cs)) None ≡ Some (b, n)
       by true f = cc
       by false f = absurd (no_number n f)

@@ -2,12 +2,12 @@
 use Rattle.operations.proofs.Runs.{checked}
 use Rattle.operations.proofs.check_in.Goals as goal
 
-pub returns-in-Accepted : goal.returns-in-Accepted
-returns-in-Accepted c =
+pub returns-in-Some : goal.returns-in-Some
+returns-in-Some c =
     let s = c in
-    checked s.args.reals s.args.code.now s.args.n c.check_in.ensures c.in-Accepted.is
+    checked s.args.reals s.args.code.now s.args.n c.check_in.ensures c.in-Some.is
 
-pub returns-in-Refused : goal.returns-in-Refused
-returns-in-Refused c =
+pub returns-in-None : goal.returns-in-None
+returns-in-None c =
     let s = c in
-    checked s.args.reals s.args.code.now s.args.n c.check_in.ensures c.in-Refused.is
+    checked s.args.reals s.args.code.now s.args.n c.check_in.ensures c.in-None.is

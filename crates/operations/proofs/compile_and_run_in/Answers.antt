@@ -17,7 +17,7 @@ run_in-ran-requires c =
       arith,
       c.if-code-lt-LEAST_CODE.false,
     )) in
-    let done = coded-as room c.in-Done.is
+    let done = coded-as room c.in-Ok.is
     c.compile_in.ensures.value in
     few-coded s.args.reals s.args.text.now (judge_in s.args.reals 0 s.args.text.now) refl done
 
@@ -25,21 +25,21 @@ pub finish-requires : goal.finish-requires
 finish-requires c =
     let s = c.args in
     let room = with-room s.reals s.code.now s.text.now (omega (arith, c.if-code-lt-LEAST_CODE.false)) in
-    let done = coded-as room c.in-Done.is c.compile_in.ensures.value in
-    let found = sym c.judge_in.ensures ∙ c.in-In.is in (
+    let done = coded-as room c.in-Ok.is c.compile_in.ensures.value in
+    let found = sym c.judge_in.ensures ∙ c.in-Some.is in (
       few-compiled s.reals s.target.now (target_in s.reals s.target.now) refl found,
       few-counted s.reals _ _ s.tick s.memory.now c.run_in-ran.ensures
           (few-coded s.reals s.text.now (judge_in s.reals 0 s.text.now) refl done),
       runs-finite s.reals _ _ s.tick s.memory.now c.run_in-ran.ensures
           (λ j. omega (arith, c.slice_known-4-1.given j)) (λ j. omega (arith, c.slice_known-1.given j)),
-      storable-end s.reals c.in-In.bank _ _ s.tick s.memory.now c.run_in-ran.ensures
+      storable-end s.reals c.in-Some.bank _ _ s.tick s.memory.now c.run_in-ran.ensures
           (target-bank s.target.now s.reals (target_in s.reals s.target.now) refl found),
     )
 
-pub returns-in-Done : goal.returns-in-Done
-returns-in-Done c =
+pub returns-in-Ok : goal.returns-in-Ok
+returns-in-Ok c =
     let s = c.args in
-    let found = sym c.judge_in.ensures ∙ c.in-In.is in
+    let found = sym c.judge_in.ensures ∙ c.in-Some.is in
     let q = right-sizes s.memory.now s.code.now s.index.now
     (of_target_for s.reals s.text.now s.code.now s.index.now (target_in s.reals s.target.now))
     (omega (arith, c.if-memory-ne-IMAGE_SIZE.false)) (omega (arith, c.if-code-lt-LEAST_CODE.false))
@@ -49,8 +49,8 @@ returns-in-Done c =
     let goes = arrives_in s.reals s.target.now s.tick s.memory.now s.index.now (target_in s.reals s.target.now) refl
     (omega (arith, c.if-index-lt-LEAST_CODE.false)) found in
     let e = c.finish.ensures in
-    let w = performs s.reals s.tick s.text.now s.code.now s.index.now s.memory.now (target_in s.reals s.target.now) c.in-In.bank c.in-In.element
+    let w = performs s.reals s.tick s.text.now s.code.now s.index.now s.memory.now (target_in s.reals s.target.now) c.in-Some.bank c.in-Some.element
     (judge_in s.reals 0 s.text.now) q refl (omega (arith, c.if-code-lt-LEAST_CODE.false))
-    (coded-as room c.in-Done.is c.compile_in.ensures.value)
+    (coded-as room c.in-Ok.is c.compile_in.ensures.value)
     (written_as room s.code.now c.compile_in.ensures.code_after) c.write_index.ensures c.run_in-ran.ensures goes (e.value, e.memory_after) in
     record { value = w.0; memory_after = w.1.0; code_after = w.1.1.0; index_after = w.1.1.1 }

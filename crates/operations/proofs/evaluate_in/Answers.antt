@@ -19,25 +19,25 @@ returns-in_default c =
 pub run_in-ran-requires : goal.run_in-ran-requires
 run_in-ran-requires c =
     let s = c in
-    few-accepted s.args.reals s.args.code.now s.args.n (sym c.check_in.ensures ∙ c.in-Accepted.is)
+    few-accepted s.args.reals s.args.code.now s.args.n (sym c.check_in.ensures ∙ c.in-Some.is)
 
 pub returns-in-Done : goal.returns-in-Done
 returns-in-Done c =
     let s = c in
     evaluates-to s.args.reals s.args.tick s.args.code.now s.args.n s.args.memory.now (omega arith)
-    (sym c.check_in.ensures ∙ c.in-Accepted.is)
+    (sym c.check_in.ensures ∙ c.in-Some.is)
     c.run_in-ran.ensures c.in-Done.is refl
 
 pub returns-in-Stopped : goal.returns-in-Stopped
 returns-in-Stopped c =
     let s = c in
     evaluates-to s.args.reals s.args.tick s.args.code.now s.args.n s.args.memory.now (omega arith)
-    (sym c.check_in.ensures ∙ c.in-Accepted.is)
+    (sym c.check_in.ensures ∙ c.in-Some.is)
     c.run_in-ran.ensures c.in-Stopped.is refl
 
 pub returns-in-Stuck : goal.returns-in-Stuck
 returns-in-Stuck c =
     let s = c in
     evaluates-to s.args.reals s.args.tick s.args.code.now s.args.n s.args.memory.now (omega arith)
-    (sym c.check_in.ensures ∙ c.in-Accepted.is)
+    (sym c.check_in.ensures ∙ c.in-Some.is)
     c.run_in-ran.ensures c.in-Stuck.is refl

@@ -31,24 +31,24 @@ returns-in_default-check_in c =
     s.args.memory.now s.args.tick
     (named s.args.reals s.args.code.now s.args.n s.args.target.now s.args.index.now s.args.k
     s.args.memory.now (omega arith) (sym c.to_run_in.ensures
-    ∙ c.in-In.is) (sym c.check_in.ensures ∙ c.in_default-check_in.is)) in
+    ∙ c.in-Some.is) (sym c.check_in.ensures ∙ c.in_default-check_in.is)) in
     record { value = pair.0; memory_after = pair.1 }
 
 pub run_in-ran-requires : goal.run_in-ran-requires
 run_in-ran-requires c =
     let s = c in
     few-accepted s.args.reals s.args.code.now s.args.n (sym c.check_in.ensures
-    ∙ c.in-Accepted.is)
+    ∙ c.in-Some-check_in.is)
 
 pub finish-requires : goal.finish-requires
 finish-requires c =
     let s = c.args in
-    let found = sym c.to_run_in.ensures ∙ c.in-In.is in
-    let few = few-accepted s.reals s.code.now s.n (sym c.check_in.ensures ∙ c.in-Accepted.is) in (
+    let found = sym c.to_run_in.ensures ∙ c.in-Some.is in
+    let few = few-accepted s.reals s.code.now s.n (sym c.check_in.ensures ∙ c.in-Some-check_in.is) in (
       few-checked s.reals s.index.now _ (sym c.index_passes.ensures ∙ c.if-not-index_passes.false),
       few-counted s.reals s.code.now s.n s.tick s.memory.now c.run_in-ran.ensures few,
       runs-finite s.reals s.code.now s.n s.tick s.memory.now c.run_in-ran.ensures
           (λ j. omega (arith, c.type_inv.code j)) (λ j. omega (arith, c.slice_known-1.given j)),
-      storable-end s.reals c.in-In.bank s.code.now s.n s.tick s.memory.now c.run_in-ran.ensures
+      storable-end s.reals c.in-Some.bank s.code.now s.n s.tick s.memory.now c.run_in-ran.ensures
           (found-bank s.reals (found_to_run s.k s.target.now) found),
     )

@@ -14,8 +14,8 @@ use Rattle.operations.proofs.store_in.Goals as goal
 pub to_element-requires : goal.to_element-requires
 to_element-requires c =
     let s = c.args in
-    let bank = c.in-In.bank in
-    let found = sym c.to_run_in.ensures ∙ c.in-In.is in
+    let bank = c.in-Some.bank in
+    let found = sym c.to_run_in.ensures ∙ c.in-Some.is in
     let kept = sym (c.is_unstorable.ensures s.bits) ∙ c.if-is_unstorable.false in (
       few-index (few-checked s.reals s.index.now _ (sym c.index_passes.ensures ∙ c.if-not-index_passes.false)) c.in-By.is,
       omega arith,
@@ -28,10 +28,10 @@ pub returns-in-By-clause-value : goal.returns-in-By-clause-value
 returns-in-By-clause-value c =
     let s = c.args in
     let v = given_value s.kind s.bits in
-    let found = sym c.to_run_in.ensures ∙ c.in-In.is in
+    let found = sym c.to_run_in.ensures ∙ c.in-Some.is in
     let aim = aims s.reals s.tick v s.target.now s.index.now s.k s.memory.now (omega (arith, c.if-memory-ne-IMAGE_SIZE.false)) found
     (sym c.index_passes.ensures ∙ c.if-not-index_passes.false) in
     let kept = sym (c.is_unstorable.ensures s.bits) ∙ c.if-is_unstorable.false in
     let e = c.to_element.ensures in
     (follows s.reals s.tick v s.target.now s.index.now s.k s.memory.now aim kept c.given-v.ensures
-    (by_index s.reals s.tick s.index.now s.memory.now c.in-In.bank c.in-In.element c.given-v.result 0 c.in-By.is (e.value, e.memory_after))).0
+    (by_index s.reals s.tick s.index.now s.memory.now c.in-Some.bank c.in-Some.element c.given-v.result 0 c.in-By.is (e.value, e.memory_after))).0

@@ -1,11 +1,8 @@
 -- `operators::arith` meets its contract: integers, or reals, as the operands pair.
-use borrow.Author.Rules.{rules}
 use mathlib.Core.Path.{sym, ◌∙◌}
-use mir.Syntax.{w32}
-use mir.Val.{SFits}
 use Rattle.values.specs.Integers.{int_arith}
 use Rattle.values.specs.Singles.{real_arith}
-use Rattle.operators.proofs.Cases.{as_ints, as-reals}
+use Rattle.operators.proofs.Cases.{as-reals}
 use Rattle.operators.proofs.arith.Goals as goal
 
 pub returns-in-Reals : goal.returns-in-Reals

@@ -1,5 +1,4 @@
 -- `operators::branch` meets its contract: promoted where the other branch is real.
-use borrow.Author.Rules.{rules}
 use Rattle.operators.proofs.branch.Goals as goal
 
 pub returns-in-Real : goal.returns-in-Real

@@ -1,5 +1,4 @@
 -- `operators::round` meets its contract: an integer as it is, a real rounded.
-use borrow.Author.Rules.{rules}
 use Rattle.operators.proofs.round.Goals as goal
 
 pub returns-in-Int : goal.returns-in-Int

@@ -1,5 +1,4 @@
 -- `operators::truncate` meets its contract: an integer as it is, a real cut.
-use borrow.Author.Rules.{rules}
 use Rattle.operators.proofs.truncate.Goals as goal
 
 pub returns-in-Int : goal.returns-in-Int

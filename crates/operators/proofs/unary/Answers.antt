@@ -1,5 +1,4 @@
 -- `operators::unary` meets its contract: each operator is one call.
-use borrow.Author.Rules.{rules}
 use Rattle.reals.specs.declared.ArithOp.TheVariants.{Rem}
 use Rattle.values.specs.Integers.{int_arith}
 use Rattle.values.specs.Singles.{real_arith}

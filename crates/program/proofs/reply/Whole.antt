@@ -9,7 +9,8 @@ use Rattle.memory.proofs.Runs.{run-written}
 use Rattle.delivery.specs.declared.Answer.{Answer}
 use Rattle.operations.specs.Operations.{request, request_answer, request_memory}
 use Rattle.operations.proofs.Cells.{done-inside}
-use Rattle.program.specs.Cases.{Case, zeros}
+use Rattle.program.specs.declared.case.Case.{Case}
+use Rattle.program.specs.Cases.{zeros}
 use Rattle.lines.specs.private.Steps.{Puts}
 use Rattle.program.specs.Reply.{answer_text, CellInside, program_tick, reply_to}
 

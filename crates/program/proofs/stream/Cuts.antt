@@ -1,4 +1,5 @@
 -- A line of which only the first bytes are kept does to a case what the whole line does, as far as the reply goes. Assumes nothing.
+use Rattle.std.specs.Prelude.{Option, Some, None}
 use mathlib.Core.Path.{◌≡◌, refl, sym, ap, ◌∙◌}
 use mathlib.Core.Bool.{Bool, true, false, ◌&&◌, cond, and-false}
 use mathlib.Core.List.{List, [], ◌∷◌, ◌++◌}
@@ -9,8 +10,6 @@ use lib.ListN.{length, take, drop, length-drop}
 use lib.Seq.{take-nil, take-take, take_all, length-take-le}
 use borrow.Author.Tests.{ltb-true, ltb-false, lt-leb}
 use Rattle.memory.specs.declared.Bank.{Bank}
-use Rattle.memory.specs.declared.names.Named.{Named}
-use Rattle.memory.specs.declared.names.Named.TheVariants.{Cell, Other}
 use Rattle.memory.specs.Layout.{image_size}
 use Rattle.memory.specs.Names.{named_rule}
 use Rattle.tokens.specs.Bytes.{run_len}
@@ -20,7 +19,8 @@ use Rattle.text.specs.Targets.{Target, to_cell, to_indexed, no_target, indexed_t
 use Rattle.operations.specs.Operations.{report_of, Request, stops, of_text, of_target, request_answer, request_memory}
 use Rattle.lines.specs.Forms.{cell_pattern}
 use Rattle.lines.specs.Lines.{except, key_length}
-use Rattle.program.specs.Cases.{Case, put_form, set_cell, target_key, expr_key, keyed, after_line, zeros}
+use Rattle.program.specs.declared.case.Case.{Case}
+use Rattle.program.specs.Cases.{put_form, set_cell, target_key, expr_key, keyed, after_line, zeros}
 use Rattle.program.specs.Reply.{report_text, stored_text, program_tick, reply_to}
 use Rattle.program.specs.Stream.{kept_bytes, asked_for}
 use Rattle.lines.proofs.Long.{short-name, no_name, no_target_lem, no_value}
@@ -119,12 +119,12 @@ either false f g = g refl
 record Like (key v w : List ℕ) : Type 0 where
   target : equal_bytes key target_key ≡ true → target_of v ≡ target_of w
   text : equal_bytes key expr_key ≡ true → judge v ≡ judge w
-  form : (b : Bank) {i : ℕ} → named_rule key ≡ Cell b i → cell_pattern b v ≡ cell_pattern b w
+  form : (b : Bank) {i : ℕ} → named_rule key ≡ Some (b, i) → cell_pattern b v ≡ cell_pattern b w
 
 module _ (s t : Case) (a : Agrees s t) where
-  set-cell : (key v w : List ℕ) → Like key v w → (n : Named) → named_rule key ≡ n → set_cell s.memory v n ≡ set_cell t.memory w n
-  set-cell key v w k (Cell b i) e = ap (λ (m : List ℕ). put_form m b i (cell_pattern b v)) a.memory ∙ ap (put_form t.memory b i) (k.form b e)
-  set-cell key v w k Other e = a.memory
+  set-cell : (key v w : List ℕ) → Like key v w → (n : (Option (Bank × ℕ))) → named_rule key ≡ n → set_cell s.memory v n ≡ set_cell t.memory w n
+  set-cell key v w k (Some (b, i)) e = ap (λ (m : List ℕ). put_form m b i (cell_pattern b v)) a.memory ∙ ap (put_form t.memory b i) (k.form b e)
+  set-cell key v w k None e = a.memory
 
   line : (key v w : List ℕ) → Like key v w → Agrees (keyed s key v) (keyed t key w)
   unfolding keyed

@@ -7,9 +7,11 @@ use lib.Dec.{eqb}
 use lib.ListN.{take}
 use Rattle.memory.specs.Layout.{image_size}
 use Rattle.lines.specs.Lines.{cons_line, lines}
-use Rattle.program.specs.Cases.{Case, after_line, after_lines, empty_case, zeros, case_of}
+use Rattle.program.specs.declared.case.Case.{Case}
+use Rattle.program.specs.Cases.{after_line, after_lines, empty_case, zeros, case_of}
 use Rattle.program.specs.Reply.{reply_to, reply}
-use Rattle.program.specs.Stream.{kept_bytes, Progress, no_progress, after_byte, after_bytes, case_at_end, StreamLaws}
+use Rattle.program.specs.declared.stream.Progress.{Progress}
+use Rattle.program.specs.Stream.{kept_bytes, no_progress, after_byte, after_bytes, case_at_end, StreamLaws}
 use Rattle.program.proofs.stream.Cuts.{Agrees, itself, same-request, same-reply, kept_line}
 
 in_parts : (p : Progress) (a b : List ℕ) → after_bytes p (a ++ b) ≡ after_bytes (after_bytes p a) b

@@ -1,34 +1,17 @@
--- `reply` meets its contract: a bad target comes first, then what the text comes to.
+-- `reply` meets its contract: the cells of what was compiled, or the refusal.
 use mathlib.Core.Path.{ap, ◌∙◌}
 use native.Mathlib.Omega.{arith}
 use Rattle.lines.proofs.Stores.{as-text}
 use Rattle.program.specs.Reply.{report_text}
-use Rattle.program.proofs.Answers.{fault-not, refused-not}
-use Rattle.read_reply.proofs.Replies.{target-done, target-not}
+use Rattle.read_reply.proofs.Replies.{cells, refusal}
 use Rattle.read_reply.proofs.reply.Goals as goal
 
-pub returns-in-Done : goal.returns-in-Done
-returns-in-Done c =
-    record {
-      puts = as-text (target-done c.args.target.now c.args.text.now c.blank_code-index.ensures.1 c.compile_target-answer.ensures.value
-          c.in-Done.is c.compile_target-answer.ensures.index_after) c.reply_to_text.ensures.puts;
-      upper_bound = c.reply_to_text.ensures.upper_bound;
-    }
+pub returns-in-Ok : goal.returns-in-Ok
+returns-in-Ok c = record { puts = as-text (cells c.in-Ok.ensures) c.put_cells.ensures.puts; upper_bound = c.put_cells.ensures.upper_bound }
 
-pub returns-in-Fault : goal.returns-in-Fault
-returns-in-Fault c =
-    let same = target-not c.args.target.now c.args.text.now c.blank_code-index.ensures.1 c.compile_target-answer.ensures.value
-    (fault-not c.in-Fault.is) in
+pub returns-in-Err : goal.returns-in-Err
+returns-in-Err c =
     record {
-      puts = as-text (ap report_text c.reported.ensures ∙ same) c.put_report.ensures.puts;
+      puts = as-text (ap report_text c.reported.ensures ∙ refusal c.in-Err.ensures) c.put_report.ensures.puts;
       upper_bound = omega (arith, c.put_report.ensures.upper_bound);
-    }
-
-pub returns-in-Refused : goal.returns-in-Refused
-returns-in-Refused c =
-    let same = target-not c.args.target.now c.args.text.now c.blank_code-index.ensures.1 c.compile_target-answer.ensures.value
-    (refused-not c.in-Refused.is) in
-    record {
-      puts = as-text (ap report_text c.reported-in-Refused.ensures ∙ same) c.put_report-in-Refused.ensures.puts;
-      upper_bound = omega (arith, c.put_report-in-Refused.ensures.upper_bound);
     }

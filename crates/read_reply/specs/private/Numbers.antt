@@ -4,14 +4,7 @@ use Rattle.words.specs.Ascii.{ascii}
 use Rattle.memory.specs.declared.Bank.{Bank}
 use Rattle.memory.specs.declared.Bank.TheVariants.{X, C, «V», N, D, R}
 use Rattle.lines.specs.Printing.{cell_name}
-use Rattle.text.specs.Judge.{Judgement, accepted, refused}
-use Rattle.code.specs.Instructions.{instructions}
-use Rattle.read_set.specs.Cells.{union, code_cells, cell_list, first_number, cell_count}
-use Rattle.read_laws.specs.Formulas.{tree_cells}
-use Rattle.delivery.specs.declared.Answer.TheVariants.{Refused}
-use Rattle.operations.specs.Operations.{report_of}
-use Rattle.program.specs.Reply.{report_text}
-use Rattle.read_reply.specs.Listing.{cell_lines}
+use Rattle.read_set.specs.Cells.{first_number, cell_count}
 
 -- the bank of a cell's number
 abbrev pub numbered_bank : ℕ → Bank
@@ -33,8 +26,3 @@ number_lines (n ∷ ns) = number_text n ++ number_lines ns
 -- each is the number of a cell
 pub record CellNumbers (list : List ℕ) : Type 0 where
   pub below : (k : ℕ) → k < length list → get_or list k 0 < cell_count
-
--- what is printed of an expression's judgement, with the first k instructions of an index code beside it
-unfoldable pub text_lines : List ℕ → ℕ → Judgement → List ℕ
-text_lines index k (accepted t) = cell_lines (cell_list (union (tree_cells t) (code_cells (instructions index k))))
-text_lines index k (refused a p) = report_text (report_of (Refused a p))

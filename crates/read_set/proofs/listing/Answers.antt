@@ -1,49 +1,32 @@
--- `listing` meets its contract. The invariant: what is left to list, behind what is listed, is the whole list. The measure is how many numbers are left.
-use mathlib.Core.Path.{refl}
+-- `listing` meets its contract. The invariant: what is left to list, behind what is listed, is the whole list.
+use mathlib.Core.Path.{◌≡◌, refl}
+use Prim.Native.Nat.{◌+◌}
 use native.Mathlib.Omega.{arith}
-use Rattle.read_set.specs.private.Reaches.{reached_to}
+use lib.ListN.{get_or}
+use borrow.Author.Rules.{rules}
+use Rattle.read_set.specs.private.Reaches.{reached_to, larger}
 use Rattle.read_set.proofs.Numbering.{begins, reached, listed, skipped, all-counted, all-written}
 use Rattle.read_set.proofs.listing.Goals as goal
+use Rattle.read_set.proofs.listing.Goals.{then-number-end, else-number-end}
 
 pub loop-number-init : goal.loop-number-init
 unfolding reached_to
-loop-number-init c = (omega arith, omega arith, c.requires, refl, begins _ _)
-
-pub offset_bounds-reaches-this : goal.offset_bounds-reaches-this
-offset_bounds-reaches-this c = omega arith
-
-pub bounds-reaches-this : goal.bounds-reaches-this
-bounds-reaches-this c = omega arith
-
-pub overflow_add-this : goal.overflow_add-this
-overflow_add-this c = omega (arith, c.type_inv.reaches c.loop-number.number)
-
-pub overflow_add-number : goal.overflow_add-number
-overflow_add-number c = omega arith
-
-pub overflow_add-found : goal.overflow_add-found
-overflow_add-found c = omega arith
-
-pub loop-number-smaller-then-this-end : goal.loop-number-smaller-then-this-end
-loop-number-smaller-then-this-end c = omega arith
-
-pub loop-number-preserved-then-this-end : goal.loop-number-preserved-then-this-end
-loop-number-preserved-then-this-end c =
-    let l = c.loop-number in
-    let r = reached c.args.reaches.now l.number l.invariant.3 c.larger-end.ensures in
-    (omega arith, omega arith, l.invariant.2, r, listed l.invariant.4 c.loop-number-test.true r c.if-this-end.true c.put.ensures)
-
-pub loop-number-smaller : goal.loop-number-smaller
-loop-number-smaller c = omega arith
+loop-number-init c = (omega arith, c.requires, refl, begins _ _)
 
 pub loop-number-preserved : goal.loop-number-preserved
 loop-number-preserved c =
     let l = c.loop-number in
-    let r = reached c.args.reaches.now l.number l.invariant.3 c.larger-end.ensures in
-    (omega arith, omega arith, l.invariant.2, r, skipped l.invariant.4 c.loop-number-test.true r c.if-this-end.false)
+    let more : c.max-end.result ≡ larger l.end (l.number + get_or c.args.reaches.now l.number 0) = search rules in
+    let r = reached c.args.reaches.now l.number l.invariant.2 more in
+    elim c.if-number-end.branch [
+      | then-number-end w ↦ rw (w.found-is, w.list-is)
+          (omega arith, l.invariant.1, r, listed l.invariant.3 c.loop-number-test.true r w.if-number-end.true w.put.ensures)
+      | else-number-end w ↦ rw (w.found-is, w.list-is)
+          (omega arith, l.invariant.1, r, skipped l.invariant.3 c.loop-number-test.true r w.if-number-end.false)
+    ]
 
 pub returns : goal.returns
 returns c = record {
-  value = all-counted c.loop-number.invariant.4 c.loop-number-test.false;
-  list_after = all-written c.loop-number.invariant.4 c.loop-number-test.false;
+  value = all-counted c.loop-number.invariant.3 c.loop-number-test.false;
+  list_after = all-written c.loop-number.invariant.3 c.loop-number-test.false;
 }

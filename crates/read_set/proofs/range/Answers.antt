@@ -3,14 +3,14 @@ use Rattle.memory.specs.Numbers.{bank_numbered}
 use Rattle.read_set.proofs.Classes.{found, range-known, range_none}
 use Rattle.read_set.proofs.range.Goals as goal
 
-pub returns-in-Is : goal.returns-in-Is
-returns-in-Is c =
+pub returns-in-Some : goal.returns-in-Some
+returns-in-Some c =
     range-known c.args.word
-    (found bank_numbered c.range_bank.ensures c.bank_numbered.ensures c.in-Is.is)
+    (found bank_numbered c.range_bank.ensures c.bank_numbered.ensures c.in-Some.is)
     c.range_first.ensures c.range_count.ensures
     c.stretch.ensures
 
-pub returns-in-Nothing : goal.returns-in-Nothing
-returns-in-Nothing c =
+pub returns-in-None : goal.returns-in-None
+returns-in-None c =
     range_none c.args.word
-    (found bank_numbered c.range_bank.ensures c.bank_numbered.ensures c.in-Nothing.is) c.nothing.ensures
+    (found bank_numbered c.range_bank.ensures c.bank_numbered.ensures c.in-None.is) c.nothing.ensures

@@ -4,12 +4,12 @@ use Rattle.code.specs.Instructions.{word_of}
 use Rattle.read_set.proofs.Classes.{found, total-known, total-none}
 use Rattle.read_set.proofs.total.Goals as goal
 
-pub returns-in-Is : goal.returns-in-Is
-returns-in-Is c =
+pub returns-in-Some : goal.returns-in-Some
+returns-in-Some c =
     total-known _ (word_of c.args.w)
-    (found total_of c.number_of.ensures c.total_of.ensures c.in-Is.is) c.word_of.ensures c.range.ensures
+    (found total_of c.number_of.ensures c.total_of.ensures c.in-Some.is) c.word_of.ensures c.range.ensures
 
-pub returns-in-Nothing : goal.returns-in-Nothing
-returns-in-Nothing c =
+pub returns-in-None : goal.returns-in-None
+returns-in-None c =
     total-none (word_of c.args.w)
-    (found total_of c.number_of.ensures c.total_of.ensures c.in-Nothing.is) c.nothing.ensures
+    (found total_of c.number_of.ensures c.total_of.ensures c.in-None.is) c.nothing.ensures

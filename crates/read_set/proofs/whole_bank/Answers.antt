@@ -12,14 +12,14 @@ returns-then-word_of-ne0 c =
     bank-unknown (bank_numbered (number_of c.args.w)) _ (word_of c.args.w)
     c.word_of.ensures c.if-word_of-ne0.true c.nothing.ensures
 
-pub returns-in-Is : goal.returns-in-Is
-returns-in-Is c =
+pub returns-in-Some : goal.returns-in-Some
+returns-in-Some c =
     bank-known _ (word_of c.args.w) _
     c.word_of.ensures
     c.if-word_of-ne0.false (ap (λ (l : Layout). l.elements) c.layout_of.ensures)
-    (found bank_numbered c.number_of.ensures c.bank_numbered.ensures c.in-Is.is) c.stretch.ensures
+    (found bank_numbered c.number_of.ensures c.bank_numbered.ensures c.in-Some.is) c.stretch.ensures
 
-pub returns-in-Nothing : goal.returns-in-Nothing
-returns-in-Nothing c =
+pub returns-in-None : goal.returns-in-None
+returns-in-None c =
     bank-none load_indexed (word_of c.args.w)
-    (found bank_numbered c.number_of.ensures c.bank_numbered.ensures c.in-Nothing.is) c.nothing-in-Nothing.ensures
+    (found bank_numbered c.number_of.ensures c.bank_numbered.ensures c.in-None.is) c.nothing-in-None.ensures

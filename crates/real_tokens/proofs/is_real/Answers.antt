@@ -7,12 +7,6 @@ use Rattle.real_tokens.proofs.is_real.Goals as goal
 pub returns-in-2 : goal.returns-in-2
 returns-in-2 c = rw (sym c.class_of.ensures, c.in-2.is)
 
-pub returns-in-3 : goal.returns-in-3
-returns-in-3 c = rw (c.bank_kind.ensures, c.operand_of-operand.ensures, sym c.class_of.ensures, c.in-3.is)
-
-pub returns-in-4 : goal.returns-in-4
-returns-in-4 c = rw (c.bank_kind-in-4.ensures, c.operand_of-operand.ensures, sym c.class_of.ensures, c.in-4.is)
-
 pub returns-in-5 : goal.returns-in-5
 returns-in-5 c = rw (
   c.is_real_function.ensures,

@@ -9,22 +9,16 @@ use borrow.Author.Rules.{rules}
 use Rattle.remainder.proofs.Specials.{same, nan-dividend, nan-divisor, zero-divisor, infinite-dividend, below-infinity}
 use Rattle.remainder.proofs.Remainders.{of-smaller, of-larger}
 use Rattle.remainder.proofs.remainder.Goals as goal
-use Rattle.remainder.proofs.remainder.Goals.{then-x-via-then-x, then-x-via-else-x+then-y, then-b-eq0-via-then-b-eq0, then-b-eq0-via-else-b-eq0+then-a-ge-INFINITY}
+use Rattle.remainder.proofs.remainder.Goals.{then-is_nan-via-then-is_nan, then-is_nan-via-else-is_nan+then-is_nan-2, then-b-eq0-via-then-b-eq0, then-b-eq0-via-else-b-eq0+then-a-ge-INFINITY}
 
-pub returns-then-x : goal.returns-then-x
-returns-then-x c =
+pub returns-then-is_nan : goal.returns-then-is_nan
+returns-then-is_nan c =
     let x = c.args.x in
     let y = c.args.y in
-    c.quiet_nan.ensures ∙ sym (elim c.then-x.branch [
-      | then-x-via-then-x w ↦ nan-dividend x y w.if-x.true
-      | then-x-via-else-x+then-y w ↦ nan-divisor x y w.if-y.true
+    c.quiet_nan.ensures ∙ sym (elim c.then-is_nan.branch [
+      | then-is_nan-via-then-is_nan w ↦ nan-dividend x y (sym c.is_nan.ensures.value ∙ w.if-is_nan.true)
+      | then-is_nan-via-else-is_nan+then-is_nan-2 w ↦ nan-divisor x y (sym w.is_nan-else-is_nan.ensures.value ∙ w.if-is_nan-2.true)
     ])
-
-pub float_to_bits-p : goal.float_to_bits-p
-float_to_bits-p c = same c.args.x c.if-x.false
-
-pub float_to_bits-b : goal.float_to_bits-b
-float_to_bits-b c = same c.args.y c.if-y.false
 
 pub returns-then-b-eq0 : goal.returns-then-b-eq0
 returns-then-b-eq0 c =
@@ -35,7 +29,7 @@ returns-then-b-eq0 c =
     c.quiet_nan-then-b-eq0.ensures ∙ sym (elim c.then-b-eq0.branch [
       | then-b-eq0-via-then-b-eq0 w ↦ zero-divisor x y G w.if-b-eq0.true
       | then-b-eq0-via-else-b-eq0+then-a-ge-INFINITY w ↦
-          infinite-dividend x y F (same x c.if-x.false) (omega (arith, leb-true, ltb-true))
+          infinite-dividend x y F (same x (sym c.is_nan.ensures.value ∙ c.if-is_nan.false)) (omega (arith, leb-true, ltb-true))
     ])
 
 pub returns-then-a-b : goal.returns-then-a-b
@@ -44,7 +38,7 @@ returns-then-a-b c =
     let y = c.args.y in
     let F : T (fits binary32 x) = search rules in
     let G : T (fits binary32 y) = search rules in
-    of-smaller x y F G (omega (arith, leb-false)) (same y c.if-y.false) (omega arith)
+    of-smaller x y F G (omega (arith, leb-false)) (same y (sym c.is_nan-else-is_nan.ensures.value ∙ c.if-is_nan-2.false)) (omega arith)
 
 pub overflow_add-result : goal.overflow_add-result
 overflow_add-result c =

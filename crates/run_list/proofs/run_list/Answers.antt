@@ -1,6 +1,8 @@
 -- `run_list::run_list` meets its contract: the formulas before are run, with their answers in the first places.
 use mathlib.Core.Path.{ap}
 use native.Mathlib.Omega.{arith}
+use Prim.Native.Nat.{◌*◌}
+use Rattle.std.proofs.lemmas.List.{take_rest}
 use Rattle.operations.specs.declared.Report.{Report}
 use Rattle.list_laws.specs.Running.{Buffers}
 use Rattle.run_list.proofs.Turns.{start, next, gives, over, end}
@@ -17,31 +19,11 @@ returns-then-count-gt-MOST_LISTED c =
 pub loop-k-init : goal.loop-k-init
 loop-k-init c = start _ _ _ _
 
-pub slice_bounds-compile_and_run-count : goal.slice_bounds-compile_and_run-count
-slice_bounds-compile_and_run-count c = omega (arith, c.cut-target.ensures.order, c.cut-target.ensures.inside)
-
-pub slice_bounds-compile_and_run-start : goal.slice_bounds-compile_and_run-start
-slice_bounds-compile_and_run-start c = omega (arith, c.cut-target.ensures.order, c.cut-target.ensures.inside)
-
-pub slice_bounds-compile_and_run-end : goal.slice_bounds-compile_and_run-end
-slice_bounds-compile_and_run-end c = omega (arith, c.cut-target.ensures.order, c.cut-target.ensures.inside)
-
-pub slice_bounds-compile_and_run-count-in-loop-k : goal.slice_bounds-compile_and_run-count-in-loop-k
-slice_bounds-compile_and_run-count-in-loop-k c = omega (arith, c.cut-text.ensures.order, c.cut-text.ensures.inside)
-
-pub slice_bounds-compile_and_run-start-in-loop-k : goal.slice_bounds-compile_and_run-start-in-loop-k
-slice_bounds-compile_and_run-start-in-loop-k c = omega (arith, c.cut-text.ensures.order, c.cut-text.ensures.inside)
-
-pub slice_bounds-compile_and_run-end-in-loop-k : goal.slice_bounds-compile_and_run-end-in-loop-k
-slice_bounds-compile_and_run-end-in-loop-k c = omega (arith, c.cut-text.ensures.order, c.cut-text.ensures.inside)
-
-pub bounds-answers-k : goal.bounds-answers-k
-bounds-answers-k c = omega (arith, c.if-count-gt-MOST_LISTED.false, c.loop-k-test.true)
-
 pub loop-k-preserved : goal.loop-k-preserved
 loop-k-preserved c =
     let e = c.compile_and_run-answer.ensures in
-    next _ _ _ _ c.loop-k-test.true c.if-count-gt-MOST_LISTED.false c.loop-k.invariant c.cut-target.ensures c.cut-text.ensures
+    let words = take_rest c.args.places.now (4 * c.loop-k.k) in
+    next _ _ _ _ c.loop-k-test.true c.if-count-gt-MOST_LISTED.false c.loop-k.invariant (rw words at c.cut-target.ensures) (rw words at c.cut-text.ensures)
     (e.value, (e.memory_after, (e.code_after, e.index_after))) (ap (λ (x : Report). x.answer) c.reported.ensures)
 
 pub returns : goal.returns

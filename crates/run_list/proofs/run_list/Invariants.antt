@@ -1,5 +1,4 @@
--- The invariant of `run_list::run_list`: the formulas before are run, with their answers in the first places. The measure is how many are left.
-use Prim.Native.Nat.{◌-◌}
+-- The invariant of `run_list::run_list`: the formulas before are run, with their answers in the first places.
 use Rattle.run_list.proofs.Turns.{Ran}
 use Rattle.run_list.proofs.run_list.Given as goal
 
@@ -7,6 +6,3 @@ abbrev pub invariant-loop-k : goal.invariant-loop-k
 invariant-loop-k l =
     Ran l.tick l.places l.texts (record { memory = l.initial.memory; code = l.initial.code; index = l.initial.index_code }) l.k l.answers
     (record { memory = l.memory; code = l.code; index = l.index_code })
-
-abbrev pub decreases-loop-k : goal.decreases-loop-k
-decreases-loop-k l = l.count - l.k

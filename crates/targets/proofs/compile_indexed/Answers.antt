@@ -11,13 +11,13 @@ use Rattle.targets.proofs.Indexing.{between, no-bank, an-index, no_index, bank-f
 use borrow.Author.Rules.{rules}
 use Rattle.targets.proofs.compile_indexed.Goals as goal
 
-pub returns-in_default : goal.returns-in_default
-returns-in_default c =
+pub returns-in_err-bank : goal.returns-in_err-bank
+returns-in_err-bank c =
     let pair = no-bank c.args.reals c.args.target.now
     c.args.code.now
     (ap (bank_in c.args.reals) (sym c.enclosed_bank.ensures)
-    ∙ sym c.taken_bank.ensures ∙ c.in_default.is) in
-    record { value = pair.0; code_after = pair.1 }
+    ∙ sym c.in_err-bank.ensures) in
+    record { value = c.from_residual.ensures ∙ pair.0; code_after = pair.1 }
 
 pub overflow_sub-end : goal.overflow_sub-end
 overflow_sub-end c = omega (
@@ -26,7 +26,7 @@ overflow_sub-end c = omega (
       (bank-full c.args.reals
       (enclosed_bank c.args.target.now)
       (ap (bank_in c.args.reals) (sym c.enclosed_bank.ensures)
-      ∙ sym c.taken_bank.ensures ∙ c.in-Of.is)),
+      ∙ sym c.in_ok-bank.ensures)),
 )
 
 pub slice_bounds-compile_in-count : goal.slice_bounds-compile_in-count
@@ -36,7 +36,7 @@ slice_bounds-compile_in-count c = omega (
       (bank-full c.args.reals
       (enclosed_bank c.args.target.now)
       (ap (bank_in c.args.reals) (sym c.enclosed_bank.ensures)
-      ∙ sym c.taken_bank.ensures ∙ c.in-Of.is)),
+      ∙ sym c.in_ok-bank.ensures)),
 )
 
 pub slice_bounds-compile_in-start : goal.slice_bounds-compile_in-start
@@ -46,11 +46,11 @@ slice_bounds-compile_in-start c = omega (
       (bank-full c.args.reals
       (enclosed_bank c.args.target.now)
       (ap (bank_in c.args.reals) (sym c.enclosed_bank.ensures)
-      ∙ sym c.taken_bank.ensures ∙ c.in-Of.is)),
+      ∙ sym c.in_ok-bank.ensures)),
 )
 
-pub returns-in-Done : goal.returns-in-Done
-returns-in-Done c =
+pub returns-in-Ok : goal.returns-in-Ok
+returns-in-Ok c =
     let pair = let q = with-room c.args.reals c.args.code.now
     _ c.requires
     ∙ ap (judge_in c.args.reals 1) (between c.args.target.now) in
@@ -58,16 +58,15 @@ returns-in-Done c =
     c.args.target.now
     c.args.code.now
     (ap (bank_in c.args.reals) (sym c.enclosed_bank.ensures)
-    ∙ sym c.taken_bank.ensures
-    ∙ c.in-Of.is)
+    ∙ sym c.in_ok-bank.ensures)
     (judge_in c.args.reals 1
-    (index_text c.args.target.now)) refl (sym c.in-Done.is ∙ c.compile_in.ensures.value ∙ ap coded_answer q)
+    (index_text c.args.target.now)) refl (sym c.in-Ok.is ∙ c.compile_in.ensures.value ∙ ap coded_answer q)
     (c.compile_in.ensures.code_after
     ∙ ap (coded_bytes c.args.code.now) q) in
     record { value = pair.0; code_after = pair.1 }
 
-pub returns-in-Refused : goal.returns-in-Refused
-returns-in-Refused c =
+pub returns-in-Err : goal.returns-in-Err
+returns-in-Err c =
     let pair = let q = with-room c.args.reals
     c.args.code.now _
     c.requires
@@ -78,11 +77,10 @@ returns-in-Refused c =
     c.args.code.now
     (ap (bank_in c.args.reals)
     (sym c.enclosed_bank.ensures)
-    ∙ sym c.taken_bank.ensures
-    ∙ c.in-Of.is)
+    ∙ sym c.in_ok-bank.ensures)
     (judge_in c.args.reals 1
     (index_text c.args.target.now))
-    refl (sym c.in-Refused.is ∙ c.compile_in.ensures.value ∙ ap coded_answer q)
+    refl (sym c.in-Err.is ∙ c.compile_in.ensures.value ∙ ap coded_answer q)
     (c.compile_in.ensures.code_after ∙ ap
     (coded_bytes c.args.code.now) q) in
     record { value = pair.0; code_after = pair.1 }

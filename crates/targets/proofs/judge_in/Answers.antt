@@ -5,11 +5,11 @@ use Rattle.targets.proofs.Indexing.{to-cell-is}
 use borrow.Author.Rules.{rules}
 use Rattle.targets.proofs.judge_in.Goals as goal
 
-pub returns-in-Cell : goal.returns-in-Cell
+pub returns-in-Some : goal.returns-in-Some
 unfolding target_of
-returns-in-Cell c = rw (sym c.target_of.ensures ∙ c.in-Cell.is)
+returns-in-Some c = rw (sym c.target_of.ensures ∙ c.in-Some.is)
     (c.to_cell.ensures ∙ to-cell-is c.args.reals _ _)
 
-pub returns-in-Other : goal.returns-in-Other
+pub returns-in-None : goal.returns-in-None
 unfolding target_of
-returns-in-Other c = rw (sym c.target_of.ensures ∙ c.in-Other.is) c.judge_indexed.ensures
+returns-in-None c = rw (sym c.target_of.ensures ∙ c.in-None.is) c.judge_indexed.ensures

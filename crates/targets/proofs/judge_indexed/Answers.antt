@@ -12,11 +12,11 @@ use Rattle.targets.proofs.Indexing.{between, no-bank, an-index, no_index, bank-f
 use borrow.Author.Rules.{rules}
 use Rattle.targets.proofs.judge_indexed.Goals as goal
 
-pub returns-in_default : goal.returns-in_default
-returns-in_default c = (no-bank c.args.reals
+pub returns-in_err-bank : goal.returns-in_err-bank
+returns-in_err-bank c = c.from_residual.ensures ∙ (no-bank c.args.reals
     c.args.target.now []
     (ap (bank_in c.args.reals) (sym c.enclosed_bank.ensures)
-    ∙ sym c.taken_bank.ensures ∙ c.in_default.is)).0
+    ∙ sym c.in_err-bank.ensures)).0
 
 pub overflow_sub-end : goal.overflow_sub-end
 overflow_sub-end c = omega (
@@ -25,7 +25,7 @@ overflow_sub-end c = omega (
       (bank-full c.args.reals
       (enclosed_bank c.args.target.now)
       (ap (bank_in c.args.reals) (sym c.enclosed_bank.ensures)
-      ∙ sym c.taken_bank.ensures ∙ c.in-Of.is)),
+      ∙ sym c.in_ok-bank.ensures)),
 )
 
 pub slice_bounds-judge_in-count : goal.slice_bounds-judge_in-count
@@ -35,7 +35,7 @@ slice_bounds-judge_in-count c = omega (
       (bank-full c.args.reals
       (enclosed_bank c.args.target.now)
       (ap (bank_in c.args.reals) (sym c.enclosed_bank.ensures)
-      ∙ sym c.taken_bank.ensures ∙ c.in-Of.is)),
+      ∙ sym c.in_ok-bank.ensures)),
 )
 
 pub slice_bounds-judge_in-start : goal.slice_bounds-judge_in-start
@@ -45,32 +45,31 @@ slice_bounds-judge_in-start c = omega (
       (bank-full c.args.reals
       (enclosed_bank c.args.target.now)
       (ap (bank_in c.args.reals) (sym c.enclosed_bank.ensures)
-      ∙ sym c.taken_bank.ensures ∙ c.in-Of.is)),
+      ∙ sym c.in_ok-bank.ensures)),
 )
 
-pub returns-in-Done : goal.returns-in-Done
-returns-in-Done c =
+pub returns-in-Ok : goal.returns-in-Ok
+returns-in-Ok c =
     (an-index c.args.reals
     c.args.target.now []
     (ap (bank_in c.args.reals)
     (sym c.enclosed_bank.ensures)
-    ∙ sym c.taken_bank.ensures
-    ∙ c.in-Of.is)
+    ∙ sym c.in_ok-bank.ensures)
     (judge_in c.args.reals 1
     (index_text c.args.target.now)) refl
-    (sym c.in-Done.is ∙ c.judge_in.ensures
+    (sym c.in-Ok.is ∙ c.judge_in.ensures
     ∙ ap (λ s. coded_answer (judge_in c.args.reals 1 s))
     (between c.args.target.now)) refl).0
 
-pub returns-in-Refused : goal.returns-in-Refused
-returns-in-Refused c =
+pub returns-in-Err : goal.returns-in-Err
+returns-in-Err c =
     (no_index c.args.reals
     c.args.target.now []
     (ap (bank_in c.args.reals)
     (sym c.enclosed_bank.ensures)
-    ∙ sym c.taken_bank.ensures ∙ c.in-Of.is)
+    ∙ sym c.in_ok-bank.ensures)
     (judge_in c.args.reals 1
     (index_text c.args.target.now)) refl
-    (sym c.in-Refused.is ∙ c.judge_in.ensures
+    (sym c.in-Err.is ∙ c.judge_in.ensures
     ∙ ap (λ s. coded_answer (judge_in c.args.reals 1 s))
     (between c.args.target.now)) refl).0

@@ -4,10 +4,8 @@ use Rattle.targets.proofs.Indexing.{cell-taken, cell-lost}
 use borrow.Author.Rules.{rules}
 use Rattle.targets.proofs.to_cell.Goals as goal
 
-pub returns-in-Of : goal.returns-in-Of
-returns-in-Of c = cell-taken c.args.reals c.args.bank
-    (sym c.taken_bank.ensures ∙ c.in-Of.is) c.args.element
+pub returns : goal.returns
+returns c = cell-taken c.args.reals c.args.bank (sym c.in_ok-b.ensures) c.args.element
 
-pub returns-in-Other : goal.returns-in-Other
-returns-in-Other c = cell-lost c.args.reals c.args.bank
-    (sym c.taken_bank.ensures ∙ c.in-Other.is) c.args.element
+pub returns-in_err-b : goal.returns-in_err-b
+returns-in_err-b c = c.from_residual.ensures ∙ cell-lost c.args.reals c.args.bank (sym c.in_err-b.ensures) c.args.element

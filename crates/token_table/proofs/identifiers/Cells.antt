@@ -1,4 +1,5 @@
 -- A word with a digit in the second place is a cell, or refused.
+use Rattle.std.specs.Prelude.{Result, Some, None}
 use mathlib.Core.Path.{◌≡◌, refl, sym, ap, ◌∙◌}
 use mathlib.Core.Bool.{true, false, and-false}
 use mathlib.Core.List.{List, ◌∷◌}
@@ -10,14 +11,12 @@ use lib.ListN.{length, get_or, take, drop, length-take}
 use lib.Seq.{drop-cons}
 use borrow.Author.Tests.{ne_eqb, eqb-true, eqb-false}
 use Rattle.memory.specs.declared.Bank.{Bank}
-use Rattle.memory.specs.declared.names.Letter.TheVariants.{Of, Other}
 use Rattle.memory.specs.Layout.{layout_of}
 use Rattle.memory.specs.Names.{is_digit, digits_of, no_leading_zero, decimal_from, decimal_limit, number_below, letter_bank, cell_after_letter, named_rule}
 use Rattle.memory.specs.Numbers.{bank_number}
 use Rattle.memory.proofs.names.Decimals.{digit-range, single, no_zero, leading, below, not-below}
 use Rattle.memory.proofs.names.Words.{few}
 use Rattle.tokens.specs.declared.Token.TheVariants.{Cell}
-use Rattle.tokens.specs.declared.Scanned.{Scanned}
 use Rattle.tokens.specs.Bytes.{is_letter, is_word, run_len}
 use Rattle.tokens.specs.Words.{function_named, functions, cell_word, other_word, word_token}
 use Rattle.tokens.specs.Scan.{Wrong, lexeme, run_lexeme}
@@ -27,9 +26,10 @@ use Rattle.token_table.specs.private.Table.{pack_fields}
 use Rattle.token_table.specs.private.Lexing.{Lexes, found}
 use Rattle.token_table.proofs.Digits.{digit-word, inside, behind, digits-again, run-digits, run_more}
 use Rattle.token_table.proofs.Lexemes.{lexes-as}
+use Rattle.tokens.specs.declared.Token.{Token}
 
 -- the second byte of every function's name is a letter
-no_name : (c d : ℕ) (s : List ℕ) (o : Scanned) → is_digit d ≡ true → function_named functions (c ∷ d ∷ s) o ≡ o
+no_name : (c d : ℕ) (s : List ℕ) (o : (Result Token ℕ)) → is_digit d ≡ true → function_named functions (c ∷ d ∷ s) o ≡ o
 no_name c d s o e =
     let h = digit-range d e in
     let not : (k : ℕ) → 58 < k → eqb k d ≡ false = λ k l. ne_eqb k d (λ q. omega arith) in
@@ -75,7 +75,7 @@ module _ (s : List ℕ) (at : ℕ) (letter : is_letter (get_or s at 0) ≡ true)
       rw (both, there) (on_list (get_or s at 0) (get_or s (at + 1) 0) (drop (suc (at + 1)) s) at letter digit)
 
   -- nothing, for a letter that is no bank's, or a number that its bank has not
-  pub no-bank : {w e : ℕ} → letter_bank (get_or s at 0) ≡ Other → ((p : ℕ) → Lexes (Wrong 6 p) w e) → Lexes (run_lexeme is_word word_token (drop at s) at) w e
+  pub no-bank : {w e : ℕ} → letter_bank (get_or s at 0) ≡ None → ((p : ℕ) → Lexes (Wrong 6 p) w e) → Lexes (run_lexeme is_word word_token (drop at s) at) w e
   no-bank b h = rw (judged, b) (h at)
 
   -- the digits behind the first
@@ -94,7 +94,7 @@ module _ (s : List ℕ) (at : ℕ) (letter : is_letter (get_or s at 0) ≡ true)
   pub end_of : {e : ℕ} → e ≡ at + 2 + length (digits_of (drop (at + 2) s)) → e ≡ at + 1 + length (digits_of rest)
   end_of q = rw more-digits (omega (arith, q))
 
-  module _ (b : Bank) (bank : letter_bank (get_or s at 0) ≡ Of b) {v e x : ℕ} (value : v ≡ min (decimal_from 0 (digits_of rest)) decimal_limit)
+  module _ (b : Bank) (bank : letter_bank (get_or s at 0) ≡ Some b) {v e x : ℕ} (value : v ≡ min (decimal_from 0 (digits_of rest)) decimal_limit)
       (ends : e ≡ at + 1 + length (digits_of rest)) (next : x ≡ get_or s e 0) where
     abbrev elements : ℕ
     elements = (layout_of b).elements

@@ -1,4 +1,5 @@
 -- Numerals that are read at a position are what the definitions say of their runs.
+use Rattle.std.specs.Prelude.{Result, Err}
 use mathlib.Core.Path.{◌≡◌, refl, sym, ap, subst, ◌∙◌}
 use mathlib.Core.Bool.{Bool, true, false, cond, and-false}
 use mathlib.Core.List.{List, [], ◌∷◌, ◌++◌, append-nil, append_assoc}
@@ -15,8 +16,6 @@ use Rattle.values.specs.declared.Value.TheVariants.{Int}
 use Rattle.memory.specs.Names.{is_digit, all_digits, digits_of, decimal_from, decimal_value, decimal_limit}
 use Rattle.memory.proofs.names.Decimals.{digits-split, digits-only, cut}
 use Rattle.tokens.specs.declared.Token.TheVariants.{Number}
-use Rattle.tokens.specs.declared.Scanned.{Scanned}
-use Rattle.tokens.specs.declared.Scanned.TheVariants.{Bad}
 use Rattle.tokens.specs.Bytes.{is_word, is_run, run_len}
 use Rattle.tokens.specs.Numerals.{non_empty, decimal_digits, decimal_of, hex_of, is_hex_run, has_part, is_sign, without_sign, literal_of}
 use Rattle.tokens.specs.Scan.{Wrong, lexeme, numeral_lexeme}
@@ -32,6 +31,7 @@ use Rattle.token_table.specs.private.Table.{pack_fields}
 use Rattle.token_table.specs.private.Lexing.{scanned_word, Lexes, found, MantissaAt, OtherNumeral}
 use Rattle.token_table.proofs.Digits.{digit-run, inside, behind, run-digits, run_more}
 use Rattle.token_table.proofs.Lexemes.{lexes-as, judged}
+use Rattle.tokens.specs.declared.Token.{Token}
 
 -- ---- bytes at a position
 first-at : (s : List ℕ) (e : ℕ) → get_or (drop e s) 0 0 ≡ get_or s e 0
@@ -312,8 +312,8 @@ module _ (s : List ℕ) (at : ℕ) (o : OtherNumeral s at) where
   abbrev next-byte : ℕ
   next-byte = get_or (drop at s) (length (digits_of (drop at s))) 0
 
-  pub rest-run : {e w : ℕ} {r : Scanned} → e ≡ at + run_len is_run (drop at s)
-      → r ≡ (let u = take (e - at) (drop at s) in cond (is_hex_run u) (hex_of (drop 2 u)) (Bad 4)) → w ≡ scanned_word r
+  pub rest-run : {e w : ℕ} {r : (Result Token ℕ)} → e ≡ at + run_len is_run (drop at s)
+      → r ≡ (let u = take (e - at) (drop at s) in cond (is_hex_run u) (hex_of (drop 2 u)) (Err 4)) → w ≡ scanned_word r
       → Lexes (numeral_lexeme (drop at s) at) w e
   rest-run {e} {w} {r} ends is word =
       let cs = drop at s in
@@ -325,12 +325,12 @@ module _ (s : List ℕ) (at : ℕ) (o : OtherNumeral s at) where
       ∙ ap (λ (l : List ℕ). digits_of cs ++ l) (next-at s (at + length (digits_of cs)) next-byte byte-is (some_byte next-byte o.next)) in
       let d : is_digit next-byte ≡ false = ap is_digit (sym byte-is) ∙ stop-at s at refl in
       let whole = some-digits (digits_of cs) (digits-only cs) (first-digit s at o.within o.starts) in
-      let lexed : numeral_lexeme cs at ≡ (let u = take n cs in lexeme at n (cond (is_hex_run u) (hex_of (drop 2 u)) (Bad 4))) =
+      let lexed : numeral_lexeme cs at ≡ (let u = take n cs in lexeme at n (cond (is_hex_run u) (hex_of (drop 2 u)) (Err 4))) =
       subst (λ (l : List ℕ). numeral_lexeme l at ≡ (let u = take (run_len is_run l) l in
-      lexeme at (run_len is_run l) (cond (is_hex_run u) (hex_of (drop 2 u)) (Bad 4)))) (sym split)
+      lexeme at (run_len is_run l) (cond (is_hex_run u) (hex_of (drop 2 u)) (Err 4)))) (sym split)
       (other-lexeme next-byte (digits_of cs) t at whole d (rw o.next) o.no_exponent (no-dot next-byte o.next)) in
-      let q : r ≡ (let u = take n cs in cond (is_hex_run u) (hex_of (drop 2 u)) (Bad 4)) = is
-      ∙ ap (λ (i : ℕ). let u = take i cs in cond (is_hex_run u) (hex_of (drop 2 u)) (Bad 4)) k in
+      let q : r ≡ (let u = take n cs in cond (is_hex_run u) (hex_of (drop 2 u)) (Err 4)) = is
+      ∙ ap (λ (i : ℕ). let u = take i cs in cond (is_hex_run u) (hex_of (drop 2 u)) (Err 4)) k in
       rw lexed (lexes-as word ends (rw (← q) (judged at n r)))
     where
       some_byte : (c : ℕ) → is_word c ≡ true → 0 < c

@@ -1,10 +1,8 @@
 -- Only for the contracts of this crate's private functions: a lexeme as a word without its place and an end, and parts of numerals that were read at a
 -- position.
-use Rattle.std.specs.Prelude.{◌≡◌, true, false, cond, List, ◌∷◌, ◌++◌, ℕ, ◌+◌, ◌≤◌, ◌<◌, min, eqb, length, get_or, drop}
+use Rattle.std.specs.Prelude.{◌≡◌, true, false, cond, List, ◌∷◌, ◌++◌, ℕ, ◌+◌, ◌≤◌, ◌<◌, min, eqb, length, get_or, drop, Result, Ok, Err}
 use Rattle.memory.specs.Names.{is_digit, all_digits, digits_of, decimal_value, decimal_limit}
 use Rattle.tokens.specs.declared.Token.{Token}
-use Rattle.tokens.specs.declared.Scanned.{Scanned}
-use Rattle.tokens.specs.declared.Scanned.TheVariants.{Good, Bad}
 use Rattle.tokens.specs.Bytes.{is_word}
 use Rattle.tokens.specs.Numerals.{non_empty, decimal_digits}
 use Rattle.tokens.specs.Symbols.{symbol_count, symbol_bytes}
@@ -14,9 +12,9 @@ use Rattle.token_table.specs.declared.numerals.Mantissa.{Mantissa}
 use Rattle.token_table.specs.private.Table.{pack_fields, pack_token}
 
 -- the word of a judgement: an answer has class 0
-abbrev pub scanned_word : Scanned → ℕ
-scanned_word (Good t) = pack_token t 0
-scanned_word (Bad a) = pack_fields 0 0 a 0
+abbrev pub scanned_word : Result Token ℕ → ℕ
+scanned_word (Ok t) = pack_token t 0
+scanned_word (Err a) = pack_fields 0 0 a 0
 
 -- the word of a lexeme, and where it ends if it is a token
 pub data Lexes : Lexeme → ℕ → ℕ → Type 0 where

@@ -1,6 +1,6 @@
 -- For the layers above: tokens with their places as words of 64 bits, and the tokens that a list of words holds. A formula's meaning does not rest on it:
 -- the reader's and the compiler's contracts speak of the text.
-use Rattle.std.specs.Prelude.{◌≡◌, cond, List, [], ◌∷◌, ℕ, ◌+◌, ◌*◌, ◌/◌, ◌%◌, ◌^◌, ◌<◌, T, eqb, ltb, ℤ, get_or, drop, Float}
+use Rattle.std.specs.Prelude.{◌≡◌, cond, List, [], ◌∷◌, ℕ, ◌+◌, ◌*◌, ◌/◌, ◌%◌, ◌^◌, ◌<◌, T, eqb, ltb, ℤ, get_or, drop, Float, Option, Result, Some, None, Ok, Err, ⊤}
 use Rattle.std.specs.Float.Ieee as Ieee
 use Rattle.std.specs.Float.{binary32}
 use Rattle.reals.specs.Singles.{Single}
@@ -11,7 +11,6 @@ use Rattle.values.specs.Integers.{in_range}
 use Rattle.values.specs.Patterns.{low_bits, signed_of}
 use Rattle.memory.specs.declared.Bank.{Bank}
 use Rattle.memory.specs.Cells.{real_cell}
-use Rattle.memory.specs.declared.numbers.BankOf.{BankOf}
 use Rattle.memory.specs.Layout.{layout_of}
 use Rattle.memory.specs.Numbers.{bank_numbered, bank_number}
 use Rattle.totals.specs.Numbers.{total_number, match_number}
@@ -22,8 +21,8 @@ use Rattle.tokens.specs.declared.Token.TheVariants.{Number, Cell, Letter, Name, 
 use Rattle.tokens.specs.Symbols.{symbol_count}
 use Rattle.tokens.specs.Words.{function_count, first_total, first_match, function_at}
 use Rattle.tokens.specs.Scan.{Tok, Scan, tokens, wrong}
-use Rattle.token_table.specs.declared.Filled.{Filled}
-use Rattle.token_table.specs.declared.Filled.TheVariants.{Good, Wrong}
+use Rattle.token_table.specs.declared.Refusal.{Refusal}
+use Rattle.token_table.specs.Refusals.{refusal}
 
 -- a token and its place in the text, or the end of the tokens
 pub data Entry : Type 0 where
@@ -84,13 +83,13 @@ real_entry (Done v) p = Is (Number v) p
 real_entry (Stopped f) p = End
 real_entry WrongKind p = End
 
-abbrev pub cell_entry : BankOf → ℕ → ℕ → Entry
-cell_entry (BankOf.Is b) i p = Is (Cell b i) p
-cell_entry BankOf.Nothing i p = End
+abbrev pub cell_entry : Option Bank → ℕ → ℕ → Entry
+cell_entry (Some b) i p = Is (Cell b i) p
+cell_entry None i p = End
 
-abbrev pub letter_entry : BankOf → ℕ → Entry
-letter_entry (BankOf.Is b) p = Is (Letter b) p
-letter_entry BankOf.Nothing p = End
+abbrev pub letter_entry : Option Bank → ℕ → Entry
+letter_entry (Some b) p = Is (Letter b) p
+letter_entry None p = End
 
 abbrev pub name_entry : FunctionOf → ℕ → Entry
 name_entry (FunctionOf.Is f) p = Is (Name f) p
@@ -126,9 +125,9 @@ abbrev pub tokens_from : List ℕ → ℕ → List Tok
 tokens_from s i = listed (drop i s)
 
 -- the table holds the tokens of a scan
-pub data Fills : Scan → List ℕ → Filled → Type 0 where
-  filled : {ts : List Tok} {s : List ℕ} → listed s ≡ ts → Fills (tokens ts) s Good
-  stopped : {a p : ℕ} {s : List ℕ} → Fills (wrong a p) s (Wrong a p)
+pub data Fills : Scan → List ℕ → Result ⊤ Refusal → Type 0 where
+  filled : {ts : List Tok} {s : List ℕ} → listed s ≡ ts → Fills (tokens ts) s (Ok tt)
+  stopped : {a p : ℕ} {s : List ℕ} → Fills (wrong a p) s (Err (refusal a p))
 
 -- ---- words that are no others than those of a text's tokens
 pub data Sound : Token → Type 0 where

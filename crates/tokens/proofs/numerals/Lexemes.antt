@@ -1,16 +1,15 @@
 -- The lexeme of a numeral, by its mantissa and the byte that comes next.
+use Rattle.std.specs.Prelude.{Result, Err}
 use mathlib.Core.Path.{◌≡◌, refl, sym, ap, ◌∙◌}
 use mathlib.Core.Bool.{Bool, true, false, ◌&&◌, cond, and-false, or-true}
 use mathlib.Core.List.{List, [], ◌∷◌, ◌++◌, append-nil}
-use Prim.Native.Nat.{ℕ, zero, suc, ◌+◌, ◌-◌}
+use Prim.Native.Nat.{ℕ, zero, suc, ◌+◌}
 use native.Mathlib.Nat.{add-zero}
 use native.Mathlib.Omega.{arith}
 use lib.Dec.{eqb}
 use lib.ListN.{length, get_or, take, drop}
-use borrow.Author.Tests.{ne_eqb, eqb-true}
+use borrow.Author.Tests.{eqb-true}
 use Rattle.memory.specs.Names.{is_digit, all_digits, digits_of, decimal_value}
-use Rattle.tokens.specs.declared.Scanned.{Scanned}
-use Rattle.tokens.specs.declared.Scanned.TheVariants.{Bad}
 use Rattle.tokens.specs.Bytes.{is_run, run_len, all}
 use Rattle.tokens.specs.Numerals.{non_empty, decimal_digits, decimal_of, hex_of, is_hex_run, has_part, is_sign, without_sign, literal_of, numeral_of}
 use Rattle.tokens.specs.Numerals.{opens_exponent, tail_len, numeral_len}
@@ -18,6 +17,7 @@ use Rattle.tokens.specs.Scan.{Wrong, lexeme, numeral_lexeme}
 use Rattle.tokens.proofs.Tests.{by-test, both, no}
 use Rattle.tokens.proofs.numerals.Mantissas.{Splits, whole, dotted, parts, shorter, take_past, length-is, literal, real-is, followed-is}
 use Rattle.tokens.proofs.numerals.Mantissas.{dotted-is, not-all, runs}
+use Rattle.tokens.specs.declared.Token.{Token}
 
 -- ---- the byte that comes next
 no-run-digit : (c : ℕ) → is_run c ≡ false → is_digit c ≡ false
@@ -61,7 +61,7 @@ part-lexeme m ds ps x p q e g f =
 tail-is : (c : ℕ) (t : List ℕ) → is_run c ≡ true → eqb c 69 ≡ false → tail_len (c ∷ t) ≡ suc (run_len is_run t)
 tail-is c t r n = rw (n, r)
 
-strays : (c : ℕ) (ds ps t : List ℕ) → eqb c 69 ≡ false → literal ds ps (c ∷ t) ≡ Bad 4
+strays : (c : ℕ) (ds ps t : List ℕ) → eqb c 69 ≡ false → literal ds ps (c ∷ t) ≡ Err 4
 strays c ds ps t n = rw n
 
 pub no-part-lexeme : (ds t : List ℕ) (p : ℕ) → decimal_digits ds ≡ true → non_empty (digits_of t) ≡ false → numeral_lexeme (ds ++ (46 ∷ t)) p ≡ Wrong 4 p
@@ -88,14 +88,14 @@ run_past (d ∷ ds) x e =
     rw (h.0, z, run_past ds x h.1)
 
 other-is : (c : ℕ) (ds t : List ℕ) → Splits ds ds [] (c ∷ t) → is_digit c ≡ false → eqb c 69 ≡ false
-    → numeral_of (ds ++ (c ∷ t)) ≡ cond (is_hex_run (ds ++ (c ∷ t))) (hex_of (drop 2 (ds ++ (c ∷ t)))) (Bad 4)
+    → numeral_of (ds ++ (c ∷ t)) ≡ cond (is_hex_run (ds ++ (c ∷ t))) (hex_of (drop 2 (ds ++ (c ∷ t)))) (Err 4)
 other-is c ds t s d n =
-    let r : Bad 4 ≡ _ = sym (real-is (parts s) ∙ strays c ds [] t n) in
+    let r : Err 4 ≡ _ = sym (real-is (parts s) ∙ strays c ds [] t n) in
     rw (not-all ds c t d, and-false) (ap (cond (is_hex_run (ds ++ (c ∷ t))) (hex_of (drop 2 (ds ++ (c ∷ t))))) (sym r))
 
 pub other-lexeme : (c : ℕ) (ds t : List ℕ) (p : ℕ) → decimal_digits ds ≡ true → is_digit c ≡ false → is_run c ≡ true → eqb c 69 ≡ false → eqb c 46 ≡ false
     → numeral_lexeme (ds ++ (c ∷ t)) p
-    ≡ (let w = take (run_len is_run (ds ++ (c ∷ t))) (ds ++ (c ∷ t)) in lexeme p (run_len is_run (ds ++ (c ∷ t))) (cond (is_hex_run w) (hex_of (drop 2 w)) (Bad 4)))
+    ≡ (let w = take (run_len is_run (ds ++ (c ∷ t))) (ds ++ (c ∷ t)) in lexeme p (run_len is_run (ds ++ (c ∷ t))) (cond (is_hex_run w) (hex_of (drop 2 w)) (Err 4)))
 other-lexeme c ds t p e d r n k =
     let cs = ds ++ (c ∷ t) in
     let s : Splits ds ds [] (c ∷ t) = whole refl refl e d (rw k) in
@@ -103,7 +103,7 @@ other-lexeme c ds t p e d r n k =
     let w : take (run_len is_run cs) cs ≡ ds ++ (c ∷ take (run_len is_run t) t) =
     rw (run_past ds (c ∷ t) (runs ds (both (non_empty ds) (all_digits ds) e).1), r) (take_past ds (c ∷ t) (suc (run_len is_run t))) in
     let v = take (run_len is_run cs) cs in
-    let g : numeral_of v ≡ cond (is_hex_run v) (hex_of (drop 2 v)) (Bad 4) =
+    let g : numeral_of v ≡ cond (is_hex_run v) (hex_of (drop 2 v)) (Err 4) =
     rw w (other-is c ds (take (run_len is_run t) t) (shorter (suc (run_len is_run t)) s) d n) in
     ap (λ (i : ℕ). lexeme p i (numeral_of (take i cs))) l ∙ ap (lexeme p (run_len is_run cs)) g
 
@@ -116,10 +116,10 @@ sign_len (c ∷ cs) = cond (is_sign c) 1 0
 abbrev pub exponent_run : List ℕ → List ℕ
 exponent_run y = take (run_len is_run (without_sign y)) (without_sign y)
 
-abbrev pub exponent_of : List ℕ → List ℕ → List ℕ → Scanned
+abbrev pub exponent_of : List ℕ → List ℕ → List ℕ → Result Token ℕ
 exponent_of ds ps y =
     cond (decimal_digits (exponent_run y)) (literal_of (decimal_value (ds ++ ps)) (length (ds ++ ps)) (length ps) (eqb (get_or y 0 0) 45)
-    (decimal_value (exponent_run y))) (Bad 4)
+    (decimal_value (exponent_run y))) (Err 4)
 
 no_minus : (c : ℕ) → is_sign c ≡ false → eqb c 45 ≡ false
 no_minus c f = by-test (eqb c 45) (λ e. no (sym f ∙ rw (e, or-true))) (λ e. e)

@@ -1,23 +1,22 @@
 -- A mantissa at the front of some bytes: how it is found, and what the rules for numerals make of it and of what follows it.
-use mathlib.Core.Path.{◌≡◌, refl, sym, ap, subst, ◌∙◌}
-use mathlib.Core.Bool.{Bool, true, false, ◌&&◌, cond, and-false, or-true}
+use Rattle.std.specs.Prelude.{Result, Err}
+use mathlib.Core.Path.{◌≡◌, refl, sym, ap, ◌∙◌}
+use mathlib.Core.Bool.{true, false, cond, and-false, or-true}
 use mathlib.Core.List.{List, [], ◌∷◌, ◌++◌, append_assoc}
-use Prim.Native.Nat.{ℕ, zero, suc, ◌+◌, ◌-◌}
+use Prim.Native.Nat.{ℕ, zero, suc, ◌+◌}
 use native.Mathlib.Omega.{arith}
 use lib.Dec.{eqb}
 use lib.ListN.{length, get_or, take, drop, length-append}
 use lib.Seq.{drop-append_seam}
-use borrow.Author.Tests.{ne_eqb, eqb-true}
+use borrow.Author.Tests.{ne_eqb}
 use Rattle.memory.specs.Names.{is_digit, all_digits, digits_of, decimal_value}
-use Rattle.memory.proofs.names.Decimals.{digit-range, digits-split, digits-only}
-use Rattle.tokens.specs.declared.Scanned.{Scanned}
-use Rattle.tokens.specs.declared.Scanned.TheVariants.{Bad}
-use Rattle.tokens.specs.Bytes.{is_run, run_len, all}
-use Rattle.tokens.specs.Numerals.{non_empty, decimal_digits, decimal_of, hex_of, is_hex_run, behind_digits, has_part, part_of, behind_part}
-use Rattle.tokens.specs.Numerals.{fraction_digits, behind_mantissa, is_sign, without_sign, is_exponent, is_negative, exponent_size, literal_of, real_of}
-use Rattle.tokens.specs.Numerals.{numeral_of, opens_exponent, tail_len, numeral_len}
-use Rattle.tokens.specs.Scan.{Wrong, lexeme, numeral_lexeme}
+use Rattle.memory.proofs.names.Decimals.{digit-range}
+use Rattle.tokens.specs.Bytes.{is_run, all}
+use Rattle.tokens.specs.Numerals.{non_empty, decimal_digits, is_hex_run, behind_digits, has_part}
+use Rattle.tokens.specs.Numerals.{fraction_digits, behind_mantissa, is_exponent, is_negative, exponent_size, literal_of, real_of}
+use Rattle.tokens.specs.Numerals.{numeral_of, tail_len, numeral_len}
 use Rattle.tokens.proofs.Tests.{by-test, both, no}
+use Rattle.tokens.specs.declared.Token.{Token}
 
 -- ---- digits
 pub digits_of_lem : (ds x : List ℕ) → all_digits ds ≡ true → is_digit (get_or x 0 0) ≡ false → digits_of (ds ++ x) ≡ ds
@@ -113,8 +112,8 @@ not-hex (d ∷ b ∷ ds) c x e n =
     rw (ne_eqb b 120 (λ q. omega arith), and-false)
 
 -- a literal of these digits and this exponent
-abbrev pub literal : List ℕ → List ℕ → List ℕ → Scanned
-literal ds ps x = cond (is_exponent x) (literal_of (decimal_value (ds ++ ps)) (length (ds ++ ps)) (length ps) (is_negative x) (exponent_size x)) (Bad 4)
+abbrev pub literal : List ℕ → List ℕ → List ℕ → Result Token ℕ
+literal ds ps x = cond (is_exponent x) (literal_of (decimal_value (ds ++ ps)) (length (ds ++ ps)) (length ps) (is_negative x) (exponent_size x)) (Err 4)
 
 pub real-is : {cs ds ps x : List ℕ} → Parts cs ds ps x → real_of cs ≡ literal ds ps x
 real-is {cs} {ds} {ps} p =

@@ -1,23 +1,23 @@
 -- The run of a numeral is the one that the relation `NumeralRun` says, and has a byte.
 use mathlib.Core.Path.{◌≡◌, refl, sym, ap, subst, ◌∙◌}
-use mathlib.Core.Logic.{◌⊎◌, inl, inr, ⊎_elim}
-use mathlib.Core.Bool.{Bool, true, false, ◌&&◌, cond, or-true}
+use mathlib.Core.Logic.{⊎_elim}
+use mathlib.Core.Bool.{true, false, ◌&&◌}
 use mathlib.Core.List.{List, [], ◌∷◌, ◌++◌, append_assoc}
-use Prim.Native.Nat.{ℕ, zero, suc, ◌+◌, ◌≤◌, ◌<◌}
+use Prim.Native.Nat.{ℕ, suc, ◌+◌, ◌≤◌, ◌<◌}
 use native.Mathlib.Omega.{arith}
 use lib.Dec.{eqb}
 use lib.ListN.{length, get_or, take, drop, length-append, take-append-drop}
 use lib.Seq.{take-append_seam, drop-append_seam, take_at, drop_at}
-use borrow.Author.Tests.{eqb-true, ne_eqb}
+use borrow.Author.Tests.{eqb-true}
 use Rattle.memory.specs.Names.{is_digit, all_digits, digits_of}
 use Rattle.memory.proofs.names.Decimals.{digits-split, digits-only}
 use Rattle.tokens.specs.Bytes.{is_run, run_len, all}
-use Rattle.tokens.specs.Numerals.{non_empty, decimal_digits, behind_digits, behind_mantissa, has_part, is_sign, opens_exponent, tail_len, numeral_len}
+use Rattle.tokens.specs.Numerals.{non_empty, decimal_digits, behind_digits, behind_mantissa, is_sign, opens_exponent, tail_len, numeral_len}
 use Rattle.tokens.specs.Theorems as Theorems
 use Rattle.tokens.specs.Theorems.{Starts, first, Stops, nothing, other, LongestRun, Mantissa, NumeralRun, plain, past_sign}
 use Rattle.tokens.proofs.Tests.{by-test, both, either, no}
 use Rattle.tokens.proofs.Runs.{all_append, run-most, run-every, run-stops, run_length}
-use Rattle.tokens.proofs.numerals.Mantissas.{Splits, whole, dotted, Parts, parts, digits-stop, take_past, length-is, runs}
+use Rattle.tokens.proofs.numerals.Mantissas.{Splits, whole, dotted, parts, digits-stop, take_past, length-is, runs}
 use Rattle.tokens.proofs.numerals.Lexemes.{run_past}
 
 -- ---- the mantissa that some bytes begin with

@@ -1,4 +1,5 @@
 -- The value of a real literal: it is the decimal, rounded, and at most nine digits and an exponent of at most 20 give a finite single.
+use Rattle.std.specs.Prelude.{Result, Ok, Err}
 use mathlib.Core.Path.{◌≡◌, refl, sym, ap, subst}
 use mathlib.Core.Bool.{Bool, true, false, ◌&&◌, cond}
 use mathlib.Core.List.{List, [], ◌∷◌}
@@ -9,7 +10,7 @@ use lib.Dec.{leb, ltb, lit<, lit≤}
 use lib.IntN.{ℤ, pos, negsuc, sub_ℕ, ◌-ℤ◌}
 use lib.Ieee.{Float}
 use lib.ListN.{length, drop}
-use borrow.Author.Tests.{le-leb, lt-ltb, ltb-true, ltb-false}
+use borrow.Author.Tests.{le-leb, lt-ltb, ltb-true}
 use Rattle.reals.specs.Singles.{Single}
 use Rattle.reals.specs.Rounding.{Rounds}
 use Rattle.values.specs.declared.Value.{Value}
@@ -19,47 +20,46 @@ use Rattle.literals.specs.Literals.{scaled_decimal, nearest_decimal, is_scale}
 use Rattle.literals.proofs.Laws.{literal-laws}
 use Rattle.memory.specs.Names.{is_digit, all_digits, decimal_value}
 use Rattle.tokens.specs.declared.Token.TheVariants.{Number}
-use Rattle.tokens.specs.declared.Scanned.{Scanned}
-use Rattle.tokens.specs.declared.Scanned.TheVariants.{Good, Bad}
 use Rattle.tokens.specs.Bytes.{is_hex, all}
 use Rattle.tokens.specs.Numerals.{non_empty, decimal_digits, hex_from, is_hex_run, behind_mantissa, is_exponent, mantissa_digits, exponent_size, scale_of}
 use Rattle.tokens.specs.Numerals.{literal_number, literal_scale, real_of, numeral_of}
 use Rattle.tokens.proofs.Tests.{by-test, both, digit-small}
 use Rattle.tokens.proofs.Readings.{decimals, below}
+use Rattle.tokens.specs.declared.Token.{Token}
 
 -- ---- a run that is real is its literal
-differ : {z : ℤ} {x : Float} → Good (Number (Int z)) ≡ Good (Number (Real x)) → ⊥
+differ : {z : ℤ} {x : Float} → ◌≡◌ {A = Result Token ℕ} (Ok (Number (Int z))) (Ok (Number (Real x))) → ⊥
 differ q = let z : ◌≡◌ {A = ℕ} 0 1 = cc in omega arith
 
-no-real : {a : ℕ} {x : Float} → Bad a ≡ Good (Number (Real x)) → ⊥
+no-real : {a : ℕ} {x : Float} → Err a ≡ Ok (Number (Real x)) → ⊥
 no-real q = let z : ◌≡◌ {A = ℕ} 0 1 = cc in omega arith
 
 module _ (w : List ℕ) (x : Float) where
-  literal-is : real_of w ≡ Good (Number (Real x)) → nearest_decimal (literal_number w) (literal_scale w) ≡ x
+  literal-is : real_of w ≡ Ok (Number (Real x)) → nearest_decimal (literal_number w) (literal_scale w) ≡ x
   literal-is = by (is_exponent (behind_mantissa w)) (leb (length (mantissa_digits w)) 9 && leb (exponent_size (behind_mantissa w)) 20)
     where
-      by : (s t : Bool) → cond s (cond t (Good (Number (Real (nearest_decimal (literal_number w) (literal_scale w))))) (Bad 5)) (Bad 4)
-          ≡ Good (Number (Real x)) → nearest_decimal (literal_number w) (literal_scale w) ≡ x
+      by : (s t : Bool) → cond {A = Result Token ℕ} s (cond t (Ok (Number (Real (nearest_decimal (literal_number w) (literal_scale w))))) (Err 5)) (Err 4)
+          ≡ Ok (Number (Real x)) → nearest_decimal (literal_number w) (literal_scale w) ≡ x
       by true true q = cc
       by true false q = absurd (no-real q)
       by false t q = absurd (no-real q)
 
-  no-hex : (z : ℤ) (s t : Bool) → cond s (cond t (Good (Number (Int z))) (Bad 5)) (Bad 4) ≡ Good (Number (Real x)) → ⊥
+  no-hex : (z : ℤ) (s t : Bool) → cond {A = Result Token ℕ} s (cond t (Ok (Number (Int z))) (Err 5)) (Err 4) ≡ Ok (Number (Real x)) → ⊥
   no-hex z true true q = differ q
   no-hex z true false q = no-real q
   no-hex z false t q = no-real q
 
-  no-decimal : (z : ℤ) (t : Bool) → cond t (Good (Number (Int z))) (Bad 5) ≡ Good (Number (Real x)) → ⊥
+  no-decimal : (z : ℤ) (t : Bool) → cond {A = Result Token ℕ} t (Ok (Number (Int z))) (Err 5) ≡ Ok (Number (Real x)) → ⊥
   no-decimal z true q = differ q
   no-decimal z false q = no-real q
 
-  is-literal : numeral_of w ≡ Good (Number (Real x)) → nearest_decimal (literal_number w) (literal_scale w) ≡ x
+  is-literal : numeral_of w ≡ Ok (Number (Real x)) → nearest_decimal (literal_number w) (literal_scale w) ≡ x
   is-literal q =
       by-test (decimal_digits w) (λ e. absurd (no-decimal (pos (decimal_value w)) (leb (decimal_value w) 2147483647) (rw e at q)))
       (λ e. by-test (is_hex_run w) (λ h. absurd (no-hex (signed_of 32 (hex_from 0 (drop 2 w))) (non_empty (drop 2 w) && all is_hex (drop 2 w))
       (leb (length (drop 2 w)) 8) (rw (e, h) at q))) (λ h. literal-is (rw (e, h) at q)))
 
-pub real_literal : (w : List ℕ) (x : Float) → numeral_of w ≡ Good (Number (Real x)) → Rounds (scaled_decimal (literal_number w) (literal_scale w)) x
+pub real_literal : (w : List ℕ) (x : Float) → numeral_of w ≡ Ok (Number (Real x)) → Rounds (scaled_decimal (literal_number w) (literal_scale w)) x
 real_literal w x q = subst (Rounds (scaled_decimal (literal_number w) (literal_scale w))) (is-literal w x q)
     (literal-laws.rounds (literal_number w) (literal_scale w))
 
@@ -103,9 +103,9 @@ pub literal-single : (s : Bool) (ds : List ℕ) (e k : ℕ) → all_digits ds �
 literal-single s ds e k d n h l = literal-laws.single (decimal_value ds) (scale_of s e k) (nine-digits ds d n) (scale-range s e k h l)
 
 -- ---- a numeral is a number, or 4 or 5
-pub data NumberOrRefused : Scanned → Type 0 where
-  number : (v : Value) → NumberOrRefused (Good (Number v))
-  refused : (a : ℕ) → 4 ≤ a → a ≤ 5 → NumberOrRefused (Bad a)
+pub data NumberOrRefused : Result Token ℕ → Type 0 where
+  number : (v : Value) → NumberOrRefused (Ok (Number v))
+  refused : (a : ℕ) → 4 ≤ a → a ≤ 5 → NumberOrRefused (Err a)
 
 pub number-or-refused : (cs : List ℕ) → NumberOrRefused (numeral_of cs)
 number-or-refused cs =
@@ -113,12 +113,12 @@ number-or-refused cs =
     (either (is_hex_run cs) (either (non_empty (drop 2 cs) && all is_hex (drop 2 cs)) (either (leb (length (drop 2 cs)) 8) (number _) five) four)
     (either (is_exponent (behind_mantissa cs)) (either (leb (length (mantissa_digits cs)) 9 && leb (exponent_size (behind_mantissa cs)) 20) (number _) five) four))
   where
-    four : NumberOrRefused (Bad 4)
+    four : NumberOrRefused (Err 4)
     four = refused 4 (omega arith) (omega arith)
 
-    five : NumberOrRefused (Bad 5)
+    five : NumberOrRefused (Err 5)
     five = refused 5 (omega arith) (omega arith)
 
-    either : (t : Bool) {x y : Scanned} → NumberOrRefused x → NumberOrRefused y → NumberOrRefused (cond t x y)
+    either : (t : Bool) {x y : (Result Token ℕ)} → NumberOrRefused x → NumberOrRefused y → NumberOrRefused (cond t x y)
     either true f g = f
     either false f g = g

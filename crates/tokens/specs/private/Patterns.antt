@@ -1,11 +1,11 @@
 -- For the contracts of functions that no reader calls: what was read of a hexadecimal numeral, as a judgement.
-use Rattle.std.specs.Prelude.{cond, eqb}
+use Rattle.std.specs.Prelude.{ℕ, Result, Ok, Err}
 use Rattle.values.specs.declared.Value.TheVariants.{Int}
 use Rattle.values.specs.Patterns.{signed_of}
 use Rattle.tokens.specs.declared.Token.TheVariants.{Number}
-use Rattle.tokens.specs.declared.Scanned.{Scanned}
-use Rattle.tokens.specs.declared.Scanned.TheVariants.{Good, Bad}
-use Rattle.tokens.specs.declared.numerals.Pattern.{Pattern}
+use Rattle.tokens.specs.declared.Token.{Token}
 
-abbrev pub pattern_token : Pattern → Scanned
-pattern_token p = cond (eqb p.answer 0) (Good (Number (Int (signed_of 32 p.bits)))) (Bad p.answer)
+-- a pattern of 32 bits, or the answer that refuses the numeral
+abbrev pub pattern_token : Result ℕ ℕ → Result Token ℕ
+pattern_token (Ok bits) = Ok (Number (Int (signed_of 32 bits)))
+pattern_token (Err answer) = Err answer

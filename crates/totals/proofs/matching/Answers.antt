@@ -4,12 +4,10 @@ use Rattle.totals.proofs.matching.Goals as goal
 
 pub returns-in-Count : goal.returns-in-Count
 returns-in-Count c =
-    counts-matches c.args.image.now c.args.bank
-    c.args.first c.args.count _ _ _
-    c.in-Count.is c.run.ensures
+    let cells = c.args.cells in
+    counts-matches c.args.image.now cells.bank cells.first cells.count _ _ _ c.in-Count.is c.run.ensures
 
 pub returns-in-Sum : goal.returns-in-Sum
 returns-in-Sum c =
-    sums-matches c.args.image.now c.args.bank
-    c.args.first c.args.count _ _ _
-    c.in-Sum.is c.run-in-Sum.ensures
+    let cells = c.args.cells in
+    sums-matches c.args.image.now cells.bank cells.first cells.count _ _ _ c.in-Sum.is c.run-in-Sum.ensures

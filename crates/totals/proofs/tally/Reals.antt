@@ -1,5 +1,5 @@
 -- Runs as reals: what the tally holds after one cell more.
-use mathlib.Core.Path.{◌≡◌, refl, sym, ap, subst, ◌∙◌}
+use mathlib.Core.Path.{◌≡◌, refl, sym, ap, ◌∙◌}
 use mathlib.Core.Bool.{Bool, true, false, not, false≢true}
 use Prim.Native.Nat.{ℕ, ◌+◌, ◌≤◌, ◌<◌}
 use native.Mathlib.Omega.{arith}
@@ -199,9 +199,6 @@ module _ (s : Step) (read : ℕ → Outcome) (all : Visited) (i n : ℕ) where
 
   pub tallied-begin : (x : Float) → ending (finish s n) 0 (fold_cells read (step_rule s) (held s (begun x)) i n) ≡ all → Tallied (begun x) 0
   tallied-begin x e = record { few = omega arith; every = λ q. refl; middle = middle-begin read (step_rule s) (finish s n) all i n (held s (begun x)) e }
-
-  pub at_count : {t : Tally} {k : ℕ} → t.count ≡ k → Tallied t k → Tallied t t.count
-  at_count {t} e w = subst (λ (m : ℕ). Tallied t m) (sym e) w
 
   pub tallied-ends : {t : Tally} {k : ℕ} → Tallied t k → n ≤ k → k ≤ n → record { result = reading s t; cells = n } ≡ all
   tallied-ends {t} {k} w l g =

@@ -1,5 +1,5 @@
 -- Cuts of a single: its whole part, the cast to 64 bits that gives it, and what lies outside 32 bits.
-use Rattle.std.proofs.Common.{◌≡◌, ℕ, zero, suc, ◌*◌, ◌/◌, ◌^◌, ◌<◌, ◌≤◌, Bool, true, false, T, ℤ, pos, negsuc, neg_ℤ, sym, refl, ap, ◌∙◌, le_trans, le_refl, lt_of_lt_of_le, le_of_suc-le-suc, mul_comm, div-lt_iff_lt-mul, le-div_iff_mul-le, arith, lit<, pow_pos, ltb-true, lt-ltb}
+use Rattle.std.proofs.Common.{◌≡◌, ℕ, zero, suc, ◌*◌, ◌/◌, ◌^◌, ◌<◌, ◌≤◌, Bool, true, false, T, ℤ, pos, negsuc, neg_ℤ, sym, refl, ap, ◌∙◌, le_trans, le_refl, lt_of_lt_of_le, le_of_suc-le-suc, mul_comm, div-lt_iff_lt-mul, le-div_iff_mul-le, arith, lit<, pow_pos, ltb-true, lt-ltb, None}
 use mathlib.Core.Bool.{false≢true}
 use native.Mathlib.Nat.{min-eq_left}
 use native.Mathlib.Nat.{div-le_of_le-mul, div-div-eq-div-mul, mul-div-mul_right}
@@ -9,7 +9,6 @@ use lib.Ieee.Fits.{down_pos}
 use lib.Ieee.Exact.{HasValue}
 use lib.Ieee.Nearest.{div_same}
 use Rattle.reals.specs.Singles.{unit_count, signed}
-use Rattle.values.specs.declared.Cut.TheVariants.{Outside}
 use Rattle.values.specs.Integers.{in_range}
 use Rattle.values.specs.Convert.{cut, cut_by, truncated}
 use Rattle.values.proofs.Ranges.{below-range, above-range}
@@ -63,7 +62,7 @@ out_of_range true zero h = absurd (omega arith)
 out_of_range true (suc q) h = below-range (negsuc q) (lt-ltb 2147483647 q (omega arith))
 
 -- any cut that gives no less than the whole part
-pub outside : (f : ℕ → ℕ) → ((n : ℕ) → n / 2 ^ 149 ≤ f n) → (k : ℕ) → 31 < k → (x : Float) → Fails k x → Outside ≡ cut_by f x
+pub outside : (f : ℕ → ℕ) → ((n : ℕ) → n / 2 ^ 149 ≤ f n) → (k : ℕ) → 31 < k → (x : Float) → Fails k x → None ≡ cut_by f x
 outside f g k K nan t = refl
 outside f g k K (inf s) t = refl
 outside f g k K (fin s m e) t =
@@ -71,5 +70,5 @@ outside f g k K (fin s m e) t =
     let w : 2 ^ k ≤ n / 2 ^ 149 = rw (whole-units s m e) ((le-div_iff_mul-le (down_pos e)).1 (beyond k m e s t)) in
     rw (out_of_range s (f n) (lt_of_lt_of_le (pow-lt K) (le_trans w (g n))))
 
-pub truncated-outside : (x : Float) → Fails 63 x → Outside ≡ truncated x
+pub truncated-outside : (x : Float) → Fails 63 x → None ≡ truncated x
 truncated-outside x t = outside _ (λ n. le_refl (n / 2 ^ 149)) 63 (lit< tt) x t

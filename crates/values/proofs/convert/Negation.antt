@@ -1,7 +1,8 @@
--- A negative integer is promoted as its size, negated: rounding is symmetric, and -1 - z is one less than the size of a negative z.
-use Rattle.std.proofs.Common.{◌≡◌, ℕ, zero, suc, ◌+◌, ◌*◌, ◌^◌, Bool, true, false, cond, not, ltb, ℤ, pos, negsuc, ◌-ℤ◌, sym, refl, ap, ◌∙◌, true≢false, add-one, arith, le-ltb}
-use lib.Dec.{leb-zero}
-use lib.Signed.{mag, le_z}
+-- A negative integer is promoted as its size, negated: rounding is symmetric.
+use Rattle.std.proofs.Common.{◌≡◌, ℕ, zero, suc, ◌+◌, ◌*◌, ◌^◌, Bool, true, false, cond, not, ltb, ℤ, pos, negsuc, nat_abs, sym, refl, ◌∙◌}
+use mathlib.Core.Bool.{false≢true}
+use lib.Dec.{leb-suc-zero}
+use lib.Signed.{lt_z}
 use lib.Ieee.{Format, inf, binary32, low, emax, prec, odd, units, round, neg, of_int}
 
 -- ---- rounding is symmetric
@@ -23,14 +24,7 @@ unfolding round
 round-neg f s num den = units-neg f s _ _
 
 -- ---- a negative integer
-not-below-zero : (n : ℕ) → le_z (pos 0) (pos n) ≡ false → ⊥
-not-below-zero n e = true≢false (sym (leb-zero n) ∙ e)
-
-pub less_one : (z : ℤ) → le_z (pos 0) z ≡ false → negsuc 0 -ℤ z ≡ pos (mag z)
-less_one (pos n) e = absurd (not-below-zero n e)
-less_one (negsuc n) e = rw (le-ltb (suc n) 1 (omega arith)) (ap pos (omega arith))
-
-pub of_negative : (z : ℤ) → le_z (pos 0) z ≡ false → neg (of_int binary32 (pos (mag z + 1))) ≡ of_int binary32 z
+pub of_negative : (z : ℤ) → lt_z z (pos 0) ≡ true → neg (of_int binary32 (pos (nat_abs z))) ≡ of_int binary32 z
 unfolding of_int
-of_negative (pos n) e = absurd (not-below-zero n e)
-of_negative (negsuc n) e = rw (add-one n) (sym (round-neg binary32 false (suc n) 1))
+of_negative (pos n) e = absurd (false≢true (sym (leb-suc-zero n) ∙ e))
+of_negative (negsuc n) e = sym (round-neg binary32 false (suc n) 1)

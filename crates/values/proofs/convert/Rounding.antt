@@ -1,10 +1,9 @@
 -- The nearest integer to a single, halves away from zero, is half of the cut of twice it.
-use Rattle.std.proofs.Common.{◌≡◌, ◌+◌, ◌*◌, ◌/◌, ◌^◌, true, false, T, ℤ, ap, ◌∙◌, arith, lit<, pow_pos}
+use Rattle.std.proofs.Common.{◌≡◌, ◌+◌, ◌*◌, ◌/◌, ◌^◌, true, false, T, ℤ, ap, ◌∙◌, arith, lit<, pow_pos, None}
 use mathlib.Core.Bool.{false≢true}
 use lib.Ieee.{Float, nan, inf, fin, up, down, lt, add, fits, binary32}
 use lib.Ieee.Fits.{down_pos}
 use Rattle.reals.specs.Singles.{unit_count, signed}
-use Rattle.values.specs.declared.Cut.TheVariants.{Outside}
 use Rattle.values.specs.Convert.{cut, rounded}
 use Rattle.values.proofs.convert.Limits.{limit, Fails, between}
 use Rattle.values.proofs.convert.Cuts.{Cast, cast, outside}
@@ -34,5 +33,5 @@ doubled (fin s m e) F a b =
       nearest = ap cut (half-signed s (2 * n / d) ∙ ap (signed s) near);
     }
 
-pub rounded-outside : (x : Float) → Fails 62 x → Outside ≡ rounded x
+pub rounded-outside : (x : Float) → Fails 62 x → None ≡ rounded x
 rounded-outside x t = outside _ (λ n. nearest-ge n (2 ^ 149) (pow_pos 149)) 62 (lit< tt) x t

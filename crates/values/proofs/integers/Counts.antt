@@ -1,38 +1,35 @@
--- A count from 0 to m, as the rules test it (`between`) and as two comparisons find it; and its cast to an unsigned number.
-use Rattle.std.proofs.Common.{◌≡◌, ℕ, ◌≤◌, true, false, T, ℤ, pos, negsuc, nat_abs, sym, refl, ◌∙◌, true≢false, arith, w32, Fits, SFits, to_z, of_z, ltb-false, ltb-true, le-leb}
+-- An exponent from 0 to 64, as the rules test it and as the code finds it; and the cast of an integer that is not negative.
+use Rattle.std.proofs.Common.{◌≡◌, ℕ, ◌≤◌, Bool, true, false, cond, T, ℤ, pos, negsuc, nat_abs, Some, None, refl, true≢false, arith, w32, Fits, SFits, to_z, of_z, leb-true}
 use mathlib.Core.Bool.{false≢true}
-use lib.Dec.{leb-zero, leb-suc-zero}
+use lib.Dec.{leb-zero}
 use lib.Signed.{non_neg, lt_z}
-use borrow.Author.Tests.{lt-leb}
 use mir.ValLaws.{to_z-of_z}
-use Rattle.values.specs.Integers.{between}
+use Rattle.values.specs.Integers.{exponent}
 
 pub not_negative : (z : ℤ) → lt_z z (pos 0) ≡ false → T (non_neg z)
 not_negative (pos n) e = tt
 not_negative (negsuc n) e = absurd (true≢false e)
 
-pub natural : (z : ℤ) → T (non_neg z) → pos (nat_abs z) ≡ z
-natural (pos n) t = refl
-natural (negsuc n) t = absurd t
-
-module _ (m : ℕ) where
-  pub below-count : (z : ℤ) → lt_z z (pos 0) ≡ true → between (pos 0) (pos m) z ≡ false
-  below-count (pos n) e = absurd (false≢true (sym (leb-suc-zero n) ∙ e))
-  below-count (negsuc n) e = refl
-
-  pub above-count : (z : ℤ) → lt_z (pos m) z ≡ true → between (pos 0) (pos m) z ≡ false
-  above-count (pos n) e = rw (leb-zero n) (lt-leb n m (ltb-true m n e))
-  above-count (negsuc n) e = refl
-
-  pub within_count : (z : ℤ) → lt_z z (pos 0) ≡ false → lt_z (pos m) z ≡ false → between (pos 0) (pos m) z ≡ true
-  within_count (pos n) e f = rw (leb-zero n) (le-leb n m (ltb-false m n f))
-  within_count (negsuc n) e f = absurd (true≢false e)
-
-  pub count-le : (z : ℤ) → lt_z (pos m) z ≡ false → T (non_neg z) → nat_abs z ≤ m
-  count-le (pos n) e t = ltb-false m n e
-  count-le (negsuc n) e t = absurd t
-
 -- what a cast from i32 to u32 asks
 pub cast-natural : (z : ℤ) → SFits w32 z → T (non_neg z) → T (non_neg (to_z w32 (of_z w32 z))) × Fits w32 (nat_abs (to_z w32 (of_z w32 z)))
 cast-natural (pos n) F t = rw (to_z-of_z w32 (pos n) F) (tt, record { fits = omega (arith, F.sfits) })
 cast-natural (negsuc n) F t = absurd t
+
+-- ---- an exponent
+within : (n : ℤ) → exponent n ≡ true → (n ≡ pos (nat_abs n)) × (nat_abs n ≤ 64)
+within (pos n) e = (refl, leb-true n 64 (rw (leb-zero n) at e))
+within (negsuc n) e = absurd (false≢true e)
+
+pub refused : (n : ℤ) → cond (exponent n) (Some (nat_abs n)) None ≡ None → exponent n ≡ false
+refused n = by (exponent n)
+  where
+    by : (t : Bool) → cond t (Some (nat_abs n)) None ≡ None → t ≡ false
+    by true e = cc
+    by false e = refl
+
+pub taken : (n : ℤ) (m : ℕ) → cond (exponent n) (Some (nat_abs n)) None ≡ Some m → n ≡ pos m
+taken n m = by (exponent n) refl
+  where
+    by : (t : Bool) → exponent n ≡ t → cond t (Some (nat_abs n)) None ≡ Some m → n ≡ pos m
+    by true h e = let w = (within n h).0 in cc
+    by false h e = cc

@@ -1,12 +1,13 @@
--- Finite singles, by comparison with the two infinities and with themselves, and what each sort of result settles to.
-use Rattle.std.proofs.Common.{◌≡◌, true, false, refl, true≢false}
+-- Finite singles as the library tests them, and what each sort of result settles to.
+use Rattle.std.proofs.Common.{◌≡◌, true, false, sym, refl}
 use mathlib.Core.Bool.{false≢true}
-use lib.Ieee.{Float, nan, inf, fin, binary32, of_bits, lt, eq}
+use lib.Ieee.{Float, nan, inf, fin, binary32, of_bits, is_nan}
 use lib.Ieee.Scale.{finite}
+use Rattle.std.specs.Float.{float_is_finite, float_with_sign}
 use Rattle.values.specs.declared.Value.TheVariants.{Real}
 use Rattle.values.specs.declared.Fault.TheVariants.{Overflow, OutOfRange}
 use Rattle.values.specs.declared.Outcome.TheVariants.{Done, Stopped}
-use Rattle.values.specs.Singles.{zero_real, one_real, settle}
+use Rattle.values.specs.Singles.{zero_real, one_real, real_abs, settle}
 
 -- ---- the patterns that the code writes
 pub zero_pattern : of_bits binary32 0 ≡ zero_real
@@ -17,27 +18,18 @@ pub one-pattern : of_bits binary32 0x3f80_0000 ≡ one_real
 unfolding of_bits
 one-pattern = refl
 
-pub plus-infinity : of_bits binary32 0x7f80_0000 ≡ inf false
-unfolding of_bits
-plus-infinity = refl
+-- ---- the library's words
+pub finite-is : (x : Float) → float_is_finite x ≡ finite x
+unfolding float_is_finite
+finite-is nan = refl
+finite-is (inf s) = refl
+finite-is (fin s m e) = refl
 
-pub minus-infinity : of_bits binary32 0xff80_0000 ≡ inf true
-unfolding of_bits
-minus-infinity = refl
-
--- ---- between the infinities
-pub below-plus : (x : Float) → lt (inf true) x ≡ true → lt x (inf false) ≡ finite x
-unfolding lt
-below-plus nan h = refl
-below-plus (inf true) h = absurd (false≢true h)
-below-plus (inf false) h = refl
-below-plus (fin s m e) h = refl
-
-pub not-above-minus : (x : Float) → lt (inf true) x ≡ false → false ≡ finite x
-unfolding lt
-not-above-minus nan h = refl
-not-above-minus (inf s) h = refl
-not-above-minus (fin s m e) h = absurd (true≢false h)
+pub absolute-is : (x : Float) → float_with_sign false x ≡ real_abs x
+unfolding float_with_sign
+absolute-is nan = refl
+absolute-is (inf s) = refl
+absolute-is (fin s m e) = refl
 
 -- ---- what a result settles to
 pub settle-finite : (x : Float) → finite x ≡ true → Done (Real x) ≡ settle x
@@ -45,15 +37,14 @@ settle-finite nan h = absurd (false≢true h)
 settle-finite (inf s) h = absurd (false≢true h)
 settle-finite (fin s m e) h = refl
 
-pub settle-infinite : (x : Float) → finite x ≡ false → eq x x ≡ true → Stopped Overflow ≡ settle x
-unfolding eq
-settle-infinite nan h i = absurd (false≢true i)
-settle-infinite (inf s) h i = refl
-settle-infinite (fin s m e) h i = absurd (true≢false h)
+pub settle-nan : (x : Float) → is_nan x ≡ true → Stopped OutOfRange ≡ settle x
+unfolding is_nan
+settle-nan nan h = refl
+settle-nan (inf s) h = absurd (false≢true h)
+settle-nan (fin s m e) h = absurd (false≢true h)
 
-pub settle-nan : (x : Float) → finite x ≡ false → eq x x ≡ false → Stopped OutOfRange ≡ settle x
-unfolding eq
-settle-nan nan h i = refl
-settle-nan (inf true) h i = absurd (true≢false i)
-settle-nan (inf false) h i = absurd (true≢false i)
-settle-nan (fin s m e) h i = absurd (true≢false h)
+pub settle-infinite : (x : Float) → finite x ≡ false → is_nan x ≡ false → Stopped Overflow ≡ settle x
+unfolding is_nan
+settle-infinite nan h i = absurd (false≢true (sym i))
+settle-infinite (inf s) h i = refl
+settle-infinite (fin s m e) h i = absurd (false≢true (sym h))

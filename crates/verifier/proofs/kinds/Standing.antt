@@ -1,9 +1,8 @@
 -- Which instructions are known: those that act on two integers, apart from jumps.
 use mathlib.Core.Path.{◌≡◌, refl, sym, ap, ◌∙◌}
-use mathlib.Core.Bool.{Bool, true, false, not, cond}
+use mathlib.Core.Bool.{Bool, true, false, cond}
 use mathlib.Core.List.{[], ◌∷◌}
 use Prim.Native.Nat.{ℕ}
-use native.Mathlib.Omega.{arith}
 use lib.Dec.{ltb}
 use Rattle.values.specs.declared.Kind.TheVariants.{Int}
 use Rattle.operators.specs.declared.UnaryOp.{UnaryOp}
@@ -15,13 +14,10 @@ use Rattle.code.specs.declared.Instr.{Instr}
 use Rattle.code.specs.declared.Instr.TheVariants.{PushInt, PushReal, Load, LoadIndexed, Unary, Binary, Jump, JumpIf, Tick, Since, Total, Match, Unknown}
 use Rattle.code.specs.declared.Class.{Class}
 use Rattle.code.specs.Instructions.{opcode_of, instruction_of}
-use Rattle.code.specs.Reals.{reads_real}
 use Rattle.code.specs.private.Classes.{class_of, instr_in}
 use Rattle.code.proofs.Page.{number-class}
 use Rattle.verifier.specs.Typing.{Shape, ill_typed, next, move_of, well_formed}
-use Rattle.verifier.specs.Profile.{well_formed_in}
 use Rattle.verifier.specs.private.Shapes.{LeavesKind, ReplacesKind, ReplacesTwo}
-use Rattle.verifier.proofs.Moves.{unknown-not}
 
 abbrev two : Shape
 two = Int ∷ (Int ∷ [])
@@ -47,7 +43,7 @@ binary_int (Choice o) = refl
 -- it goes on or not
 goes_on : (b : Bool) {x : Shape} (r : Shape) → next x ≡ cond b (next r) ill_typed → b ≡ true
 goes_on true r e = refl
-goes_on false r e = let z : ◌≡◌ {A = ℕ} 0 1 = cc in absurd (omega arith)
+goes_on false r e = cc
 
 module _ (m : ℕ) where
   acts : (i : Instr) (b : Bool) (r : Shape) → move_of i two ≡ cond b (next r) ill_typed → b ≡ well_formed m i
@@ -58,15 +54,15 @@ module _ (m : ℕ) where
   acts (LoadIndexed c) b r e = goes_on b r e
   acts (Unary o) b r e = goes_on b r (rw (unary_int o) at e)
   acts (Binary o) b r e = goes_on b r (rw (binary_int o) at e)
-  acts (Jump d) true r e = let z : ◌≡◌ {A = ℕ} 0 1 = cc in absurd (omega arith)
-  acts (Jump d) false r e = let z : ◌≡◌ {A = ℕ} 0 1 = cc in absurd (omega arith)
-  acts (JumpIf t d) true r e = let z : ◌≡◌ {A = ℕ} 0 1 = cc in absurd (omega arith)
-  acts (JumpIf t d) false r e = let z : ◌≡◌ {A = ℕ} 0 1 = cc in absurd (omega arith)
+  acts (Jump d) true r e = cc
+  acts (Jump d) false r e = cc
+  acts (JumpIf t d) true r e = cc
+  acts (JumpIf t d) false r e = cc
   acts Tick b r e = goes_on b r e
   acts Since b r e = goes_on b r e
   acts (Total o c i n) b r e = goes_on b r e
   acts (Match o c i n) b r e = goes_on b r e
-  acts Unknown true r e = let z : ◌≡◌ {A = ℕ} 0 1 = cc in absurd (omega arith)
+  acts Unknown true r e = cc
   acts Unknown false r e = refl
 
   module _ {i : Instr} {n : ℕ} where
@@ -87,19 +83,3 @@ module _ (n : ℕ) {c : Class} (k : Class) (e : c ≡ class_of (opcode_of n)) (q
 
   pub known_by : (m : ℕ) {r : Bool} → r ≡ well_formed m (instr_in k n) → r ≡ well_formed m (instruction_of n)
   known_by m h = h ∙ ap (well_formed m) (sym in-class)
-
--- ---- with reals or without, where the code finds b of an instruction
-
-module _ (reals : Bool) (m : ℕ) (i : Instr) {b : Bool} (e : b ≡ well_formed m i) where
-  pub never-known : b ≡ false → false ≡ well_formed_in reals m i
-  never-known f = by reals
-    where
-      by : (t : Bool) → false ≡ well_formed_in t m i
-      by true = sym f ∙ e
-      by false = rw (sym e ∙ f)
-
-  pub known-with : reals ≡ true → b ≡ true → true ≡ well_formed_in reals m i
-  known-with r f = rw r (sym f ∙ e)
-
-  pub known-without : {x : Bool} → reals ≡ false → b ≡ true → ((i ≡ Unknown → ⊥) → x ≡ reads_real i) → not x ≡ well_formed_in reals m i
-  known-without r f says = rw (r, sym e ∙ f) (ap not (says (unknown-not m i (sym e ∙ f))))

@@ -1,119 +1,118 @@
 -- `verifier::step` meets its contract: an arm for each class.
 use mathlib.Core.Path.{refl}
+use mathlib.Core.Logic.{inl, inr}
 use mathlib.Core.Bool.{true, false}
 use Rattle.code.specs.Instructions.{word_of}
-use Rattle.verifier.proofs.Stepping.{typed-keeps, typed-steps, pushed-steps, int-leaves, none-steps, steps-by, jump-steps, fork-steps}
-use Rattle.verifier.proofs.Reading.{int-silent, real-silent, tick-silent, load-silent, total-silent}
+use Rattle.verifier.proofs.Stepping.{carried, typed-steps, pushed-steps, replaced-steps, replaced-two-steps, int-leaves, none-steps, steps-by}
+use Rattle.verifier.proofs.Stepping.{jump-steps, fork-steps}
+use Rattle.verifier.proofs.Held.{indexed-short, unary-short, since-short, binary-short, binary-few}
+use Rattle.verifier.proofs.Reading.{int-silent, real-silent, tick-silent, load-silent, total-silent, since-silent, indexed-silent, unary-silent, binary-silent}
 use Rattle.verifier.proofs.step.Goals as goal
 
 pub returns-in-PushInt : goal.returns-in-PushInt
 returns-in-PushInt c = record {
-  array_holds_2 = typed-keeps c.push.ensures;
-  table_2 = c.requires.table;
+  array = carried c.push.ensures;
+  same_end = refl;
   steps = steps-by _ _ c.class_of.ensures c.in-PushInt.is
-      (pushed-steps c.args.reals c.requires.array_holds.1 (int-leaves (word_of c.args.w)) (int-silent c.args.w) c.push.ensures);
+      (pushed-steps c.args.reals c.args.held c.requires.admitted (int-silent c.args.w) (int-leaves (word_of c.args.w)) c.push.ensures);
 }
 
 pub returns-in-PushReal : goal.returns-in-PushReal
 returns-in-PushReal c = record {
-  array_holds_2 = typed-keeps c.push-in-PushReal.ensures;
-  table_2 = c.requires.table;
+  array = carried c.push-in-PushReal.ensures;
+  same_end = refl;
   steps = steps-by _ _ c.class_of.ensures c.in-PushReal.is
-      (pushed-steps c.args.reals c.requires.array_holds.1 c.real_kind.ensures (real-silent c.args.w) c.push-in-PushReal.ensures);
+      (pushed-steps c.args.reals c.args.held c.requires.admitted (real-silent c.args.w) c.real_kind.ensures c.push-in-PushReal.ensures);
 }
 
 pub returns-in-Jump : goal.returns-in-Jump
 returns-in-Jump c = record {
-  array_holds_2 = c.jump.ensures.by_index _ c.requires.array_holds.0;
-  table_2 = c.jump.ensures.table_2;
+  array = c.jump.ensures.array _ c.requires.array.whole;
+  same_end = c.jump.ensures.same_end;
   steps = steps-by _ _ c.class_of.ensures c.in-Jump.is
-      (jump-steps c.args.reals c.requires.array_holds.1 c.jump.ensures.steps);
+      (jump-steps c.args.reals c.requires.admitted c.jump.ensures.steps);
 }
 
 pub returns-in-JumpIfFalse : goal.returns-in-JumpIfFalse
 returns-in-JumpIfFalse c = record {
-  array_holds_2 = c.fork.ensures.array_holds_2;
-  table_2 = c.fork.ensures.table_2;
-  steps = steps-by _ _ c.class_of.ensures c.in-JumpIfFalse.is
-      (fork-steps c.args.reals c.requires.array_holds.1 (c.fork.ensures.steps false));
-}
-
-pub returns-in-JumpIfTrue : goal.returns-in-JumpIfTrue
-returns-in-JumpIfTrue c = record {
-  array_holds_2 = c.fork-in-JumpIfTrue.ensures.array_holds_2;
-  table_2 = c.fork-in-JumpIfTrue.ensures.table_2;
-  steps = steps-by _ _ c.class_of.ensures c.in-JumpIfTrue.is
-      (fork-steps c.args.reals c.requires.array_holds.1 (c.fork-in-JumpIfTrue.ensures.steps true));
+  array = c.fork.ensures.array;
+  same_end = c.fork.ensures.same_end;
+  steps = elim c.in-JumpIfFalse.is [
+    | inl e ↦ steps-by _ _ c.class_of.ensures e (fork-steps c.args.reals c.requires.admitted (c.fork.ensures.steps false))
+    | inr e ↦ steps-by _ _ c.class_of.ensures e (fork-steps c.args.reals c.requires.admitted (c.fork.ensures.steps true))
+  ];
 }
 
 pub returns-in-Tick : goal.returns-in-Tick
 returns-in-Tick c = record {
-  array_holds_2 = typed-keeps c.push-in-Tick.ensures;
-  table_2 = c.requires.table;
+  array = carried c.push-in-Tick.ensures;
+  same_end = refl;
   steps = steps-by _ _ c.class_of.ensures c.in-Tick.is
-      (pushed-steps c.args.reals c.requires.array_holds.1 c.tick_kind.ensures (tick-silent c.args.w) c.push-in-Tick.ensures);
+      (pushed-steps c.args.reals c.args.held c.requires.admitted (tick-silent c.args.w) c.tick_kind.ensures c.push-in-Tick.ensures);
 }
 
 pub returns-in-Since : goal.returns-in-Since
 returns-in-Since c = record {
-  array_holds_2 = typed-keeps c.since.ensures;
-  table_2 = c.requires.table;
+  array = carried c.replace.ensures;
+  same_end = refl;
   steps = steps-by _ _ c.class_of.ensures c.in-Since.is
-      (typed-steps c.args.reals refl c.since.ensures);
+      (replaced-steps c.args.reals c.args.held c.requires.admitted (since-silent c.args.w) (since-short c.args.w)
+      (rw c.last.ensures at c.since_kind.ensures) c.replace.ensures);
 }
 
 pub returns-in-Load : goal.returns-in-Load
 returns-in-Load c = record {
-  array_holds_2 = typed-keeps c.push-in-Load.ensures;
-  table_2 = c.requires.table;
+  array = carried c.push-in-Load.ensures;
+  same_end = refl;
   steps = steps-by _ _ c.class_of.ensures c.in-Load.is
-      (pushed-steps c.args.reals c.requires.array_holds.1 c.load_kind.ensures (load-silent c.args.w c.load_kind.ensures) c.push-in-Load.ensures);
+      (pushed-steps c.args.reals c.args.held c.requires.admitted (load-silent c.args.w c.load_kind.ensures) c.load_kind.ensures c.push-in-Load.ensures);
 }
 
 pub returns-in-LoadIndexed : goal.returns-in-LoadIndexed
 returns-in-LoadIndexed c = record {
-  array_holds_2 = typed-keeps c.indexed.ensures;
-  table_2 = c.requires.table;
+  array = carried c.replace-in-LoadIndexed.ensures;
+  same_end = refl;
   steps = steps-by _ _ c.class_of.ensures c.in-LoadIndexed.is
-      (typed-steps c.args.reals refl c.indexed.ensures);
+      (replaced-steps c.args.reals c.args.held c.requires.admitted (indexed-silent c.args.w (c.indexed_kind.ensures 0)) (indexed-short c.args.w)
+      (c.indexed_kind.ensures _) c.replace-in-LoadIndexed.ensures);
 }
 
 pub returns-in-Unary : goal.returns-in-Unary
 returns-in-Unary c = record {
-  array_holds_2 = typed-keeps c.unary.ensures;
-  table_2 = c.requires.table;
+  array = carried c.replace-in-Unary.ensures;
+  same_end = refl;
   steps = steps-by _ _ c.class_of.ensures c.in-Unary.is
-      (typed-steps c.args.reals refl c.unary.ensures);
+      (replaced-steps c.args.reals c.args.held c.requires.admitted (unary-silent c.args.w) (unary-short c.args.w)
+      (rw c.last-in-Unary.ensures at c.unary_kind.ensures) c.replace-in-Unary.ensures);
 }
 
 pub returns-in-Binary : goal.returns-in-Binary
 returns-in-Binary c = record {
-  array_holds_2 = typed-keeps c.binary.ensures;
-  table_2 = c.requires.table;
+  array = carried c.replace_two.ensures;
+  same_end = refl;
   steps = steps-by _ _ c.class_of.ensures c.in-Binary.is
-      (typed-steps c.args.reals refl c.binary.ensures);
+      (replaced-two-steps c.args.reals c.args.held c.requires.admitted (binary-silent c.args.w) (binary-short c.args.w) (binary-few c.args.w)
+      (rw (c.second.ensures, c.last-in-Binary.ensures) at c.binary_kind.ensures) c.replace_two.ensures);
 }
 
 pub returns-in-Total : goal.returns-in-Total
 returns-in-Total c = record {
-  array_holds_2 = typed-keeps c.push-in-Total.ensures;
-  table_2 = c.requires.table;
+  array = carried c.push-in-Total.ensures;
+  same_end = refl;
   steps = steps-by _ _ c.class_of.ensures c.in-Total.is
-      (pushed-steps c.args.reals c.requires.array_holds.1 c.total_kind.ensures (total-silent c.args.w c.total_kind.ensures) c.push-in-Total.ensures);
+      (pushed-steps c.args.reals c.args.held c.requires.admitted (total-silent c.args.w c.total_kind.ensures) c.total_kind.ensures c.push-in-Total.ensures);
 }
 
 pub returns-in-Match : goal.returns-in-Match
 returns-in-Match c = record {
-  array_holds_2 = typed-keeps c.matching.ensures;
-  table_2 = c.requires.table;
-  steps = steps-by _ _ c.class_of.ensures c.in-Match.is
-      (typed-steps c.args.reals refl c.matching.ensures);
+  array = carried c.matching.ensures;
+  same_end = refl;
+  steps = steps-by _ _ c.class_of.ensures c.in-Match.is (typed-steps c.args.reals refl c.matching.ensures);
 }
 
 pub returns-in-Unknown : goal.returns-in-Unknown
 returns-in-Unknown c = record {
-  array_holds_2 = c.requires.array_holds.0;
-  table_2 = c.requires.table;
-  steps = steps-by _ _ c.class_of.ensures c.in-Unknown.is
-      (none-steps c.args.reals _);
+  array = tt;
+  same_end = refl;
+  steps = steps-by _ _ c.class_of.ensures c.in-Unknown.is (none-steps c.args.reals _);
 }

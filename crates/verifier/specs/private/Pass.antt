@@ -1,5 +1,5 @@
 -- What a step of the pass does to what it knows, whatever the arrays: for the contracts of private functions.
-use Rattle.std.specs.Prelude.{◌≡◌, Bool, true, false, not, ◌&&◌, cond, List, ℕ, suc, ◌+◌, ◌-◌, ◌≤◌, ◌<◌, get_or}
+use Rattle.std.specs.Prelude.{◌≡◌, Bool, true, false, not, ◌&&◌, cond, List, ℕ, suc, ◌+◌, ◌-◌, ◌≤◌, ◌<◌}
 use Rattle.code.specs.declared.Instr.{Instr}
 use Rattle.code.specs.Instructions.{decode_at}
 use Rattle.code.specs.Reals.{reads_real}
@@ -55,13 +55,13 @@ abbrev pub admitted_move : Bool → Instr → Shape → Move
 admitted_move reals i s = cond (admits reals i (held_after (move_of i s))) (move_of i s) ill_typed
 
 -- from a place p that nothing flows into to r: jumps come to none between them, and each instruction is known
-pub record Skipping (reals : Bool) (code : List ℕ) (n : ℕ) (tops : List ℕ) (p r : ℕ) : Type 0 where
+pub record Skipping (reals : Bool) (code : List ℕ) (n : ℕ) (brought : ℕ → State) (p r : ℕ) : Type 0 where
   pub onward : p ≤ r
   pub within : r ≤ n
-  pub none : (q : ℕ) → p ≤ q → q < r → get_or tops q 0 ≡ 0
+  pub none : (q : ℕ) → p ≤ q → q < r → brought q ≡ unreached
   pub each : (q : ℕ) → p ≤ q → q < r → well_formed_in reals (n - suc q) (decode_at code q) ≡ true
 
 -- and r has a jump, or is the end, or its instruction is not known
-pub record Skips (reals : Bool) (code : List ℕ) (n : ℕ) (tops : List ℕ) (p r : ℕ) : Type 0 where
-  pub way : Skipping reals code n tops p r
-  pub last : get_or tops r 0 ≡ 0 → r < n → well_formed_in reals (n - suc r) (decode_at code r) ≡ false
+pub record Skips (reals : Bool) (code : List ℕ) (n : ℕ) (brought : ℕ → State) (p r : ℕ) : Type 0 where
+  pub way : Skipping reals code n brought p r
+  pub last : brought r ≡ unreached → r < n → well_formed_in reals (n - suc r) (decode_at code r) ≡ false

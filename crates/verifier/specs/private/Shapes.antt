@@ -1,9 +1,7 @@
--- How the code has what the definitions speak of: kinds in an array of 128 numbers, 0 for an integer, of which the last counts, beside it all of them as
--- bits, and bits alone for a place that jumps go to. For the contracts of private functions, as Pass is; a reader believes Typing, Accepts, Stack and
--- Safety.
-use Rattle.std.specs.Prelude.{◌≡◌, Bool, true, false, cond, List, [], ◌∷◌, ℕ, zero, suc, ◌+◌, ◌-◌, ◌*◌, ◌/◌, ◌%◌, ◌^◌, ◌≤◌, ◌<◌, eqb, ltb, length, get_or}
+-- How the code has what the definitions speak of: a kind as a number, 0 for an integer, and the kinds of the values held as bits. For the contracts of
+-- private functions, as Pass is; a reader believes Typing, Accepts, Stack and Safety.
+use Rattle.std.specs.Prelude.{◌≡◌, Bool, true, false, cond, List, [], ◌∷◌, ℕ, zero, suc, ◌-◌, ◌/◌, ◌%◌, ◌<◌, eqb, ltb, length, get_or, Option, None, Some, ⊤}
 pub use Rattle.operators.specs.Kinds.{number_kind, kind_number}
-use Rattle.memory.specs.declared.numbers.BankOf.{BankOf}
 use Rattle.memory.specs.Layout.{layout_of}
 use Rattle.memory.specs.Cells.{bank_kind}
 use Rattle.memory.specs.Numbers.{bank_numbered, bank_typed, bank_elements}
@@ -11,9 +9,12 @@ use Rattle.totals.specs.Totals.{range_within}
 use Rattle.code.specs.declared.Instr.{Instr}
 use Rattle.code.specs.Instructions.{range_bank, range_first, range_count}
 use Rattle.verifier.specs.declared.packing.Held.{Held}
+use Rattle.verifier.specs.declared.places.Brought.{Brought}
 use Rattle.verifier.specs.declared.typing.Flow.{Flow}
+use Rattle.verifier.specs.declared.typing.Flow.TheVariants.{Refused, Left, On}
 use Rattle.verifier.specs.Typing.{Shape, Move, ill_typed, next, push_kind, move_of}
 pub use Rattle.verifier.specs.Verdicts.{State, rejected, unreached, holds}
+use Rattle.memory.specs.declared.Bank.{Bank}
 
 -- ---- what an instruction leaves: the number of a kind, or more than 1 for nothing
 
@@ -23,6 +24,16 @@ leaving_under l n s = cond (ltb n l) (next (number_kind n ∷ s)) ill_typed
 
 abbrev pub push_under : ℕ → ℕ → Shape → Move
 push_under l n s = cond (ltb n l) (push_kind (number_kind n) s) ill_typed
+
+-- a kind in the place of the last, or of the last two
+abbrev pub replace_under : ℕ → ℕ → Shape → Move
+replace_under l n [] = ill_typed
+replace_under l n (k ∷ s) = leaving_under l n s
+
+abbrev pub replace_two_under : ℕ → ℕ → Shape → Move
+replace_two_under l n [] = ill_typed
+replace_two_under l n (k ∷ []) = ill_typed
+replace_two_under l n (k ∷ (j ∷ s)) = leaving_under l n s
 
 -- either kind; without reals an integer alone
 abbrev pub kind_limit : Bool → ℕ
@@ -46,9 +57,9 @@ pub record ReplacesTwo (i : Instr) (j k n : ℕ) : Type 0 where
   pub is : (s : Shape) → move_of i (number_kind k ∷ (number_kind j ∷ s)) ≡ leaving n s
 
 -- a load of an element leaves its bank's kind
-abbrev pub element_typed : BankOf → ℕ → ℕ
-element_typed (BankOf.Is b) i = cond (ltb i (layout_of b).elements) (kind_number (bank_kind b)) 2
-element_typed BankOf.Nothing i = 2
+abbrev pub element_typed : Option Bank → ℕ → ℕ
+element_typed (Some b) i = cond (ltb i (layout_of b).elements) (kind_number (bank_kind b)) 2
+element_typed None i = 2
 
 -- the range of a word lies within its bank
 abbrev pub within_bank : ℕ → Bool
@@ -59,86 +70,61 @@ abbrev pub bars_range : Bool → ℕ → Bool
 bars_range true w = false
 bars_range false w = eqb (bank_typed (bank_numbered (range_bank w))) 1
 
--- ---- kinds as numbers in the array, and as bits
+-- ---- kinds as bits
 
 -- the kinds of the lowest h bits, the lowest first
 abbrev pub bit_kinds : ℕ → ℕ → Shape
-bit_kinds zero w = []
-bit_kinds (suc h) w = number_kind (w % 2) ∷ bit_kinds h (w / 2)
-
-abbrev pub word : Held → ℕ
-word w = w.high * 2 ^ 64 + w.low
+bit_kinds zero b = []
+bit_kinds (suc h) b = number_kind (b % 2) ∷ bit_kinds h (b / 2)
 
 abbrev pub kinds_of : Held → Shape
-kinds_of w = bit_kinds w.height (word w)
-
-abbrev pub none : Held
-none = record { height = 0; low = 0; high = 0 }
-
--- no more than 128, and no other bit is set, so that equal kinds are equal words
-pub record Canonical (w : Held) : Type 0 where
-  pub low : w.height ≤ 128
-  pub few : word w < 2 ^ w.height
-
--- the array has its 128 numbers, and the last value's kind is that of the lowest bit
-pub record ArrayHolds (a : List ℕ) (w : Held) : Type 0 where
-  pub whole : length a ≡ 128
-  pub canonical : Canonical w
-  pub last : 0 < w.height → number_kind (get_or a (w.height - 1) 0) ≡ number_kind (word w % 2)
-
-pub record Pushed (n : ℕ) (w r : Held) : Type 0 where
-  pub height : r.height ≡ w.height + 1
-  pub bits : word r ≡ n + 2 * word w
-
-pub record Popped (w r : Held) : Type 0 where
-  pub height : r.height ≡ w.height - 1
-  pub bits : word r ≡ word w / 2
-
-pub record Replaced (n : ℕ) (w r : Held) : Type 0 where
-  pub height : r.height ≡ w.height
-  pub bits : word r ≡ n + 2 * (word w / 2)
+kinds_of w = bit_kinds w.height w.bits
 
 -- the kinds below the last
-abbrev pub below : Held → Shape
-below w = bit_kinds (w.height - 1) (word w / 2)
+abbrev pub below : Shape → Shape
+below [] = []
+below (k ∷ s) = s
+
+-- the array has the last value's kind
+pub record ArrayHolds (a : List ℕ) (w : Held) : Type 0 where
+  pub whole : length a ≡ 128
+  pub last : 0 < w.height → get_or a (w.height - 1) 0 ≡ w.bits % 2
 
 -- ---- what flows on
 
-abbrev pub state_at : ℕ → Shape → State
-state_at zero s = rejected
-state_at (suc zero) s = unreached
-state_at (suc (suc n)) s = holds s
-
 abbrev pub state_of : Flow → State
-state_of f = state_at f.reach (kinds_of f.held)
+state_of Refused = rejected
+state_of Left = unreached
+state_of (On w) = holds (kinds_of w)
 
--- the array a, as it is left, and f are the move m, which is no jump
+-- and the array a has the last kind of what does
+abbrev pub Carries : List ℕ → Flow → Type 0
+Carries a Refused = ⊤
+Carries a Left = length a ≡ 128
+Carries a (On w) = ArrayHolds a w
+
+-- f is the move m, which is no jump
 pub data Leaves (a : List ℕ) (f : Flow) : Move → Type 0 where
-  stops : f.reach ≡ 0 → ArrayHolds a f.held → Leaves a f ill_typed
-  goes : f.reach ≡ 2 → ArrayHolds a f.held → Leaves a f (next (kinds_of f.held))
+  stops : f ≡ Refused → Leaves a f ill_typed
+  goes : {w : Held} → f ≡ On w → ArrayHolds a w → Leaves a f (next (kinds_of w))
 
--- ---- three arrays, of the places that jumps go to
+-- ---- what jumps brought to a place
 
--- one more than the height, or 0, and the kinds
-abbrev pub state_entry : ℕ → Held → State
-state_entry zero w = unreached
-state_entry (suc h) w = holds (kinds_of w)
+abbrev pub state_if : Option Held → State
+state_if None = unreached
+state_if (Some w) = holds (kinds_of w)
 
-abbrev pub held_at : List ℕ → List ℕ → List ℕ → ℕ → Held
-held_at tops lows highs q = record { height = get_or tops q 0 - 1; low = get_or lows q 0; high = get_or highs q 0 }
+-- one more than the height, or 0, and the kinds as bits
+abbrev pub state_entry : ℕ → ℕ → State
+state_entry zero b = unreached
+state_entry (suc h) b = holds (bit_kinds h b)
 
-abbrev pub table_of : List ℕ → List ℕ → List ℕ → ℕ → State
-table_of tops lows highs q = state_entry (get_or tops q 0) (held_at tops lows highs q)
-
--- m places
-pub record Table (m : ℕ) (tops lows highs : List ℕ) : Type 0 where
-  pub tops_size : length tops ≡ m
-  pub lows_size : length lows ≡ m
-  pub highs_size : length highs ≡ m
-  pub canonical : (q : ℕ) → Canonical (held_at tops lows highs q)
+abbrev pub brought_to : Brought → ℕ → State
+brought_to t q = state_entry (get_or t.tops.now q 0) (get_or t.bits.now q 0)
 
 -- nothing was brought, and there is a place for each of n instructions and for the end
-pub record Blank (n : ℕ) (tops lows highs : List ℕ) : Type 0 where
+pub record Blank (n : ℕ) (tops bits : List ℕ) : Type 0 where
   pub room : n < length tops
-  pub table : Table (length tops) tops lows highs
-  pub empty : (q : ℕ) → get_or tops q 0 ≡ 0
+  pub sizes : length bits ≡ length tops
+  pub no-tops : (q : ℕ) → get_or tops q 0 ≡ 0
+  pub no-bits : (q : ℕ) → get_or bits q 0 ≡ 0

@@ -11,16 +11,16 @@ pub overflow_add-end : goal.overflow_add-end
 overflow_add-end c = omega (
   arith,
   (line-in c.args.s.now _
-      (sym c.in-Value.is ∙ c.field_at.ensures)).inside,
+      (sym c.in-Some.is ∙ c.field_at.ensures)).inside,
 )
 
 pub slice_bounds-card_number-end : goal.slice_bounds-card_number-end
 slice_bounds-card_number-end c = omega (
   arith,
   (line-in c.args.s.now _
-      (sym c.in-Value.is ∙ c.field_at.ensures)).inside,
+      (sym c.in-Some.is ∙ c.field_at.ensures)).inside,
 )
 
 pub returns : goal.returns
 returns c = c.card_number.ensures ∙ line-number c.args.s.now _
-    (sym c.in-Value.is ∙ c.field_at.ensures)
+    (sym c.in-Some.is ∙ c.field_at.ensures)

@@ -40,7 +40,7 @@ loop-at-smaller c = omega (
 
 pub loop-at-preserved : goal.loop-at-preserved
 loop-at-preserved c = next c.loop-at.invariant (taken c.loop-at.last c.part_end-end.ensures c.part_answer-answer.ensures) c.kept_size-kept.ensures
-    c.named_size-named.ensures c.if-kept_left-kept.false c.if-named_left-named.false c.last_kept-last.ensures
+    c.named_size-named.ensures c.if-kept_left-kept.false c.if-named_left-named.false c.unwrap_or-last.ensures
 
 pub returns : goal.returns
 returns c = end c.loop-at.invariant c.loop-at-test.false

@@ -4,11 +4,11 @@ use Rattle.card_salvage.proofs.outputs.put_kept.Goals as goal
 
 pub put_all-requires : goal.put_all-requires
 put_all-requires c = kept-room c.args.part.now c.args.at
-    c.in-Keeps.is c.requires
+    c.in-Ok.is c.requires
 
-pub returns-in-Keeps : goal.returns-in-Keeps
-returns-in-Keeps c = put-kept c.in-Keeps.is c.put_all.ensures
+pub returns-in-Ok : goal.returns-in-Ok
+returns-in-Ok c = put-kept c.in-Ok.is c.put_all.ensures
 
-pub returns-in-Leaves : goal.returns-in-Leaves
-returns-in-Leaves c = left-kept c.args.out.now c.args.part.now
-    c.args.at c.in-Leaves.is
+pub returns-in-Err : goal.returns-in-Err
+returns-in-Err c = left-kept c.args.out.now c.args.part.now
+    c.args.at c.in-Err.is

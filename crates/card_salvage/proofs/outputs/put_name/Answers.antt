@@ -8,12 +8,12 @@ put_lines-requires c = omega (
   arith,
   c.requires,
   name-long c.args.first c.args.size
-      c.in-Leaves.is,
+      c.in-Err.is,
 )
 
-pub returns-in-Keeps : goal.returns-in-Keeps
-returns-in-Keeps c = kept-name c.args.out.now c.args.at c.args.first
-    c.args.size c.in-Keeps.is
+pub returns-in-Ok : goal.returns-in-Ok
+returns-in-Ok c = kept-name c.args.out.now c.args.at c.args.first
+    c.args.size c.in-Ok.is
 
-pub returns-in-Leaves : goal.returns-in-Leaves
-returns-in-Leaves c = put-name c.args.first c.args.size c.in-Leaves.is c.put_lines.ensures
+pub returns-in-Err : goal.returns-in-Err
+returns-in-Err c = put-name c.args.first c.args.size c.in-Err.is c.put_lines.ensures

@@ -51,7 +51,7 @@ loop-at-preserved c = next c.loop-at.invariant
     (taken c.loop-at.last
     c.part_end-end.ensures
     c.part_answer-answer.ensures)
-    c.put_kept-kept_at.ensures c.put_name-named_at.ensures c.last_kept-last.ensures
+    c.put_kept-kept_at.ensures c.put_name-named_at.ensures c.unwrap_or-last.ensures
 
 pub returns : goal.returns
 returns c =

@@ -1,46 +1,28 @@
--- `copying::copy` meets its contract. The invariant: the first i words are there as bytes, and the rest is as before. The measure is what is left.
-use mathlib.Core.Path.{◌≡◌, refl}
+-- `copying::copy` meets its contract. The invariant: the first i words are there as bytes, and the rest is as before.
+use mathlib.Core.Path.{◌≡◌, refl, ◌∙◌, ap}
+use Prim.Native.Nat.{◌<◌}
 use native.Mathlib.Omega.{arith}
-use lib.ListN.{length-set}
 use borrow.Author.Rules.{rules}
+use lib.ListN.{get_or, take}
+use lib.Seq.{length-take-le}
+use Rattle.std.specs.Int.{w64, to_le_bytes}
+use Rattle.std.proofs.lemmas.List.{get_or-take}
 use Rattle.draft.specs.private.Draft.{word_bytes}
 use Rattle.compiler.proofs.copying.Copied.{copied_more}
 use Rattle.compiler.proofs.copying.copy.Goals as goal
 
 pub loop-i-init : goal.loop-i-init
 unfolding word_bytes
-loop-i-init c = (omega arith, refl, refl)
-
-pub bounds-code-at-in-loop-i : goal.bounds-code-at-in-loop-i
-bounds-code-at-in-loop-i c = simp length-set (omega arith)
-
-pub bounds-code-at-in-loop-i-2 : goal.bounds-code-at-in-loop-i-2
-bounds-code-at-in-loop-i-2 c = simp length-set (omega arith)
-
-pub bounds-code-at-in-loop-i-3 : goal.bounds-code-at-in-loop-i-3
-bounds-code-at-in-loop-i-3 c = simp length-set (omega arith)
-
-pub bounds-code-at-in-loop-i-4 : goal.bounds-code-at-in-loop-i-4
-bounds-code-at-in-loop-i-4 c = simp length-set (omega arith)
-
-pub bounds-code-at-in-loop-i-5 : goal.bounds-code-at-in-loop-i-5
-bounds-code-at-in-loop-i-5 c = simp length-set (omega arith)
-
-pub bounds-code-at-in-loop-i-6 : goal.bounds-code-at-in-loop-i-6
-bounds-code-at-in-loop-i-6 c = simp length-set (omega arith)
-
-pub bounds-code-at-in-loop-i-7 : goal.bounds-code-at-in-loop-i-7
-bounds-code-at-in-loop-i-7 c = simp length-set (omega arith)
+loop-i-init c = (refl, refl)
 
 pub loop-i-preserved : goal.loop-i-preserved
 loop-i-preserved c =
-    let l = c.loop-i in
+    let i = c.loop-i.i in
     let a = c.args in
-    let next =
-    copied_more a.draft.now a.code.now l.i (omega arith) l.invariant.2 c.byte_of.ensures c.byte_of-in-loop-i.ensures c.byte_of-in-loop-i-2.ensures
-    c.byte_of-in-loop-i-3.ensures c.byte_of-in-loop-i-4.ensures c.byte_of-in-loop-i-5.ensures c.byte_of-in-loop-i-6.ensures
-    c.byte_of-in-loop-i-7.ensures in
-    (search rules, simp length-set l.invariant.1, next)
-
-pub returns : goal.returns
-returns c = let e : c.loop-i.i ≡ c.args.n = omega arith in rw (← e) c.loop-i.invariant.2
+    let below : i < a.n = omega (arith, c.loop-i-test.true, length-take-le a.n a.draft.now c.requires.0) in
+    let bytes : c.to_le_bytes.result ≡ to_le_bytes w64 (get_or (take a.n a.draft.now) i 0) = c.to_le_bytes.ensures in (
+      search rules,
+      copied_more a.draft.now a.code.now i (omega (arith, below, c.requires.0)) c.loop-i.invariant.1
+          (c.copy_from_slice.ensures.after ∙ bytes ∙ ap (to_le_bytes w64) (get_or-take a.n a.draft.now i 0 below))
+          (omega arith) (omega (arith, below, c.requires.1, c.loop-i.invariant.0)),
+    )

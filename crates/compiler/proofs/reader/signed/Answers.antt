@@ -1,4 +1,4 @@
--- `compiler::reader::signed` meets its contract. The invariant: the operators from i on are behind the operand. The measure is i.
+-- `compiler::reader::signed` meets its contract. The invariant: the operators from i on are behind the operand.
 use mathlib.Core.Path.{◌≡◌}
 use Prim.Native.Nat.{◌-◌}
 use native.Mathlib.Omega.{arith}

@@ -1,4 +1,4 @@
--- `scratch::shift` meets its contract. The invariant: a byte is carried to the place i. The measure is what is left.
+-- `scratch::shift` meets its contract. The invariant: a byte is carried to the place i.
 use mathlib.Core.Path.{refl}
 use native.Mathlib.Omega.{arith}
 use lib.ListN.{length-set}

@@ -18,15 +18,15 @@ returns-then-is_digit c =
     let e = numeral-ends h d n.0 in
     ((λ k. numeral-ends k d n.0), omega (arith, e, (lies h).some), n.1)
 
-pub run_end-requires : goal.run_end-requires
-run_end-requires c = omega (arith, inside c.requires)
+pub word_end-requires : goal.word_end-requires
+word_end-requires c = omega (arith, inside c.requires)
 
 pub returns-then-is_letter : goal.returns-then-is_letter
 returns-then-is_letter c =
     let h = c.requires in
     let d = sym c.is_digit.ensures ∙ c.if-is_digit.false in
     let l = sym c.is_letter.ensures ∙ c.if-is_letter.true in
-    let n = c.run_end.ensures in
+    let n = c.word_end.ensures in
     let e = word-ends h d l n.0 in
     ((λ k. word-ends k d l n.0), omega (arith, e, (lies h).some), n.1)
 

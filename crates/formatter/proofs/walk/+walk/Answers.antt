@@ -1,7 +1,6 @@
 -- The cycle of the walk: `expression`, `list`, `operand` and `primary` meet their contracts. Each answer cites the law for its way. The measure is the
 -- words left, then the rank of the function.
 use mathlib.Core.Path.{◌≡◌, refl, sym, ap, subst, ◌∙◌}
-use mathlib.Core.Bool.{false}
 use native.Mathlib.Omega.{arith}
 use Rattle.token_table.specs.private.Table.{word_class, word_at, tokens_from}
 use Rattle.formatter.proofs.Steps.{operand-within}
@@ -11,7 +10,7 @@ use Rattle.formatter.proofs.Lists.{close-within, close-stands, close-writes, fir
 use Rattle.formatter.proofs.Lists.{next-some, list-goes-on, closer-within, closer-stands, list-ends}
 use Rattle.formatter.proofs.Infixes.{operand-some, climb-starts, loop-none, loop-loose, operator-stands, operator-within}
 use Rattle.formatter.proofs.Infixes.{right-position, right-some, climb-goes-on}
-use Prim.Native.Nat.{ℕ, ◌-◌, ◌≤◌, ◌<◌}
+use Prim.Native.Nat.{ℕ, ◌≤◌, ◌<◌}
 use Rattle.formatter.proofs.walk.+walk.Goals as goal
 
 pub expression-operand-left-requires : goal.expression-operand-left-requires

@@ -1,6 +1,5 @@
--- `walk::signs` meets its contract. The invariant: the operators up to i are written. The measure is what is left.
+-- `walk::signs` meets its contract. The invariant: the operators up to i are written.
 use mathlib.Core.Path.{◌≡◌, refl, ◌∙◌}
-use Prim.Native.Nat.{◌-◌}
 use native.Mathlib.Omega.{arith}
 use Rattle.formatter.proofs.Steps.{sign-here}
 use Rattle.formatter.proofs.Pieces.{no-signs-yet, signs-more}
@@ -15,9 +14,6 @@ token-end-requires c =
     let h = sign-here _ _ l.i l.invariant.3 (c.requires.1.each l.i l.invariant.0
     c.loop-i-test.true) in
     (omega (arith, l.invariant.4.counted, l.invariant.2), rw c.word_at.ensures h.2.stands)
-
-pub overflow_add-i : goal.overflow_add-i
-overflow_add-i c = omega (arith, c.requires.1.within)
 
 pub loop-i-preserved : goal.loop-i-preserved
 loop-i-preserved c =

@@ -2,13 +2,13 @@
 use Rattle.lines.proofs.forms.pattern_of.Goals as goal
 
 pub returns-in-X : goal.returns-in-X
-returns-in-X c = rw c.in-X.is c.natural.ensures
+returns-in-X c = rw c.in-X.is c.number_below.ensures
 
 pub returns-in-C : goal.returns-in-C
-returns-in-C c = rw c.in-C.is c.natural-in-C.ensures
+returns-in-C c = rw c.in-C.is c.number_below-in-C.ensures
 
 pub returns-in-V : goal.returns-in-V
-returns-in-V c = rw c.in-V.is c.natural-in-V.ensures
+returns-in-V c = rw c.in-V.is c.number_below-in-V.ensures
 
 pub returns-in-N : goal.returns-in-N
 returns-in-N c = rw c.in-N.is c.signed.ensures

@@ -1,14 +1,11 @@
--- `printing::width_of` meets its contract. The loop's invariant: the digits taken away and those left are all of them. The measure is the number that is left.
+-- `printing::width_of` meets its contract: a power of ten says how many digits there are.
+use mathlib.Core.Path.{sym}
 use native.Mathlib.Omega.{arith}
-use borrow.Author.Rules.{rules}
-use Rattle.lines.proofs.printing.Widths.{one, more, at_most}
+use Rattle.lines.proofs.printing.Widths.{by-power, one}
 use Rattle.lines.proofs.printing.width_of.Goals as goal
 
-pub overflow_add-k : goal.overflow_add-k
-overflow_add-k c = omega (arith, at_most 19 c.args.n (search rules))
+pub returns-in-Some : goal.returns-in-Some
+returns-in-Some c = sym (by-power c.in-Some.tens c.args.n c.in-Some.ensures.power_le c.in-Some.ensures.next_power_gt)
 
-pub loop-rest-preserved : goal.loop-rest-preserved
-loop-rest-preserved c = omega (arith, more c.loop-rest.rest c.loop-rest-test.true)
-
-pub returns : goal.returns
-returns c = omega (arith, one c.loop-rest.rest c.loop-rest-test.false)
+pub returns-in-None : goal.returns-in-None
+returns-in-None c = sym (one c.args.n (omega (arith, c.in-None.ensures.none)))

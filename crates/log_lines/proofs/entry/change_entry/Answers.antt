@@ -14,7 +14,7 @@ pub returns-then-same_bytes : goal.returns-then-same_bytes
 returns-then-same_bytes c = change-by c.args.bank
     c.args.element
     c.args.value.now true
-    (sym c.in-Pattern.is
+    (sym c.in-Some.is
     ∙ c.pattern_of.ensures)
     (front c.put_value-end.ensures.puts (omega (arith, c.put_value-end.ensures.upper_bound)))
     (sym c.if-same_bytes.true ∙ c.same_bytes.ensures)
@@ -23,7 +23,7 @@ pub returns : goal.returns
 returns c = change-by c.args.bank
     c.args.element
     c.args.value.now false
-    (sym c.in-Pattern.is
+    (sym c.in-Some.is
     ∙ c.pattern_of.ensures)
     (front c.put_value-end.ensures.puts (omega (arith, c.put_value-end.ensures.upper_bound)))
     (sym c.if-same_bytes.false ∙ c.same_bytes.ensures)

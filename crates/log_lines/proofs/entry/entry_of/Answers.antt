@@ -47,8 +47,8 @@ returns-then-same_bytes-2 c =
     (sym c.if-same_bytes-2.true ∙ c.same_bytes-2.ensures) c.run_entry.ensures) in
     record { value = pair.0; entry_inside = pair.1 }
 
-pub returns-in-Cell : goal.returns-in-Cell
-returns-in-Cell c =
+pub returns-in-Some : goal.returns-in-Some
+returns-in-Some c =
     let pair = inside_too c.args.line.now (cell-line c.args.line.now c.until-k.ensures.0 (omega (
       arith,
       c.until-k.ensures.1,
@@ -58,11 +58,11 @@ returns-in-Cell c =
     (sym c.if-same_bytes.false
     ∙ c.same_bytes.ensures)
     (sym c.if-same_bytes-2.false ∙ c.same_bytes-2.ensures)
-    (sym c.in-Cell.is ∙ c.cell_named.ensures) c.change_entry.ensures) in
+    (sym c.in-Some.is ∙ c.cell_named.ensures) c.change_entry.ensures) in
     record { value = pair.0; entry_inside = pair.1 }
 
-pub returns-in-Other : goal.returns-in-Other
-returns-in-Other c =
+pub returns-in-None : goal.returns-in-None
+returns-in-None c =
     let pair = inside_too c.args.line.now (cell-line c.args.line.now
     c.until-k.ensures.0
     (omega (
@@ -74,5 +74,5 @@ returns-in-Other c =
     c.until-k.result)
     (sym c.if-same_bytes.false ∙ c.same_bytes.ensures)
     (sym c.if-same_bytes-2.false ∙ c.same_bytes-2.ensures)
-    (sym c.in-Other.is ∙ c.cell_named.ensures) refl) in
+    (sym c.in-None.is ∙ c.cell_named.ensures) refl) in
     record { value = pair.0; entry_inside = pair.1 }

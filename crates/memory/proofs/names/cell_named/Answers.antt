@@ -1,4 +1,5 @@
 -- `memory::names::cell_named` meets its contract: the letter, then the number below the bank's limit.
+use Rattle.std.specs.Prelude.{Some}
 use mathlib.Core.Path.{◌≡◌, sym, ap, ◌∙◌}
 use mathlib.Core.List.{List}
 use Prim.Native.Nat.{ℕ, ◌-◌}
@@ -8,7 +9,6 @@ use lib.Seq.{take_all}
 use borrow.Author.Rules.{rules}
 use Rattle.memory.specs.declared.Bank.{Bank}
 use Rattle.memory.specs.declared.Layout.{Layout}
-use Rattle.memory.specs.declared.names.Letter.TheVariants.{Of}
 use Rattle.memory.specs.Layout.{layout_of}
 use Rattle.memory.specs.Names.{number_rule, cell_after_letter, named_rule}
 use Rattle.memory.proofs.names.Words.{few, empty, named, no_cell, cell-is}
@@ -21,11 +21,10 @@ module _ (c : After-number_below) where
   word = c.args.word.now
 
   abbrev bank : Bank
-  bank = c.in-Of.bank
+  bank = c.in_ok-bank.bank
 
-  by-bank : named_rule word ≡ cell_after_letter (drop 1 word) (Of bank)
-  by-bank = named word (search rules) (sym c.in-Of.is
-      ∙ c.bank_of.ensures)
+  by-bank : named_rule word ≡ cell_after_letter (drop 1 word) (Some bank)
+  by-bank = named word (search rules) (c.in_ok-bank.ensures)
 
   by_number : c.number_below.result ≡ number_rule (layout_of bank).elements (drop 1 word)
   by_number =
@@ -36,20 +35,18 @@ module _ (c : After-number_below) where
 pub returns-then-word-eq0 : goal.returns-then-word-eq0
 returns-then-word-eq0 c = sym (empty c.args.word.now c.if-word-eq0.true)
 
-pub returns-in_default : goal.returns-in_default
-returns-in_default c =
-    sym (named c.args.word.now (search rules)
-    (sym c.in_default.is ∙ c.bank_of.ensures))
+pub returns-in_err-bank : goal.returns-in_err-bank
+returns-in_err-bank c = c.from_residual.ensures ∙ sym (named c.args.word.now (search rules) (c.in_err-bank.ensures))
 
 pub number_below-requires : goal.number_below-requires
-number_below-requires c = rw c.layout_of.ensures (few c.in-Of.bank)
+number_below-requires c = rw c.layout_of.ensures (few c.in_ok-bank.bank)
 
-pub returns-in-Is : goal.returns-in-Is
-returns-in-Is c =
-    let p = (goal.at.returns-in-Is c).After-number_below in
-    sym (by-bank p ∙ cell-is (bank p) (drop 1 (word p)) (sym (by_number p) ∙ c.in-Is.is))
+pub returns : goal.returns
+returns c =
+    let p = (goal.at.returns c).After-number_below in
+    sym (by-bank p ∙ cell-is (bank p) (drop 1 (word p)) (sym (by_number p) ∙ c.in_ok-n.was))
 
-pub returns-in-Other : goal.returns-in-Other
-returns-in-Other c =
-    let p = (goal.at.returns-in-Other c).After-number_below in
-    sym (by-bank p ∙ no_cell (bank p) (drop 1 (word p)) (sym (by_number p) ∙ c.in-Other.is))
+pub returns-in_err-n : goal.returns-in_err-n
+returns-in_err-n c =
+    let p = (goal.at.returns-in_err-n c).After-number_below in
+    c.from_residual-in_err-n.ensures ∙ sym (by-bank p ∙ no_cell (bank p) (drop 1 (word p)) (sym (by_number p) ∙ c.in_err-n.was))

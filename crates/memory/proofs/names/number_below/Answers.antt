@@ -4,12 +4,9 @@ use mathlib.Core.Bool.{true}
 use native.Mathlib.Nat.{zero-add}
 use native.Mathlib.Omega.{arith}
 use Rattle.memory.specs.Names.{no_leading_zero}
-use Rattle.memory.proofs.names.Decimals.{none, single, no_zero, not-digits, not-below, below}
+use Rattle.memory.proofs.names.Decimals.{single, no_zero, not-digits, not-below, below}
 use Rattle.memory.proofs.names.number_below.Goals as goal
 use Rattle.memory.proofs.names.number_below.Goals.{else-text-eq48-via-then-text-eq48+else-text-ne1, else-text-eq48-via-else-text-eq48}
-
-pub returns-then-text-eq0 : goal.returns-then-text-eq0
-returns-then-text-eq0 c = rw (none c.args.text.now c.if-text-eq0.true)
 
 pub returns-then-d-text : goal.returns-then-d-text
 returns-then-d-text c =

@@ -5,7 +5,6 @@ use mir.Syntax.{w32}
 use mir.Val.{SFits}
 use mir.ValLaws.{to_z-of_z}
 use borrow.Author.Rules.{rules}
-use borrow.Author.Tests.{le-ltb}
 use Rattle.reals.specs.declared.ArithOp.TheVariants.{Add, Sub, Mul, Div, Rem}
 use Rattle.values.specs.declared.BitOp.TheVariants.{And, Or, Xor}
 use Rattle.values.specs.declared.ShiftOp.TheVariants.{Left, Right, RightZero}
@@ -20,7 +19,6 @@ use Rattle.values.specs.declared.Outcome.TheVariants.{Done}
 use Rattle.values.specs.Integers.{int_arith, compare_int, choice_int, int_power}
 use Rattle.values.specs.Patterns.{bitwise_int, shift_int}
 use Rattle.operators.specs.Operators.{from_bool}
-use Rattle.operators.proofs.Arms.{past-arms}
 use Rattle.operators.proofs.integers.Operands.{of-ints}
 use Rattle.operators.proofs.integers.binary.Goals as goal
 

@@ -1,6 +1,5 @@
 -- `operators::kinds::binary_kind` meets its contract: the operators by their numbers, one class after the other.
 use mathlib.Core.Path.{◌∙◌}
-use borrow.Author.Rules.{rules}
 use borrow.Author.Tests.{le-ltb}
 use Rattle.operators.proofs.Arms.{first}
 use Rattle.operators.proofs.Typed.{sums, shifts, comparisons, bitwise, choices}

@@ -1,5 +1,4 @@
 -- `operators::kinds::joined` meets its contract: the right kind, or a real on the left.
-use borrow.Author.Rules.{rules}
 use borrow.Author.Tests.{ne_eqb}
 use Rattle.operators.proofs.kinds.joined.Goals as goal
 

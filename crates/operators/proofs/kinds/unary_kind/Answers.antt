@@ -1,7 +1,4 @@
 -- `operators::kinds::unary_kind` meets its contract: an arm for each operator.
-use borrow.Author.Rules.{rules}
-use borrow.Author.Tests.{le-ltb}
-use Rattle.operators.proofs.Arms.{past-arms}
 use Rattle.operators.proofs.kinds.unary_kind.Goals as goal
 
 pub returns-in-0 : goal.returns-in-0

@@ -1,9 +1,7 @@
 -- `numbered::of_singles` meets its contract: each arm is its operator on two reals, or takes none.
-use mathlib.Core.Path.{refl, sym, ap, ◌∙◌}
+use mathlib.Core.Path.{ap, ◌∙◌}
 use lib.IntN.{ℤ}
 use lib.Ieee.{Float}
-use borrow.Author.Rules.{rules}
-use borrow.Author.Tests.{le-ltb}
 use Rattle.reals.specs.declared.ArithOp.TheVariants.{Add, Sub, Mul, Div, Rem}
 use Rattle.values.specs.declared.BitOp.TheVariants.{And, Or, Xor}
 use Rattle.values.specs.declared.ShiftOp.TheVariants.{Left, Right, RightZero}
@@ -17,7 +15,6 @@ use Rattle.values.specs.Integers.{int_arith, compare_int, choice_int}
 use Rattle.values.specs.Singles.{real_arith, compare_real, choice_real}
 use Rattle.values.specs.Patterns.{bitwise_int, shift_int}
 use Rattle.operators.specs.Operators.{from_bool}
-use Rattle.operators.proofs.Arms.{past-arms}
 use Rattle.operators.proofs.Cases.{as-reals}
 use Rattle.operators.proofs.numbered.Operands.{not-ints}
 use Rattle.operators.proofs.numbered.of_singles.Goals as goal

@@ -1,6 +1,4 @@
 -- `operators::tables::unary_of` meets its contract: an arm for each operator of the list.
-use borrow.Author.Tests.{le-ltb}
-use Rattle.operators.proofs.Arms.{past-arms}
 use Rattle.operators.proofs.tables.unary_of.Goals as goal
 
 pub returns-in-0 : goal.returns-in-0

@@ -12,21 +12,21 @@ returns-in_default c =
 pub returns-in_default-pattern_of : goal.returns-in_default-pattern_of
 returns-in_default-pattern_of c =
     let a = c.args in
-    let name = sym c.cell_named.ensures ∙ c.in-Cell.is in
+    let name = sym c.cell_named.ensures ∙ c.in-Some.is in
     no-form a.memory.now a.value.now name (sym c.in_default-pattern_of.is ∙ c.pattern_of.ensures)
 
 pub put-requires : goal.put-requires
 put-requires c =
     let a = c in
     let name = sym c.cell_named.ensures
-    ∙ c.in-Cell.is in
-    let form = sym c.in-Pattern.is ∙ c.pattern_of.ensures in
+    ∙ c.in-Some.is in
+    let form = sym c.in-Some-pattern_of.is ∙ c.pattern_of.ensures in
     (has_named a.args.memory.now a.args.key.now a.requires name, holdable a.args.value.now form)
 
 pub returns : goal.returns
 returns c =
     let a = c.args in
     let name = sym c.cell_named.ensures
-    ∙ c.in-Cell.is in
-    let form = sym c.in-Pattern.is ∙ c.pattern_of.ensures in
+    ∙ c.in-Some.is in
+    let form = sym c.in-Some-pattern_of.is ∙ c.pattern_of.ensures in
     set a.memory.now a.value.now name form c.put.ensures

@@ -3,7 +3,7 @@ use mathlib.Core.Path.{◌≡◌, ap, ◌∙◌}
 use Prim.Native.Nat.{◌≤◌}
 use native.Mathlib.Omega.{arith}
 use lib.ListN.{length, take, length-take}
-use Rattle.program.specs.Cases.{Case}
+use Rattle.program.specs.declared.case.Case.{Case}
 use Rattle.program.specs.Reply.{reply_to, write_text, written_length}
 use Rattle.program.proofs.reply.Whole.{text, inside, front}
 use Rattle.program.proofs.Sizes.{prefix-length}

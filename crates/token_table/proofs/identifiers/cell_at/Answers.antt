@@ -92,7 +92,7 @@ returns c =
     c.args.bank).elements =
     omega (arith, c.if-layout_of-element.false, ap (λ (x : Layout). x.elements) c.layout_of.ensures) in
     lexes-as (c.word.ensures ∙ ap (λ (k : ℕ). pack_fields 3 k c.digits-d.result.value 0)
-    c.bank_number.ensures) refl
+    c.from.ensures) refl
     (cell c.args.text.now
     c.args.at
     c.requires.at_in_bounds.1.0

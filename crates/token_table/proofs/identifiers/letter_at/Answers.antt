@@ -3,15 +3,15 @@ use mathlib.Core.Path.{sym, ◌∙◌}
 use Rattle.token_table.proofs.identifiers.Words.{a-letter, no-letter}
 use Rattle.token_table.proofs.identifiers.letter_at.Goals as goal
 
-pub returns-in-Of : goal.returns-in-Of
-returns-in-Of c = a-letter c.args.text.now
+pub returns-in-Some : goal.returns-in-Some
+returns-in-Some c = a-letter c.args.text.now
     c.args.at
     c.requires.0
     c.requires.1 _
-    (sym c.bank_of.ensures ∙ c.in-Of.is)
-    (rw (← c.bank_number.ensures) c.word.ensures)
+    (sym c.bank_of.ensures ∙ c.in-Some.is)
+    (rw (← c.from.ensures) c.word.ensures)
 
-pub returns-in-Other : goal.returns-in-Other
-returns-in-Other c = no-letter c.args.text.now c.args.at
+pub returns-in-None : goal.returns-in-None
+returns-in-None c = no-letter c.args.text.now c.args.at
     c.requires.0 c.requires.1
-    (sym c.bank_of.ensures ∙ c.in-Other.is) c.refused.ensures
+    (sym c.bank_of.ensures ∙ c.in-None.is) c.refused.ensures

@@ -10,15 +10,15 @@ judged-requires c = (search rules, ap is_digit (sym c.byte_at-second.ensures) �
 
 pub cell_at-requires : goal.cell_at-requires
 cell_at-requires c = record {
-  at_in_bounds = (c.requires.0, (c.requires.1, sym c.bank_of.ensures ∙ c.in-Of.is));
+  at_in_bounds = (c.requires.0, (c.requires.1, sym c.bank_of.ensures ∙ c.in-Some.is));
   first_value = (c.byte_at-second.ensures, sym c.is_digit.ensures ∙ c.if-not-is_digit.false);
 }
 
-pub returns-in-Other : goal.returns-in-Other
-returns-in-Other c =
+pub returns-in-None : goal.returns-in-None
+returns-in-None c =
     no-bank c.args.text.now
     c.args.at
     c.requires.1
     (ap is_digit (sym c.byte_at-second.ensures)
     ∙ sym c.is_digit.ensures ∙ c.if-not-is_digit.false)
-    (sym c.bank_of.ensures ∙ c.in-Other.is) c.refused.ensures
+    (sym c.bank_of.ensures ∙ c.in-None.is) c.refused.ensures

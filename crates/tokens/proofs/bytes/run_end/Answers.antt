@@ -1,15 +1,12 @@
--- `bytes::run_end` meets its contract: the run that has come to i ends where the run from `at` does.
-use mathlib.Core.Path.{sym, ◌∙◌}
-use Prim.Native.Nat.{◌+◌, ◌-◌}
-use lib.ListN.{length, drop}
-use borrow.Author.Rules.{rules}
-use borrow.Author.Tests.{not-true, not-false}
-use Rattle.tokens.specs.Bytes.{in_class, run_len}
-use Rattle.tokens.proofs.Runs.{Reaches, from, more, stop, end}
+-- `bytes::run_end` meets its contract: a run from a position on.
+use native.Mathlib.Omega.{arith}
+use Rattle.tokens.proofs.Runs.{passed-from}
 use Rattle.tokens.proofs.bytes.run_end.Goals as goal
 
-pub loop-i-init : goal.loop-i-init
-loop-i-init c = from (in_class c.args.class) _ _ c.requires
+pub overflow_add-result : goal.overflow_add-result
+overflow_add-result g c =
+    let h = passed-from g.class c.args.text.now c.args.at _ (omega arith) c.passing.ensures in
+    omega (arith, h.1)
 
 pub returns : goal.returns
-returns c = end c.loop-i.invariant c.loop-i-test.false
+returns g c = passed-from g.class c.args.text.now c.args.at _ (omega arith) c.passing.ensures

@@ -1,7 +1,7 @@
--- `totals::integers::matching_of` meets its contract. The loop's invariant: the count or sum so far is an integer of 32 bits. The measure is the cells left.
+-- `totals::integers::matching_of` meets its contract. The loop's invariant: the count or sum so far is an integer of 32 bits.
 use mathlib.Core.Path.{◌≡◌}
 use mathlib.Core.Bool.{true, false}
-use Prim.Native.Nat.{◌-◌, ◌*◌, ◌≤◌}
+use Prim.Native.Nat.{◌*◌, ◌≤◌}
 use lib.IntN.{nat_abs}
 use Rattle.values.specs.declared.Kind.TheVariants as K
 use Rattle.values.specs.declared.Value.{Value}
@@ -15,12 +15,8 @@ use Rattle.totals.proofs.integers.matching_of.Given as goal
 
 abbrev pub invariant-loop-k : goal.invariant-loop-k
 invariant-loop-k l =
-    (l.k ≤ l.count)
-    × (in_range l.a ≡ true)
+    (in_range l.a ≡ true)
     × (l.wide ≡ false → nat_abs l.a ≤ l.k * 65536)
-    × ((o : CompareOp) (v : Value) → Bounded l.least l.greatest l.outside o v
-    → Held (match_step l.counts o v) (read_rule l.image l.bank) (run_over (match_step l.counts o v) K.Int (read_rule l.image l.bank) l.first l.count)
-    l.first l.count l.a l.k)
-
-abbrev pub decreases-loop-k : goal.decreases-loop-k
-decreases-loop-k l = l.count - l.k
+    × ((o : CompareOp) (v : Value) → Bounded l.bounds.least l.bounds.greatest l.bounds.outside o v
+    → Held (match_step l.counts o v) (read_rule l.image l.cells.bank) (run_over (match_step l.counts o v) K.Int (read_rule l.image l.cells.bank) l.cells.first l.cells.count)
+    l.cells.first l.cells.count l.a l.k)

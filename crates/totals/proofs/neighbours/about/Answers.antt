@@ -1,6 +1,4 @@
 -- `totals::neighbours::about` meets its contract.
-use mathlib.Core.Path.{sym, ◌∙◌}
-use mathlib.Core.Bool.{false≢true}
 use lib.IntN.{pos, ◌+ℤ◌}
 use mir.Syntax.{w32}
 use mir.Val.{SFits, to_z, of_z}
@@ -14,21 +12,13 @@ next : (c : After-back-below) → SFits w32 (to_z w32 (of_z w32 c.back-below.res
 next c =
     let F : SFits w32 c.back-below.result = search rules in rw (to_z-of_z w32 c.back-below.result F) (next_fits c.back-below.result c.back-below.ensures)
 
-pub returns-then-z : goal.returns-then-z
-returns-then-z c k = absurd (false≢true (sym c.unknown.ensures ∙ k))
-
-pub returns-then-z-gt-WHOLE : goal.returns-then-z-gt-WHOLE
-returns-then-z-gt-WHOLE c k = absurd (false≢true (sym c.unknown-then-z-gt-WHOLE.ensures ∙ k))
-
 pub back-below-requires : goal.back-below-requires
 back-below-requires c = within-whole (to_z w32 (of_z w32 c.args.z)) c.if-z.false c.if-z-gt-WHOLE.false
 
 pub back-high-requires : goal.back-high-requires
 back-high-requires c = within-whole (to_z w32 (of_z w32 c.args.z)) c.if-z.false c.if-z-gt-WHOLE.false
 
-pub overflow_add-result : goal.overflow_add-result
-overflow_add-result c = next (goal.at.overflow_add-result c).After-back-below
-
-pub returns : goal.returns
-returns c k =
-    rw (to_z-of_z w32 (to_z w32 (of_z w32 c.back-below.result) +ℤ pos 1) (next (goal.at.returns c).After-back-below)) (c.encloses.ensures k)
+pub returns-then-encloses : goal.returns-then-encloses
+returns-then-encloses c =
+    rw (to_z-of_z w32 (to_z w32 (of_z w32 c.back-below.result) +ℤ pos 1) (next (goal.at.returns-then-encloses c).After-back-below))
+    (c.encloses.ensures c.if-encloses.true)

@@ -1,5 +1,4 @@
--- `totals::tally::matching` meets its contract. The loop's invariant: the tally has taken the cells so far that match. The measure is the cells left.
-use Prim.Native.Nat.{◌-◌, ◌≤◌}
+-- `totals::tally::matching` meets its contract. The loop's invariant: the tally has taken the cells so far that match.
 use Rattle.values.specs.declared.Kind.TheVariants as K
 use Rattle.memory.specs.declared.Bank.TheVariants.{R}
 use Rattle.memory.specs.Cells.{read_rule}
@@ -9,9 +8,5 @@ use Rattle.totals.proofs.tally.matching.Given as goal
 
 abbrev pub invariant-loop-k : goal.invariant-loop-k
 invariant-loop-k l =
-    (l.k ≤ l.count)
-    × Tallied (match_step l.counts l.o l.v) (read_rule l.image R) (run_over (match_step l.counts l.o l.v) K.Real (read_rule l.image R) l.first l.count)
+    Tallied (match_step l.counts l.o l.v) (read_rule l.image R) (run_over (match_step l.counts l.o l.v) K.Real (read_rule l.image R) l.first l.count)
     l.first l.count l.t l.k
-
-abbrev pub decreases-loop-k : goal.decreases-loop-k
-decreases-loop-k l = l.count - l.k

@@ -1,5 +1,4 @@
--- `totals::tally::sum` meets its contract. The loop's invariant: the tally has taken every cell so far. The measure is the cells left.
-use Prim.Native.Nat.{◌-◌, ◌≤◌}
+-- `totals::tally::sum` meets its contract. The loop's invariant: the tally has taken every cell so far.
 use Rattle.values.specs.declared.Kind.TheVariants as K
 use Rattle.memory.specs.declared.Bank.TheVariants.{R}
 use Rattle.memory.specs.Cells.{read_rule}
@@ -7,11 +6,7 @@ use Rattle.totals.specs.private.Steps.{sum_step, run_over}
 use Rattle.totals.proofs.tally.Reals.{Tallied}
 use Rattle.totals.proofs.tally.sum.Given as goal
 
-abbrev pub invariant-loop-t : goal.invariant-loop-t
-invariant-loop-t l =
-    (l.t.count ≤ l.count)
-    × Tallied (sum_step l.averaged) (read_rule l.image R) (run_over (sum_step l.averaged) K.Real (read_rule l.image R) l.first l.count)
-    l.first l.count l.t l.t.count
-
-abbrev pub decreases-loop-t : goal.decreases-loop-t
-decreases-loop-t l = l.count - l.t.count
+abbrev pub invariant-loop-k : goal.invariant-loop-k
+invariant-loop-k l =
+    Tallied (sum_step l.averaged) (read_rule l.image R) (run_over (sum_step l.averaged) K.Real (read_rule l.image R) l.first l.count)
+    l.first l.count l.t l.k

@@ -3,11 +3,8 @@ use Rattle.std.proofs.Common.{◌≡◌, ◌-◌, ◌^◌, ap, ◌∙◌, pow_po
 use lib.Count.{count_leading_zeros}
 use lib.Ieee.Nearest.{closest}
 use Rattle.values.proofs.convert.Digits.{Digits, digits}
-use Rattle.values.proofs.convert.Promotion.{in-float, kept-lt, closest-le, unit-le, product_is}
+use Rattle.values.proofs.convert.Promotion.{in-float, kept-lt, closest-le, product_is}
 use Rattle.values.proofs.convert.nearest.Goals as goal
-
-pub int_to_float-result : goal.int_to_float-result
-int_to_float-result c = in-float _ c.if-m-le16777216.true
 
 -- past the test m has more than 24 digits
 pub divided-n-requires : goal.divided-n-requires
@@ -22,12 +19,6 @@ int_to_float-result-2 c =
     let m = c.args.m in
     let h : Digits m (8 - count_leading_zeros 32 m) = digits m c.if-m-le16777216.false c.ranges.m.fits in
     in-float _ (rw (c.divided-n.ensures, c.unit_of-unit.ensures) (closest-le h))
-
-pub int_to_float-result-3 : goal.int_to_float-result-3
-int_to_float-result-3 c =
-    let m = c.args.m in
-    let h : Digits m (8 - count_leading_zeros 32 m) = digits m c.if-m-le16777216.false c.ranges.m.fits in
-    in-float _ (rw c.unit_of-unit.ensures (unit-le h))
 
 pub returns : goal.returns
 returns c =

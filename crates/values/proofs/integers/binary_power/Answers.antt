@@ -4,7 +4,7 @@ use mir.ValLaws.{to_z-of_z}
 use Rattle.values.specs.Integers.{in_range}
 use Rattle.values.proofs.Ranges.{range-sfits, narrow, read-narrow}
 use Rattle.values.proofs.integers.Squaring.{Reached, zeros-le, reached-first, reached-even, reached-odd, reached-all}
-use Rattle.values.proofs.integers.Squaring.{square-few, square-outside, factor-outside}
+use Rattle.values.proofs.integers.Squaring.{square-outside, factor-outside}
 use Rattle.values.proofs.integers.binary_power.Goals as goal
 
 -- ---- what a turn knows: one digit more is left, and what each of the two multiplications gave
@@ -29,9 +29,6 @@ loop-left-init c =
     rw (to_z-of_z w32 a c.ranges.a)
     (reached-first a n c.requires.0 F c.requires.1 _ (omega (arith, zeros-le a n c.requires.0 F c.requires.1)) c.ranges.a)
 
-pub times-square-requires : goal.times-square-requires
-times-square-requires c = omega (arith, c.loop-left.invariant.few, c.loop-left-test.true)
-
 pub returns-then-not-in_range : goal.returns-then-not-in_range
 returns-then-not-in_range c =
     let l = c.loop-left in
@@ -39,15 +36,6 @@ returns-then-not-in_range c =
     let v = c.times-square.result.value in
     let F : SFits w64 v = search rules in
     square-outside _ _ _ _ _ R c.requires.1 _ _ c.times-square.ensures (tested v _ false F c.in_range.ensures c.if-not-in_range.true)
-
-pub overflow_shr-n : goal.overflow_shr-n
-overflow_shr-n c = omega (arith, c.loop-left.invariant.few)
-
-pub times-product-requires : goal.times-product-requires
-times-product-requires c =
-    let l = c.loop-left in
-    let R = turn c.args.a c.args.n l.left _ l.count c.ranges.a c.loop-left-test.true l.invariant in
-    square-few _ _ _ _ _ R c.requires.1 _ _ c.times-square.ensures
 
 pub returns-then-not-in_range-2 : goal.returns-then-not-in_range-2
 returns-then-not-in_range-2 c =

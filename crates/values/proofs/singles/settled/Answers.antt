@@ -1,15 +1,11 @@
--- `values::singles::settled` meets its contract: a finite result, an infinity, or what differs from itself.
+-- `values::singles::settled` meets its contract: a finite result, a NaN or an infinity.
 use Rattle.std.proofs.Common.{sym, ◌∙◌}
-use Rattle.values.proofs.singles.Finite.{settle-finite, settle-infinite, settle-nan}
+use Rattle.values.proofs.singles.Finite.{settle-infinite, settle-nan}
 use Rattle.values.proofs.singles.settled.Goals as goal
 
-pub returns-then-is_finite : goal.returns-then-is_finite
-returns-then-is_finite c = settle-finite c.args.x (sym c.is_finite.ensures ∙ c.if-is_finite.true)
+pub returns-then-is_nan : goal.returns-then-is_nan
+returns-then-is_nan c = settle-nan c.args.x (sym c.is_nan.ensures.value ∙ c.if-is_nan.true)
 
-pub returns-then-x : goal.returns-then-x
-returns-then-x c =
-    settle-infinite c.args.x (sym c.is_finite.ensures ∙ c.if-is_finite.false) c.if-x.true
-
-pub returns-else-x : goal.returns-else-x
-returns-else-x c =
-    settle-nan c.args.x (sym c.is_finite.ensures ∙ c.if-is_finite.false) c.if-x.false
+pub returns-else-is_nan : goal.returns-else-is_nan
+returns-else-is_nan c =
+    settle-infinite c.args.x (sym c.is_finite.ensures ∙ c.if-is_finite.false) (sym c.is_nan.ensures.value ∙ c.if-is_nan.false)

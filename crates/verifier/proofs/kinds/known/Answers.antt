@@ -1,5 +1,6 @@
 -- `verifier::kinds::known` meets its contract: an arm for each class.
 use mathlib.Core.Path.{refl}
+use mathlib.Core.Logic.{inl, inr}
 use mathlib.Core.Bool.{false}
 use Rattle.verifier.proofs.kinds.Standing.{gives-known, turns-known, pairs-known, known_by}
 use Rattle.verifier.proofs.kinds.known.Goals as goal
@@ -11,13 +12,11 @@ pub returns-in-PushReal : goal.returns-in-PushReal
 returns-in-PushReal c = known_by _ _ c.class_of.ensures c.in-PushReal.is _ (gives-known _ c.real_kind.ensures)
 
 pub returns-in-Jump : goal.returns-in-Jump
-returns-in-Jump c = known_by _ _ c.class_of.ensures c.in-Jump.is _ c.stays.ensures
-
-pub returns-in-JumpIfFalse : goal.returns-in-JumpIfFalse
-returns-in-JumpIfFalse c = known_by _ _ c.class_of.ensures c.in-JumpIfFalse.is _ c.stays-in-JumpIfFalse.ensures
-
-pub returns-in-JumpIfTrue : goal.returns-in-JumpIfTrue
-returns-in-JumpIfTrue c = known_by _ _ c.class_of.ensures c.in-JumpIfTrue.is _ c.stays-in-JumpIfTrue.ensures
+returns-in-Jump c = elim c.in-Jump.is [
+  | inl e ↦ known_by _ _ c.class_of.ensures e _ c.stays.ensures
+  | inr (inl e) ↦ known_by _ _ c.class_of.ensures e _ c.stays.ensures
+  | inr (inr e) ↦ known_by _ _ c.class_of.ensures e _ c.stays.ensures
+]
 
 pub returns-in-Tick : goal.returns-in-Tick
 returns-in-Tick c = known_by _ _ c.class_of.ensures c.in-Tick.is _ (gives-known _ c.tick_kind.ensures)

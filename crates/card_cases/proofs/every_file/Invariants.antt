@@ -1,6 +1,0 @@
--- `card_cases::every_file` is safe and ends. The measure is what is left of the input.
-use Rattle.std.proofs.Common.{◌-◌, length}
-use Rattle.card_cases.proofs.every_file.Given as goal
-
-abbrev pub decreases-loop-at : goal.decreases-loop-at
-decreases-loop-at g l = length l.input - l.at

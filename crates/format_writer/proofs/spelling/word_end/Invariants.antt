@@ -1,0 +1,6 @@
+-- `spelling::word_end` meets its contract: its run is one of letters and digits.
+use Rattle.tokens.specs.Bytes.{is_word}
+use Rattle.format_writer.proofs.spelling.word_end.Given as goal
+
+abbrev pub ghost-run_end : goal.ghost-run_end
+ghost-run_end a = is_word

@@ -1,5 +1,0 @@
--- `memory::store::low16` meets its contract.
-use Rattle.memory.proofs.store.low16.Goals as goal
-
-pub returns-in-Outside : goal.returns-in-Outside
-returns-in-Outside c = rw c.in-Outside.is

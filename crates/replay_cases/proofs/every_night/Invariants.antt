@@ -1,6 +1,0 @@
--- `replay_cases::every_night` is safe and ends. The measure is what is left of the input.
-use Rattle.std.proofs.Common.{◌-◌, length}
-use Rattle.replay_cases.proofs.every_night.Given as goal
-
-abbrev pub decreases-loop-at : goal.decreases-loop-at
-decreases-loop-at g l = length l.input - l.at

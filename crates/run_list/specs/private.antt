@@ -1,2 +1,0 @@
--- For the contracts of private functions.
-pub mod Parts

@@ -1,9 +1,0 @@
--- `vector_cases::case_end` stays within the input.
-use Rattle.std.proofs.Common.{◌-◌, ◌≤◌, length}
-use Rattle.vector_cases.proofs.case_end.Given as goal
-
-abbrev pub invariant-loop-end : goal.invariant-loop-end
-invariant-loop-end l = (l.at ≤ l.end) × (l.end ≤ length l.input)
-
-abbrev pub decreases-loop-end : goal.decreases-loop-end
-decreases-loop-end l = length l.input - l.end

@@ -1,8 +1,0 @@
--- `verifier::is_accepted` meets its contract: an arm for each verdict.
-use Rattle.verifier.proofs.is_accepted.Goals as goal
-
-pub returns-in-Accepted : goal.returns-in-Accepted
-returns-in-Accepted c = rw c.in-Accepted.is
-
-pub returns-in-Refused : goal.returns-in-Refused
-returns-in-Refused c = rw c.in-Refused.is
