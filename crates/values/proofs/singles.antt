@@ -1,4 +1,3 @@
 -- What the proofs of the functions of `singles` share.
 pub mod Finite
 pub mod Powers
-pub mod Comparisons

@@ -43,16 +43,28 @@ pub fn arith(op: ArithOp, x: f32, y: f32) -> Outcome
     settled(reals::operate(op, x, y))
 }
 
+// Not by `CompareOp::holds`, here and below: over any type a single is compared by `partial_cmp`, which asks up to three times. COUNTIF over R then
+// takes up to 1.4 times the instructions.
 pub fn compare(op: CompareOp, x: f32, y: f32) -> bool
     ensures { result ≡ compare_real op x y }
 {
-    op.holds(x, y)
+    match op {
+        CompareOp::Lt => x < y,
+        CompareOp::Gt => y < x,
+        CompareOp::Le => x <= y,
+        CompareOp::Ge => y <= x,
+        CompareOp::Eq => x == y,
+        CompareOp::Ne => x != y,
+    }
 }
 
 pub fn choose(op: ChoiceOp, x: f32, y: f32) -> f32
     ensures { result ≡ choice_real op x y }
 {
-    op.of(x, y)
+    match op {
+        ChoiceOp::Max => if x < y { y } else { x },
+        ChoiceOp::Min => if y < x { y } else { x },
+    }
 }
 
 // The sign alone: -0.0 becomes 0.0.
