@@ -1,6 +1,7 @@
 // Runs over the banks of integers: exact sums, MAX, MIN and counts in 32 bits.
-ghost use Rattle.std.specs.Prelude.{◌≡◌, ◌+◌, ◌-◌, T};
+ghost use Rattle.std.specs.Prelude.{◌≡◌, ◌+◌, ◌-◌, ◌+ℤ◌, T, false, true, MatchOption};
 ghost use Rattle.values.specs.declared.Kind.TheVariants as K;
+ghost use Rattle.values.specs.Integers.{in_range};
 ghost use Rattle.memory.specs.Cells.{bank_kind, read_rule};
 ghost use Rattle.memory.specs.Layout.{has_cell};
 ghost use Rattle.totals.specs.declared.Step.TheVariants as S;
@@ -72,9 +73,23 @@ pub fn is_wide(bank: Bank) -> bool
     matches!(bank, Bank::D | Bank::R)
 }
 
-// SUMR. It ends where a sum leaves 32 bits, which one more cell could bring back; the sums of the narrow banks stay far within them. What is
-// held has 32 bits, so that the test is the addition's own. Each arm has the loop for itself before LLVM works on it: it makes less of one that
-// asks for `wide` (268 million instructions).
+// A sum with one cell more, if it stays within 32 bits; the sums of the narrow banks always do. A function of its own: LLVM makes of its
+// test the addition's own flag, which it doesn't where the test stands in the loop.
+fn added(wide: bool, a: i32, z: i32) -> Option<i32>
+    requires { wide ≡ false → in_range (a +ℤ z) ≡ true }
+    ensures { MatchOption result (in_range (a +ℤ z) ≡ false) (λ sum. (sum ≡ a +ℤ z) × (in_range (a +ℤ z) ≡ true)) }
+{
+    let sum = (a as i64) + (z as i64);
+    if wide {
+        if !values::integers::in_range(sum) {
+            return None;
+        }
+    }
+    Some(sum as i32)
+}
+
+// SUMR. It ends where a sum leaves 32 bits, which one more cell could bring back. Each arm has the loop for itself before LLVM works on it: it
+// makes less of one that asks for `wide` (268 million instructions).
 #[inline(always)]
 fn sum_of(bank: Bank, image: &[u8], cells: WholeCells) -> Visited
     requires { bank ≡ cells.bank }
@@ -86,13 +101,10 @@ fn sum_of(bank: Bank, image: &[u8], cells: WholeCells) -> Visited
     let wide = is_wide(bank);
     let mut a: i32 = 0;
     for k in 0..cells.count {
-        let sum = (a as i64) + (whole_at(image, bank, cells.first + k) as i64);
-        if wide {
-            if !values::integers::in_range(sum) {
-                return crate::ended(Outcome::Stopped(Fault::Overflow), k + 1);
-            }
+        match added(wide, a, whole_at(image, bank, cells.first + k)) {
+            Some(sum) => a = sum,
+            None => return crate::ended(Outcome::Stopped(Fault::Overflow), k + 1),
         }
-        a = sum as i32;
     }
     crate::ended(Outcome::Done(Value::Int(a)), cells.count)
 }

@@ -143,9 +143,12 @@ pub narrow-range : (z : ℤ) → nat_abs z ≤ 16777216 → in_range z ≡ true
 narrow-range (pos n) h = sfits-range (pos n) (record { sfits = omega arith })
 narrow-range (negsuc n) h = sfits-range (negsuc n) (record { sfits = omega arith })
 
+pub narrow-added : (a z : ℤ) (k : ℕ) → nat_abs a ≤ k * 65536 → nat_abs z ≤ 65536 → nat_abs (a +ℤ z) ≤ (k + 1) * 65536
+narrow-added a z k h l = omega (arith, add-size a z)
+
 pub narrow-sum : (a z : ℤ) (k : ℕ) → SFits w32 a → SFits w32 z → nat_abs a ≤ k * 65536 → nat_abs z ≤ 65536
     → nat_abs (to_z w64 (of_z w64 (a +ℤ wide z))) ≤ (k + 1) * 65536
-narrow-sum a z k F G h l = rw (wide_back a z F G) (omega (arith, add-size a z))
+narrow-sum a z k F G h l = rw (wide_back a z F G) (narrow-added a z k h l)
 
 pub narrow-taken : (c : Bool) (z : ℤ) → nat_abs z ≤ 65536 → nat_abs (taken_of c z) ≤ 65536
 narrow-taken true z h = omega arith

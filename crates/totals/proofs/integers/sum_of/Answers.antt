@@ -5,43 +5,30 @@ use Prim.Native.Nat.{◌+◌, ◌*◌, ◌≤◌}
 use native.Mathlib.Omega.{arith}
 use lib.IntN.{ℤ, pos, nat_abs, ◌+ℤ◌}
 use borrow.Author.Rules.{rules}
-use mir.Syntax.{w32, w64}
+use mir.Syntax.{w32}
 use mir.Val.{SFits, to_z, of_z}
 use mir.ValLaws.{to_z-of_z}
 use Rattle.values.specs.declared.Kind.TheVariants as K
 use Rattle.values.specs.declared.Value.TheVariants.{Int}
 use Rattle.values.specs.declared.Outcome.TheVariants.{Done}
-use Rattle.values.specs.Integers.{in_range, exact_int}
-use Rattle.values.proofs.Ranges.{range-sfits, widen}
-use Rattle.values.proofs.integers.Results.{wide}
+use Rattle.values.specs.Integers.{in_range}
+use Rattle.values.proofs.Ranges.{range-sfits}
 use Rattle.memory.specs.Cells.{read_rule}
 use Rattle.totals.specs.declared.Step.TheVariants as S
 use Rattle.totals.specs.private.Steps.{run_over}
 use Rattle.totals.proofs.Laws.{total-laws}
 use Rattle.totals.proofs.Middle.{middle-begin}
 use Rattle.totals.proofs.integers.Whole.{Held, all_read, all-narrow, none-held, held-ends, stays}
-use Rattle.totals.proofs.integers.Whole.{leaves, sum-begins, wide_back, narrow-sum, narrow-range}
+use Rattle.totals.proofs.integers.Whole.{leaves, sum-begins, narrow-added, narrow-range}
 use Rattle.totals.proofs.integers.sum_of.Goals as goal
-use Rattle.totals.proofs.integers.sum_of.Goals.{After-whole_at, then-wide+else-not-in_range, else-wide}
+use Rattle.totals.proofs.integers.sum_of.Goals.{After-whole_at}
 
-abbrev held : After-whole_at → ℤ
-held c = to_z w32 c.loop-k.a-bits
+cell-back : (c : After-whole_at) → to_z w32 (of_z w32 c.whole_at.result) ≡ c.whole_at.result
+cell-back c = let F : SFits w32 c.whole_at.result = search rules in to_z-of_z w32 c.whole_at.result F
 
-held_fits : (c : After-whole_at) → SFits w32 (held c)
-held_fits c = range-sfits (held c) c.loop-k.invariant.0
-
-cell-fits : (c : After-whole_at) → SFits w32 c.whole_at.result
-cell-fits c = search rules
-
--- the sum with the cell, at 64 bits
+-- the sum with the cell
 abbrev next : After-whole_at → ℤ
-next c = to_z w64 (of_z w64 (to_z w64 (of_z w64 (held c)) +ℤ wide c.whole_at.result))
-
-held_back : (c : After-whole_at) → to_z w64 (of_z w64 (held c)) ≡ held c
-held_back c = to_z-of_z w64 (held c) (widen (held c) (held_fits c))
-
-sum_is : (c : After-whole_at) → next c ≡ held c +ℤ c.whole_at.result
-sum_is c = rw (held_back c) (wide_back (held c) c.whole_at.result (held_fits c) (cell-fits c))
+next c = to_z w32 c.loop-k.a-bits +ℤ c.whole_at.result
 
 cell-read : (c : After-whole_at) → read_rule c.args.image.now c.args.cells.bank (c.args.cells.first + c.loop-k.k) ≡ Done (Int c.whole_at.result)
 cell-read c =
@@ -62,17 +49,11 @@ on : (c : After-whole_at) → in_range (next c) ≡ true
     c.args.cells.first c.args.cells.count (next c) (c.loop-k.k + 1)
 on c e =
     stays S.Add (read_rule c.args.image.now c.args.cells.bank) _ c.args.cells.first c.args.cells.count c.loop-k.invariant.2 c.loop-k-test.true
-    c.whole_at.result (cell-read c) (next c) (ap exact_int (sym (sum_is c))) e
+    c.whole_at.result (cell-read c) (next c) refl e
 
 -- of a narrow bank
 narrow : (c : After-whole_at) → c.is_wide-wide.result ≡ false → nat_abs (next c) ≤ (c.loop-k.k + 1) * 65536
-narrow c w =
-    rw (held_back c) (narrow-sum (held c) c.whole_at.result c.loop-k.k (held_fits c) (cell-fits c) (c.loop-k.invariant.1 w) (cell-narrow c w))
-
-small : (c : After-whole_at) → c.is_wide-wide.result ≡ false → in_range (next c) ≡ true
-small c w =
-    let h = total-laws.range_small c.args.cells.bank c.args.cells.first c.args.cells.count c.args.cells.good in
-    narrow-range (next c) (omega (arith, narrow c w, h.1, c.loop-k-test.true))
+narrow c w = narrow-added (to_z w32 c.loop-k.a-bits) c.whole_at.result c.loop-k.k (c.loop-k.invariant.1 w) (cell-narrow c w)
 
 pub returns-then-not-are_in : goal.returns-then-not-are_in
 returns-then-not-are_in c =
@@ -92,31 +73,23 @@ loop-k-init c =
           (sum-begins (read_rule a.image.now a.cells.bank) a.cells.first a.cells.count),
     )
 
-pub returns-then-not-in_range : goal.returns-then-not-in_range
-returns-then-not-in_range c =
-    let t = (goal.at.returns-then-not-in_range c).After-whole_at in
+pub added-requires : goal.added-requires
+added-requires c = λ w.
+    let h = total-laws.range_small c.args.cells.bank c.args.cells.first c.args.cells.count c.args.cells.good in
+    rw (cell-back c) (narrow-range (next c) (omega (arith, narrow c w, h.1, c.loop-k-test.true)))
+
+pub returns-in-None : goal.returns-in-None
+returns-in-None c =
+    let t = (goal.at.returns-in-None c).After-whole_at in
     c.ended.ensures
     ∙ leaves S.Add (read_rule c.args.image.now c.args.cells.bank) _ c.args.cells.first c.args.cells.count c.loop-k.invariant.2 c.loop-k-test.true
-    c.whole_at.result (cell-read t) (next t) (ap exact_int (sym (sum_is t)))
-    (sym c.in_range.ensures ∙ c.if-not-in_range.true)
-
-pub overflow_cast-a : goal.overflow_cast-a
-overflow_cast-a c =
-    let t = (goal.at.overflow_cast-a c).After-whole_at in
-    let e : in_range (next t) ≡ true = elim c.if-wide.branch [
-      | then-wide+else-not-in_range w ↦ sym w.in_range.ensures ∙ w.if-not-in_range.false
-      | else-wide w ↦ small t w.if-wide.false
-    ] in
-    range-sfits _ e
+    c.whole_at.result (cell-read t) (next t) refl (rw (cell-back t) at c.in-None.ensures)
 
 pub loop-k-preserved : goal.loop-k-preserved
 loop-k-preserved c =
     let t = (goal.at.loop-k-preserved c).After-whole_at in
-    let e : in_range (next t) ≡ true = elim c.if-wide.branch [
-      | then-wide+else-not-in_range w ↦ sym w.in_range.ensures ∙ w.if-not-in_range.false
-      | else-wide w ↦ small t w.if-wide.false
-    ] in
-    rw (to_z-of_z w32 (next t) (range-sfits _ e)) (e, λ w. narrow t w, on t e)
+    let h = rw (cell-back t) at c.in-Some.ensures in
+    rw (h.0, to_z-of_z w32 (next t) (range-sfits (next t) h.1)) (h.1, λ w. narrow t w, on t h.1)
 
 pub returns : goal.returns
 returns c =
