@@ -47,32 +47,32 @@ use Rattle.operators.specs.declared.UnaryOp.{UnaryOp}
 -- ---- a kind below the limit l, or not: in the place of nothing, of the last and of the last two
 
 module _ (l n : ℕ) where
-  pub unpushed : {a : List ℕ} (s : Shape) → l ≤ n → Leaves a Refused (push_under l n s)
-  unpushed s u = rw (le-ltb n l u) (stops refl)
+  pub unpushed : {a : List ℕ} (s : Shape) → l ≤ n → Leaves a a Refused (push_under l n s)
+  unpushed s u = rw (le-ltb n l u) (stops refl refl)
 
-  pub unreplaced : {a : List ℕ} (s : Shape) → l ≤ n → Leaves a Refused (replace_under l n s)
-  unreplaced [] u = stops refl
-  unreplaced (k ∷ s) u = rw (le-ltb n l u) (stops refl)
+  pub unreplaced : {a : List ℕ} (s : Shape) → l ≤ n → Leaves a a Refused (replace_under l n s)
+  unreplaced [] u = stops refl refl
+  unreplaced (k ∷ s) u = rw (le-ltb n l u) (stops refl refl)
 
-  pub unreplaced-two : {a : List ℕ} (s : Shape) → l ≤ n → Leaves a Refused (replace_two_under l n s)
-  unreplaced-two [] u = stops refl
-  unreplaced-two (k ∷ []) u = stops refl
-  unreplaced-two (k ∷ (j ∷ s)) u = rw (le-ltb n l u) (stops refl)
+  pub unreplaced-two : {a : List ℕ} (s : Shape) → l ≤ n → Leaves a a Refused (replace_two_under l n s)
+  unreplaced-two [] u = stops refl refl
+  unreplaced-two (k ∷ []) u = stops refl refl
+  unreplaced-two (k ∷ (j ∷ s)) u = rw (le-ltb n l u) (stops refl refl)
 
   module _ (h b : ℕ) where
-    pub full : {a : List ℕ} → n < l → 128 ≤ h → Leaves a Refused (push_under l n (bit_kinds h b))
-    full u t = rw (lt-ltb n l u, bits-length h b, le-ltb h 128 t) (stops refl)
+    pub full : {a : List ℕ} → n < l → 128 ≤ h → Leaves a a Refused (push_under l n (bit_kinds h b))
+    full u t = rw (lt-ltb n l u, bits-length h b, le-ltb h 128 t) (stops refl refl)
 
     pushed-is : n < l → h < 128 → push_under l n (bit_kinds h b) ≡ next (number_kind n ∷ bit_kinds h b)
     pushed-is u t = rw (lt-ltb n l u, bits-length h b, lt-ltb h 128 t)
 
-  pub none : {a : List ℕ} (h b : ℕ) → h < 1 → Leaves a Refused (replace_under l n (bit_kinds h b))
-  none zero b t = stops refl
+  pub none : {a : List ℕ} (h b : ℕ) → h < 1 → Leaves a a Refused (replace_under l n (bit_kinds h b))
+  none zero b t = stops refl refl
   none (suc h) b t = absurd (omega arith)
 
-  pub few : {a : List ℕ} (h b : ℕ) → h < 2 → Leaves a Refused (replace_two_under l n (bit_kinds h b))
-  few zero b t = stops refl
-  few (suc zero) b t = stops refl
+  pub few : {a : List ℕ} (h b : ℕ) → h < 2 → Leaves a a Refused (replace_two_under l n (bit_kinds h b))
+  few zero b t = stops refl refl
+  few (suc zero) b t = stops refl refl
   few (suc (suc h)) b t = absurd (omega arith)
 
   module _ (u : n < l) where
@@ -86,19 +86,19 @@ module _ (l n : ℕ) where
     two-is (suc (suc h)) b t = rw (lt-ltb n l u)
 
   -- what is left has the kinds of r
-  module _ {a : List ℕ} (r : Held) (k : ArrayHolds a r) (u : n < l) where
-    left : {m : Move} {s : Shape} → m ≡ next s → kinds_of r ≡ s → Leaves a (On r) m
+  module _ {before a : List ℕ} (r : Held) (k : ArrayHolds a r) (u : n < l) where
+    left : {m : Move} {s : Shape} → m ≡ next s → kinds_of r ≡ s → Leaves before a (On r) m
     left e f = rw (e, ← f) (goes refl k)
 
     module _ (h b : ℕ) where
-      pub pushes : h < 128 → kinds_of r ≡ number_kind n ∷ bit_kinds h b → Leaves a (On r) (push_under l n (bit_kinds h b))
+      pub pushes : h < 128 → kinds_of r ≡ number_kind n ∷ bit_kinds h b → Leaves before a (On r) (push_under l n (bit_kinds h b))
       pushes t = left (pushed-is h b u t)
 
-      pub replaces : 0 < h → kinds_of r ≡ number_kind n ∷ below (bit_kinds h b) → Leaves a (On r) (replace_under l n (bit_kinds h b))
+      pub replaces : 0 < h → kinds_of r ≡ number_kind n ∷ below (bit_kinds h b) → Leaves before a (On r) (replace_under l n (bit_kinds h b))
       replaces t = left (replaced-is u h b t)
 
       pub replaces-two : {s : Shape} → 1 < h → s ≡ below (bit_kinds h b) → kinds_of r ≡ number_kind n ∷ below s
-          → Leaves a (On r) (replace_two_under l n (bit_kinds h b))
+          → Leaves before a (On r) (replace_two_under l n (bit_kinds h b))
       replaces-two t e f = left (two-is u h b t) (f ∙ ap (λ s. number_kind n ∷ below s) e)
 
 -- ---- the limit of kinds, found to be x
@@ -128,6 +128,17 @@ module _ (reals : Bool) {i : Instr} {n : ℕ} (q : Silent reals n i) where
   two-taken (suc zero) b d e f t = none-admitted reals i _ (f _)
   two-taken (suc (suc h)) b d e f t = leaves-replaced reals i _ n (bit_kinds h (b / 2 / 2)) (t.is _)
       (below-admitted reals _ (bit_kinds h (b / 2 / 2)) (below-admitted reals _ (number_kind (b / 2 % 2) ∷ bit_kinds h (b / 2 / 2)) d)) q
+
+module _ (reals : Bool) (i : Instr) where
+  pub one-missing : (h b : ℕ) → h < 1 → move_of i [] ≡ ill_typed → admitted_move reals i (bit_kinds h b) ≡ ill_typed
+  one-missing zero b l e = none-admitted reals i [] e
+  one-missing (suc h) b l e = absurd (omega arith)
+
+  pub two-missing : (h b : ℕ) → h < 2 → move_of i [] ≡ ill_typed → ((k : Kind) → move_of i (k ∷ []) ≡ ill_typed)
+      → admitted_move reals i (bit_kinds h b) ≡ ill_typed
+  two-missing zero b l e f = none-admitted reals i [] e
+  two-missing (suc zero) b l e f = none-admitted reals i _ (f _)
+  two-missing (suc (suc h)) b l e f = absurd (omega arith)
 
 -- ---- short of a value
 

@@ -5,6 +5,7 @@ use mathlib.Core.List.{List, [], ◌∷◌}
 use Prim.Native.Nat.{ℕ, zero, suc, ◌+◌, ◌-◌, ◌/◌, ◌%◌, ◌≤◌, ◌<◌}
 use native.Mathlib.Omega.{arith}
 use lib.Dec.{leb}
+use lib.ListN.{length}
 use Rattle.std.specs.Prelude.{Option, None, Some, is_some}
 use Rattle.values.specs.declared.Kind.{Kind}
 use Rattle.code.specs.declared.Instr.{Instr}
@@ -16,6 +17,7 @@ use Rattle.code.specs.private.Classes.{class_of, instr_in}
 use Rattle.code.proofs.Parts.{decode-fetched}
 use Rattle.verifier.specs.declared.packing.Held.{Held}
 use Rattle.verifier.specs.declared.typing.Flow.{Flow}
+use Rattle.verifier.specs.declared.typing.Flow.TheVariants.{Refused}
 use Rattle.verifier.specs.Typing.{Shape, Move, ill_typed, jump, fork, move_of}
 use Rattle.verifier.specs.Profile.{all_int, held_after, move_in, well_formed_in}
 use Rattle.verifier.specs.private.Shapes.{State, rejected, unreached, holds, kind_limit, push_under, replace_under, replace_two_under, LeavesKind}
@@ -26,44 +28,56 @@ use Rattle.verifier.specs.private.Pass.{admits, all_admitted, admitted_move}
 use Rattle.verifier.proofs.Moves.{upto, goes-known, unknown-moves, known_in}
 use Rattle.verifier.proofs.Admitted.{stays, both, barred-move, jumping, below-admitted, Silent, leaves-pushed}
 use Rattle.verifier.proofs.kinds.Standing.{in-class}
-use Rattle.verifier.proofs.Held.{one-taken, two-taken}
+use Rattle.verifier.proofs.Held.{one-taken, two-taken, one-missing, two-missing}
 
 -- ---- an instruction that is no jump
 
-pub carried : {a : List ℕ} {f : Flow} {m : Move} → Leaves a f m → Carries a f
-carried (stops r) = rw r tt
-carried (goes r k) = rw r k
+pub carried : {before a : List ℕ} {f : Flow} {m : Move} → length before ≡ 128 → Leaves before a f m → Carries a f
+carried whole (stops r e) = rw r (ap length e ∙ whole)
+carried whole (goes r k) = rw r k
 
-module _ {i : Instr} {k p : ℕ} {s : Shape} {before : ℕ → State} {a : List ℕ} {f : Flow} where
-  pub typed-steps : (reals : Bool) {m : Move} → admitted_move reals i s ≡ m → Leaves a f m → Steps reals i k p s before (state_of f) before
-  typed-steps true e (stops r) = rw r (stuck e)
+module _ {i : Instr} {k p : ℕ} {s : Shape} {before : ℕ → State} {lent a : List ℕ} {f : Flow} where
+  pub typed-steps : (reals : Bool) {m : Move} → admitted_move reals i s ≡ m → Leaves lent a f m → Steps reals i k p s before (state_of f) before
+  typed-steps true e (stops r _) = rw r (stuck e)
   typed-steps true e (goes r _) = rw r (Pass.goes (goes-known i s k e) e)
   typed-steps false e l = by (admits false i (held_after (move_of i s))) refl e l
     where
-      by : (b : Bool) {m : Move} → admits false i (held_after (move_of i s)) ≡ b → cond b (move_of i s) ill_typed ≡ m → Leaves a f m
+      by : (b : Bool) {m : Move} → admits false i (held_after (move_of i s)) ≡ b → cond b (move_of i s) ill_typed ≡ m → Leaves lent a f m
           → Steps false i k p s before (state_of f) before
-      by true q e (stops r) = rw r (stuck (rw e))
+      by true q e (stops r _) = rw r (stuck (rw e))
       by true q e (goes {w} r _) =
           let x = both (reads_real i) (all_int (kinds_of w)) (ap (λ m. admits false i (held_after m)) (sym e) ∙ q) in
           rw r (Pass.goes (known_in i k (goes-known i s k e) x.0) (stays i s e x.1))
-      by false q e (stops r) = rw r (barred-move refl q)
+      by false q e (stops r _) = rw r (barred-move refl q)
       by false q e (goes r _) = cc
 
-module _ {i : Instr} {n k p : ℕ} {before : ℕ → State} {a : List ℕ} {f : Flow} (reals : Bool) (w : Held) (d : all_admitted reals (kinds_of w) ≡ true)
+module _ {i : Instr} {n k p : ℕ} {before : ℕ → State} {lent a : List ℕ} {f : Flow} (reals : Bool) (w : Held) (d : all_admitted reals (kinds_of w) ≡ true)
     (q : Silent reals n i) where
   -- an instruction that leaves the number n of a kind
-  pub pushed-steps : LeavesKind i n → Leaves a f (push_under (kind_limit reals) n (kinds_of w)) → Steps reals i k p (kinds_of w) before (state_of f) before
+  pub pushed-steps : LeavesKind i n → Leaves lent a f (push_under (kind_limit reals) n (kinds_of w)) → Steps reals i k p (kinds_of w) before (state_of f) before
   pushed-steps t = typed-steps reals (leaves-pushed reals i (kinds_of w) n (t.is (kinds_of w)) d q)
 
   -- in the place of the last value
-  pub replaced-steps : move_of i [] ≡ ill_typed → ReplacesKind i (w.bits % 2) n → Leaves a f (replace_under (kind_limit reals) n (kinds_of w))
+  pub replaced-steps : move_of i [] ≡ ill_typed → ReplacesKind i (w.bits % 2) n → Leaves lent a f (replace_under (kind_limit reals) n (kinds_of w))
       → Steps reals i k p (kinds_of w) before (state_of f) before
   replaced-steps e t = typed-steps reals (one-taken reals q w.height w.bits d e t)
 
   -- and in the place of the last two
   pub replaced-two-steps : move_of i [] ≡ ill_typed → ((k : Kind) → move_of i (k ∷ []) ≡ ill_typed) → ReplacesTwo i (w.bits / 2 % 2) (w.bits % 2) n
-      → Leaves a f (replace_two_under (kind_limit reals) n (kinds_of w)) → Steps reals i k p (kinds_of w) before (state_of f) before
+      → Leaves lent a f (replace_two_under (kind_limit reals) n (kinds_of w)) → Steps reals i k p (kinds_of w) before (state_of f) before
   replaced-two-steps e g t = typed-steps reals (two-taken reals q w.height w.bits d e g t)
+
+-- short of the values that it takes
+module _ (reals : Bool) (i : Instr) {k p : ℕ} {before : ℕ → State} (w : Held) where
+  short : admitted_move reals i (kinds_of w) ≡ ill_typed → Steps reals i k p (kinds_of w) before rejected before
+  short e = typed-steps {lent = []} {a = []} {f = Refused} reals e (stops refl refl)
+
+  pub one-short : w.height < 1 → move_of i [] ≡ ill_typed → Steps reals i k p (kinds_of w) before rejected before
+  one-short l e = short (one-missing reals i w.height w.bits l e)
+
+  pub two-short : w.height < 2 → move_of i [] ≡ ill_typed → ((k : Kind) → move_of i (k ∷ []) ≡ ill_typed)
+      → Steps reals i k p (kinds_of w) before rejected before
+  two-short l e f = short (two-missing reals i w.height w.bits l e f)
 
 pub int-leaves : (w : ℕ) → LeavesKind (push_int w) 0
 unfolding move_of

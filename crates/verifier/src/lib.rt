@@ -10,12 +10,14 @@ ghost use Rattle.verifier.specs.Profile.{CorrectVerdictIn, verdict_in};
 ghost use Rattle.verifier.specs.private.Shapes.{holds, kinds_of, state_of, brought_to, ArrayHolds, Carries, Blank};
 ghost use Rattle.verifier.specs.private.Pass.{Steps, Skips, all_admitted, verdict_of};
 
+mod double_word;
 mod kinds;
 mod packing;
 mod places;
 mod typing;
 
 use code::Class;
+use double_word::DoubleWord;
 use operators::kinds::INT;
 use packing::Held;
 use places::Brought;
@@ -33,7 +35,7 @@ fn jump(w: u64, held: Held, next: usize, brought: &mut Brought<'_>) -> Flow
     if !kinds::stays(w, brought.end - next) {
         return Flow::Refused;
     }
-    if brought.merge(next + (code::word_of(w) as usize), held) {
+    if brought.merge(next + (code::word_of(w) as usize), &held) {
         Flow::Left
     } else {
         Flow::Refused
@@ -57,7 +59,7 @@ fn fork(w: u64, kinds: &mut [u8; 128], held: Held, next: usize, brought: &mut Br
     }
     let rest = held.popped();
     rest.note(kinds);
-    if brought.merge(next + (code::word_of(w) as usize), rest) {
+    if brought.merge(next + (code::word_of(w) as usize), &rest) {
         Flow::On(rest)
     } else {
         Flow::Refused
@@ -65,7 +67,7 @@ fn fork(w: u64, kinds: &mut [u8; 128], held: Held, next: usize, brought: &mut Br
 }
 
 // From the values held at a place to what flows from it into the next. The number is the instruction's. In the profile without reals (reals
-// false) what reads R or leaves a real is refused.
+// false) what reads R or leaves a real is refused. Where the kind of the last is read, the height is tested before.
 fn step(
     w: u64,
     kinds: &mut [u8; 128],
@@ -88,16 +90,29 @@ fn step(
         Class::Jump => jump(w, held, next, brought),
         Class::JumpIfFalse | Class::JumpIfTrue => fork(w, kinds, held, next, brought),
         Class::Tick => typing::push(kinds, held, kinds::tick_kind(w), reals),
-        Class::Since => typing::replace(kinds, held, kinds::since_kind(w, held.last(kinds)), reals),
+        Class::Since => {
+            if held.height < 1 {
+                return Flow::Refused;
+            }
+            let k = kinds::since_kind(w, held.last(kinds));
+            typing::replace(kinds, held, k, reals)
+        }
         Class::Load => typing::push(kinds, held, kinds::load_kind(w), reals),
         Class::LoadIndexed => typing::replace(kinds, held, kinds::indexed_kind(w), reals),
-        Class::Unary => typing::replace(kinds, held, kinds::unary_kind(w, held.last(kinds)), reals),
-        Class::Binary => typing::replace_two(
-            kinds,
-            held,
-            kinds::binary_kind(w, held.second(), held.last(kinds)),
-            reals,
-        ),
+        Class::Unary => {
+            if held.height < 1 {
+                return Flow::Refused;
+            }
+            let k = kinds::unary_kind(w, held.last(kinds));
+            typing::replace(kinds, held, k, reals)
+        }
+        Class::Binary => {
+            if held.height < 2 {
+                return Flow::Refused;
+            }
+            let k = kinds::binary_kind(w, held.second(), held.last(kinds));
+            typing::replace_two(kinds, held, k, reals)
+        }
         Class::Total => typing::push(kinds, held, kinds::total_kind(w), reals),
         Class::Match => typing::matching(kinds, held, w, reals),
         Class::Unknown => Flow::Refused,
@@ -133,7 +148,13 @@ fn ended(held: Held) -> Option<Kind>
 
 // The pass over the first n instructions, with tables that have a place for each of them and for the end. The place is counted by hand, since
 // it leaps over what is skipped.
-fn checked(code: &[u8], n: usize, tops: &mut [u8], bits: &mut [u128], reals: bool) -> Option<Kind>
+fn checked(
+    code: &[u8],
+    n: usize,
+    tops: &mut [u8],
+    bits: &mut [DoubleWord],
+    reals: bool,
+) -> Option<Kind>
     requires some { (0 < n) × (n ≤ 2048) }
     requires blank { Blank n tops.old bits.old }
     ensures { CorrectVerdictIn reals code.now n result }
@@ -161,7 +182,7 @@ fn checked(code: &[u8], n: usize, tops: &mut [u8], bits: &mut [u128], reals: boo
                 }
             }
             Flow::On(kept) => {
-                if !brought.agree(place, kept) {
+                if !brought.agree(place, &kept) {
                     return None;
                 }
                 held = kept;
@@ -179,7 +200,7 @@ fn within<const N: usize>(code: &[u8], n: usize, reals: bool) -> Option<Kind>
     ensures { CorrectVerdictIn reals code.now n result }
 {
     let mut tops = [0u8; N];
-    let mut bits = [0u128; N];
+    let mut bits = [DoubleWord::zero(); N];
     checked(&code[..], n, &mut tops, &mut bits, reals)
 }
 

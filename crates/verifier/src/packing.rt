@@ -3,13 +3,15 @@
 // code held, so the one below comes from the bits.
 ghost use Rattle.std.specs.Prelude.{◌≡◌, ◌-◌, ◌/◌, ◌%◌, ◌^◌, ◌≤◌, ◌<◌, length};
 
+use crate::double_word::DoubleWord;
 use operators::kinds::INT;
 
-// How many, and a bit for each, the last pushed in the lowest: 1 for a real. No other bit is set, so that equal kinds are equal bits.
+// How many, and a bit for each, the last pushed in the lowest: 1 for a real. No other bit is set, so that equal kinds are equal bits. It is lent
+// where it is used again: a struct with a part that clauses see as a number is passed by value only once.
 #[derive(Clone, Copy, PartialEq)]
 pub struct Held {
     pub height: usize,
-    pub bits: u128,
+    pub bits: DoubleWord,
     ghost low: { height ≤ 128 },
     ghost few: { bits < 2 ^ height },
 }
@@ -22,7 +24,10 @@ impl Held {
     pub fn none() -> Held
         ensures { kinds_of result ≡ [] }
     {
-        Held { height: 0, bits: 0 }
+        Held {
+            height: 0,
+            bits: DoubleWord::zero(),
+        }
     }
 
     // One more kind, in the lowest bit.
@@ -32,7 +37,7 @@ impl Held {
     {
         Held {
             height: self.height + 1,
-            bits: self.bits * 2 + (n as u128),
+            bits: self.bits.with_bit(n),
         }
     }
 
@@ -44,7 +49,7 @@ impl Held {
     {
         Held {
             height: self.height - 1,
-            bits: self.bits / 2,
+            bits: self.bits.half(),
         }
     }
 
@@ -55,26 +60,26 @@ impl Held {
     {
         Held {
             height: self.height,
-            bits: self.bits / 2 * 2 + (n as u128),
+            bits: self.bits.with_lowest(n),
         }
     }
 
-    pub fn lowest(self) -> u8
-        ensures { result ≡ self.bits % 2 }
+    pub fn lowest(&self) -> u8
+        ensures { result ≡ self.now.bits % 2 }
     {
-        (self.bits % 2) as u8
+        self.bits.lowest()
     }
 
-    pub fn second(self) -> u8
-        ensures { result ≡ self.bits / 2 % 2 }
+    pub fn second(&self) -> u8
+        ensures { result ≡ self.now.bits / 2 % 2 }
     {
-        (self.bits / 2 % 2) as u8
+        self.bits.half().lowest()
     }
 
     // The array gets the kind of the last.
-    pub fn note(self, kinds: &mut [u8; 128])
+    pub fn note(&self, kinds: &mut [u8; 128])
         requires { length kinds.old ≡ 128 }
-        ensures { ArrayHolds kinds.new self }
+        ensures { ArrayHolds kinds.new self.now }
     {
         if 0 < self.height {
             kinds[self.height - 1] = self.lowest();
@@ -82,9 +87,9 @@ impl Held {
     }
 
     // The kind of the last from the array, and INT where nothing is held.
-    pub fn last(self, kinds: &[u8; 128]) -> u8
-        requires { ArrayHolds kinds.now self }
-        ensures { result ≡ self.bits % 2 }
+    pub fn last(&self, kinds: &[u8; 128]) -> u8
+        requires { ArrayHolds kinds.now self.now }
+        ensures { result ≡ self.now.bits % 2 }
     {
         if self.height == 0 {
             return INT;

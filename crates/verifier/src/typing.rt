@@ -36,7 +36,7 @@ fn limit(reals: bool) -> u8
 // One value more, where there is room for it.
 pub fn push(kinds: &mut [u8; 128], held: Held, n: u8, reals: bool) -> Flow
     requires { length kinds.old ≡ 128 }
-    ensures { Leaves kinds.new result (push_under (kind_limit reals) n (kinds_of held)) }
+    ensures { Leaves kinds.old kinds.new result (push_under (kind_limit reals) n (kinds_of held)) }
 {
     if limit(reals) <= n || 128 <= held.height {
         return Flow::Refused;
@@ -48,7 +48,7 @@ pub fn push(kinds: &mut [u8; 128], held: Held, n: u8, reals: bool) -> Flow
 // Another value for the last.
 pub fn replace(kinds: &mut [u8; 128], held: Held, n: u8, reals: bool) -> Flow
     requires { length kinds.old ≡ 128 }
-    ensures { Leaves kinds.new result (replace_under (kind_limit reals) n (kinds_of held)) }
+    ensures { Leaves kinds.old kinds.new result (replace_under (kind_limit reals) n (kinds_of held)) }
 {
     if held.height < 1 || limit(reals) <= n {
         return Flow::Refused;
@@ -60,7 +60,7 @@ pub fn replace(kinds: &mut [u8; 128], held: Held, n: u8, reals: bool) -> Flow
 // Another value for the last two.
 pub fn replace_two(kinds: &mut [u8; 128], held: Held, n: u8, reals: bool) -> Flow
     requires { length kinds.old ≡ 128 }
-    ensures { Leaves kinds.new result (replace_two_under (kind_limit reals) n (kinds_of held)) }
+    ensures { Leaves kinds.old kinds.new result (replace_two_under (kind_limit reals) n (kinds_of held)) }
 {
     if held.height < 2 || limit(reals) <= n {
         return Flow::Refused;
@@ -73,7 +73,7 @@ pub fn replace_two(kinds: &mut [u8; 128], held: Held, n: u8, reals: bool) -> Flo
 pub fn matching(kinds: &mut [u8; 128], held: Held, w: u64, reals: bool) -> Flow
     requires whole { length kinds.old ≡ 128 }
     requires admitted { all_admitted reals (kinds_of held) ≡ true }
-    ensures { Leaves kinds.new result (admitted_move reals (instr_in Match w) (kinds_of held)) }
+    ensures { Leaves kinds.old kinds.new result (admitted_move reals (instr_in Match w) (kinds_of held)) }
 {
     if kinds::is_barred(w, reals) {
         return Flow::Refused;

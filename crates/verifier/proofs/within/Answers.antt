@@ -6,5 +6,5 @@ use Rattle.verifier.proofs.within.Goals as goal
 pub checked-requires : goal.checked-requires
 checked-requires g c = record {
   some = (omega (arith, c.requires), omega (arith, c.requires));
-  blank = blank g.row.N _ (omega (arith, c.requires));
+  blank = rw c.zero-bits.ensures (blank g.row.N _ (omega (arith, c.requires)));
 }

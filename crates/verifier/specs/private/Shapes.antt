@@ -1,6 +1,6 @@
 -- How the code has what the definitions speak of: a kind as a number, 0 for an integer, and the kinds of the values held as bits. For the contracts of
 -- private functions, as Pass is; a reader believes Typing, Accepts, Stack and Safety.
-use Rattle.std.specs.Prelude.{◌≡◌, Bool, true, false, cond, List, [], ◌∷◌, ℕ, zero, suc, ◌-◌, ◌/◌, ◌%◌, ◌<◌, eqb, ltb, length, get_or, Option, None, Some, ⊤}
+use Rattle.std.specs.Prelude.{◌≡◌, Bool, true, false, cond, List, [], ◌∷◌, ℕ, zero, suc, ◌-◌, ◌/◌, ◌%◌, ◌<◌, eqb, ltb, length, get_or, Option, None, Some}
 pub use Rattle.operators.specs.Kinds.{number_kind, kind_number}
 use Rattle.memory.specs.Layout.{layout_of}
 use Rattle.memory.specs.Cells.{bank_kind}
@@ -97,16 +97,16 @@ state_of Refused = rejected
 state_of Left = unreached
 state_of (On w) = holds (kinds_of w)
 
--- and the array a has the last kind of what does
+-- and the array a, which keeps its length, has the last kind of what does
 abbrev pub Carries : List ℕ → Flow → Type 0
-Carries a Refused = ⊤
+Carries a Refused = length a ≡ 128
 Carries a Left = length a ≡ 128
 Carries a (On w) = ArrayHolds a w
 
--- f is the move m, which is no jump
-pub data Leaves (a : List ℕ) (f : Flow) : Move → Type 0 where
-  stops : f ≡ Refused → Leaves a f ill_typed
-  goes : {w : Held} → f ≡ On w → ArrayHolds a w → Leaves a f (next (kinds_of w))
+-- f is the move m, which is no jump, and leaves the array a: as it was before, where the code is refused
+pub data Leaves (before a : List ℕ) (f : Flow) : Move → Type 0 where
+  stops : f ≡ Refused → a ≡ before → Leaves before a f ill_typed
+  goes : {w : Held} → f ≡ On w → ArrayHolds a w → Leaves before a f (next (kinds_of w))
 
 -- ---- what jumps brought to a place
 

@@ -7,10 +7,10 @@ use Rattle.verifier.proofs.typing.matching.Goals as goal
 
 pub returns-then-is_barred : goal.returns-then-is_barred
 returns-then-is_barred c =
-    rw (match-barred c.args.reals c.args.w (kinds_of c.args.held) (sym c.is_barred.ensures ∙ c.if-is_barred.true)) (stops refl)
+    rw (match-barred c.args.reals c.args.w (kinds_of c.args.held) (sym c.is_barred.ensures ∙ c.if-is_barred.true)) (stops refl refl)
 
 pub returns : goal.returns
 returns c =
     let e = one-taken c.args.reals (match-silent c.args.reals c.args.w (sym c.is_barred.ensures ∙ c.if-is_barred.false)) c.args.held.height
     c.args.held.bits c.requires.admitted (match-short c.args.w) (c.match_kind.ensures _) in
-    subst (Leaves _ c.replace.result) (sym e) c.replace.ensures
+    subst (Leaves _ _ c.replace.result) (sym e) c.replace.ensures

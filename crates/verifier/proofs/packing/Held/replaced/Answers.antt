@@ -5,4 +5,4 @@ use Rattle.verifier.proofs.packing.Held.replaced.Goals as goal
 pub invariant_of-result : goal.invariant_of-result
 invariant_of-result c =
     let w = c.args.self in
-    record { low = w.low; few = few-replaced w.height w.bits w.few c.args.n c.requires.1 c.requires.0 }
+    record { low = w.low; few = rw c.with_lowest.ensures (few-replaced w.height w.bits w.few c.args.n c.requires.1 c.requires.0) }
