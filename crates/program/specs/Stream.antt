@@ -3,6 +3,7 @@
 use Rattle.std.specs.Prelude.{◌≡◌, cond, List, [], ◌∷◌, ◌++◌, ℕ, ◌≤◌, eqb, length, take}
 use Rattle.memory.specs.Layout.{image_size}
 use Rattle.program.specs.declared.case.Case.{Case}
+use Rattle.program.specs.declared.case.Lengths.{Lengths}
 use Rattle.program.specs.declared.stream.Progress.{Progress}
 use Rattle.operations.specs.Operations.{Request, request}
 use Rattle.program.specs.Cases.{empty_case, zeros, after_line, case_of}
@@ -44,6 +45,16 @@ pub record StreamLaws : Type 0 where
   -- so it is enough for the reply
   pub exact : (input : List ℕ) → reply_to (case_at_end (after_bytes no_progress input)) ≡ reply input
 
+-- ---- in buffers of the caller's own
+abbrev pub case_in : List ℕ → List ℕ → List ℕ → Lengths → Case
+case_in m t x n = record { memory = m; target = take n.target t; text = take n.text x }
+
+-- the lengths lie within the buffers
+pub record LengthsInside (t x : List ℕ) (n : Lengths) : Type 0 where
+  pub target : n.target ≤ length t
+  pub text : n.text ≤ length x
+
+-- ---- what is read, and what is replied
 -- the case that some input leaves
 pub record Received (c : Case) : Type 0 where
   pub input : List ℕ

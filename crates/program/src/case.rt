@@ -3,11 +3,11 @@ ghost use Rattle.std.specs.Prelude.{◌≡◌, ◌≤◌, length};
 ghost use Rattle.memory.specs.Layout.{image_size};
 ghost use Rattle.memory.specs.Names.{named_rule};
 ghost use Rattle.program.specs.Cases.{zeros, empty_case, set_cell, after_line};
-ghost use Rattle.program.specs.Stream.{kept_bytes, Replies};
+ghost use Rattle.program.specs.Stream.{kept_bytes, case_in, LengthsInside, Replies};
 
 use crate::kept::KeptText;
 use crate::reply;
-use lines::forms;
+use lines::{forms, printing};
 use memory::IMAGE_SIZE;
 use tokens::identifiers;
 
@@ -16,6 +16,14 @@ pub struct Case {
     pub memory: [u8; IMAGE_SIZE],
     pub target: KeptText,
     pub text: KeptText,
+}
+
+// How many bytes of their buffers the target, the expression and the line in progress take.
+#[derive(Clone, Copy)]
+pub struct Lengths {
+    pub target: usize,
+    pub text: usize,
+    pub line: usize,
 }
 
 // A line whose key is a cell's name and whose value has the bank's form sets the cell.
@@ -72,4 +80,41 @@ impl Case {
         let text = self.text.bytes();
         reply::write_reply(&mut self.memory, target, text, output)
     }
+}
+
+// `Case::take_line` for a caller whose buffers are its own: they may have any size, and so may the line.
+pub fn take_line(
+    line: &[u8],
+    memory: &mut [u8],
+    target: &mut [u8],
+    text: &mut [u8],
+    n: Lengths,
+) -> Lengths
+    requires memory_len { length memory.old ≡ image_size }
+    requires line_in_bounds { (length line.now ≤ length target.old) × (length line.now ≤ length text.old) }
+    requires lengths_inside { LengthsInside target.old text.old n }
+    ensures lengths_inside_2 { LengthsInside target.new text.new result }
+    ensures result_after { case_in memory.new target.new text.new result
+        ≡ after_line (case_in memory.old target.old text.old n) line.now }
+    ensures line_value { result.line ≡ 0 }
+{
+    let mut lengths = Lengths {
+        target: n.target,
+        text: n.text,
+        line: 0,
+    };
+    let k = lines::until(line, b'=');
+    if k == line.len() {
+        return lengths;
+    }
+    let key = &line[..k];
+    let value = &line[k + 1..];
+    if identifiers::same_bytes(key, b"target") {
+        lengths.target = printing::put_all(target, 0, value);
+    } else if identifiers::same_bytes(key, b"expr") {
+        lengths.text = printing::put_all(text, 0, value);
+    } else {
+        set_cell(memory, key, value);
+    }
+    lengths
 }
