@@ -5,24 +5,38 @@
 
 use card_file::read::READ_WORDS;
 use card_write::Written;
-use std::io;
+use case_lines::Each;
+use std::{fmt, io};
 
 const END: u8 = 30;
 
-// Reads a file, and puts answer and place at the end of a line.
-fn tell_read(rt: &impl Print, file: &[u8]) -> io::Result<()> {
-    let mut words = [0u32; READ_WORDS];
-    card_file::read::read(file, &mut words);
-    print!(rt; " {} {}", words[0], words[1])
+// The answer and the place of a reading.
+#[derive(Clone, Copy)]
+struct Reading {
+    answer: u32,
+    place: u32,
+}
+
+impl Reading {
+    fn of(file: &[u8]) -> Reading {
+        let mut words = [0u32; READ_WORDS];
+        card_file::read::read(file, &mut words);
+        Reading {
+            answer: words[0],
+            place: words[1],
+        }
+    }
+}
+
+impl fmt::Display for Reading {
+    fn fmt<W: fmt::Write>(&self, f: &mut fmt::Formatter<W>) -> fmt::Result {
+        write!(f, "{} {}", self.answer, self.place)
+    }
 }
 
 fn tell_cards(rt: &impl Print, cards: &[u32]) -> io::Result<()> {
     for card in cards.chunks_exact(5) {
-        print!(rt; "card")?;
-        for word in card {
-            print!(rt; " {word}")?;
-        }
-        println!(rt; "")?;
+        println!(rt; "card{}", Each(card))?;
     }
     Ok(())
 }
@@ -48,9 +62,7 @@ fn one_file(rt: &impl Print, file: &[u8]) -> io::Result<()> {
 // A line for every beginning of a file.
 fn beginnings(rt: &impl Print, file: &[u8]) -> io::Result<()> {
     for end in 0..file.len() {
-        print!(rt; "cut")?;
-        tell_read(rt, &file[..end])?;
-        println!(rt; "")?;
+        println!(rt; "cut {}", Reading::of(&file[..end]))?;
     }
     Ok(())
 }
@@ -58,14 +70,17 @@ fn beginnings(rt: &impl Print, file: &[u8]) -> io::Result<()> {
 // A line for every byte of a file: it is replaced by five others, and is then as before.
 fn every_byte(rt: &impl Print, file: &mut [u8]) -> io::Result<()> {
     for at in 0..file.len() {
-        print!(rt; "byte")?;
-        for other in *b"\n0=k\xff" {
+        let mut readings = [Reading {
+            answer: 0,
+            place: 0,
+        }; 5];
+        for (reading, other) in readings.iter_mut().zip(*b"\n0=k\xff") {
             let old = file[at];
             file[at] = other;
-            tell_read(rt, file)?;
+            *reading = Reading::of(file);
             file[at] = old;
         }
-        println!(rt; "")?;
+        println!(rt; "byte{}", Each(&readings))?;
     }
     Ok(())
 }

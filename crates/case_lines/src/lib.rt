@@ -10,6 +10,10 @@ use values::{Fault, Outcome, Value};
 #[derive(Clone, Copy)]
 pub struct Shown<T>(pub T);
 
+// A space before each item. A whole line is printed by one `println!`, which is one write where the line has at most 1,024 bytes.
+#[derive(Clone, Copy)]
+pub struct Each<'a, T>(pub &'a [T]);
+
 // A NaN has no pattern; no operator gives one.
 impl fmt::Display for Shown<Value> {
     fn fmt<W: fmt::Write>(&self, f: &mut fmt::Formatter<W>) -> fmt::Result {
@@ -34,6 +38,15 @@ impl fmt::Display for Shown<Outcome> {
             Outcome::Stopped(fault) => Shown(fault).fmt(f),
             Outcome::WrongKind => f.write_str("?"),
         }
+    }
+}
+
+impl<'a, T: fmt::Display> fmt::Display for Each<'a, T> {
+    fn fmt<W: fmt::Write>(&self, f: &mut fmt::Formatter<W>) -> fmt::Result {
+        for item in self.0 {
+            write!(f, " {item}")?;
+        }
+        Ok(())
     }
 }
 

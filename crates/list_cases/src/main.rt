@@ -6,6 +6,7 @@
 
 ghost use Rattle.std.specs.Prelude.{◌≤◌};
 
+use case_lines::Each;
 use std::io;
 
 const END: u8 = b';';
@@ -67,18 +68,12 @@ struct Buffers<'a> {
 
 fn run_on(rt: &impl Print, words: &[u32], texts: &[u8], on: &mut Buffers<'_>) -> io::Result<()> {
     let ran = run_list::run_list(words, texts, on.memory, on.code, on.index_code, TICK);
-    print!(rt; "{}", ran.answer)?;
-    for answer in ran.answers {
-        print!(rt; " {answer}")?;
-    }
-    for sum in [
+    let sums = [
         case_lines::sum_of(on.memory),
         case_lines::sum_of(on.code),
         case_lines::sum_of(on.index_code),
-    ] {
-        print!(rt; " {sum}")?;
-    }
-    println!(rt; "")
+    ];
+    println!(rt; "{}{}{}", ran.answer, Each(&ran.answers), Each(&sums))
 }
 
 fn run_words(rt: &impl Print, words: &[u32], texts: &[u8]) -> io::Result<()> {

@@ -3,11 +3,11 @@
 // byte that changed; then each bit turned over among zeros and among ones; then texts as targets.
 #![tactic(auto)]
 
-use case_lines::Shown;
+use case_lines::{Each, Shown};
 use memory::{Bank, IMAGE_SIZE};
-use std::io;
 use std::num::f32_from_bits_with_nan;
-use values::Value;
+use std::{fmt, io};
+use values::{Fault, Value};
 
 // A bank, the letter that names it, and its last element.
 #[derive(Clone, Copy)]
@@ -137,22 +137,14 @@ fn operands() -> [Value; 24] {
 }
 
 fn reads(rt: &impl Print, image: &[u8; IMAGE_SIZE], filler: Filler, row: Row) -> io::Result<()> {
-    print!(rt; "{}{}", row.letter, filler as u8)?;
-    for element in [0, 1, row.last, row.last.saturating_add(1)] {
-        print!(rt; " {}", Shown(memory::cells::read(image, row.bank, element)))?;
-    }
-    println!(rt; "")
+    let elements = [0, 1, row.last, row.last.saturating_add(1)];
+    let outcomes = elements.map(|element| Shown(memory::cells::read(image, row.bank, element)));
+    println!(rt; "{}{}{}", row.letter, filler as u8, Each(&outcomes))
 }
 
 fn indexed(rt: &impl Print, image: &[u8; IMAGE_SIZE], row: Row) -> io::Result<()> {
-    print!(rt; "{}[]", row.letter)?;
-    for v in operands() {
-        print!(rt;
-            " {}",
-            Shown(memory::cells::read_indexed(image, row.bank, v))
-        )?;
-    }
-    println!(rt; "")
+    let outcomes = operands().map(|v| Shown(memory::cells::read_indexed(image, row.bank, v)));
+    println!(rt; "{}[]{}", row.letter, Each(&outcomes))
 }
 
 fn image_lines(rt: &impl Print, filler: Filler) -> io::Result<()> {
@@ -164,27 +156,34 @@ fn image_lines(rt: &impl Print, filler: Filler) -> io::Result<()> {
     Ok(())
 }
 
-// Ends a line with every byte that differs from the image as it was filled.
-fn changes(rt: &impl Print, filler: Filler, image: &[u8; IMAGE_SIZE]) -> io::Result<()> {
-    for (at, b) in image.iter().enumerate() {
-        if *b != filler.byte(at) {
-            print!(rt; " {at}:{b}")?;
-        }
-    }
-    println!(rt; "")
+// The end of a line: a space, the place and the value of every byte that differs from the image as it was filled.
+#[derive(Clone, Copy)]
+struct Changes<'a> {
+    filler: Filler,
+    image: &'a [u8; IMAGE_SIZE],
 }
 
-// Stores a value, and tells where it was stopped.
-fn store(
-    rt: &impl Print,
-    image: &mut [u8; IMAGE_SIZE],
-    row: Row,
-    element: u32,
-    v: Value,
-) -> io::Result<()> {
-    match memory::store::store(image, row.bank, element, v) {
-        Ok(()) => Ok(()),
-        Err(f) => print!(rt; "{}", Shown(f)),
+impl fmt::Display for Changes<'_> {
+    fn fmt<W: fmt::Write>(&self, f: &mut fmt::Formatter<W>) -> fmt::Result {
+        for (at, b) in self.image.iter().enumerate() {
+            if *b != self.filler.byte(at) {
+                write!(f, " {at}:{b}")?;
+            }
+        }
+        Ok(())
+    }
+}
+
+// What a store gives: the fault that stopped it, or else no text.
+#[derive(Clone, Copy)]
+struct Stored(Result<(), Fault>);
+
+impl fmt::Display for Stored {
+    fn fmt<W: fmt::Write>(&self, f: &mut fmt::Formatter<W>) -> fmt::Result {
+        match self.0 {
+            Ok(()) => Ok(()),
+            Err(fault) => Shown(fault).fmt(f),
+        }
     }
 }
 
@@ -193,9 +192,12 @@ fn store_lines(rt: &impl Print, filler: Filler, row: Row) -> io::Result<()> {
     for (i, v) in operands().iter().enumerate() {
         let mut image = filler.image();
         let element = if i % 4 == 3 { 300 } else { row.last };
-        print!(rt; "{}={}", row.letter, Shown(*v))?;
-        store(rt, &mut image, row, element, *v)?;
-        changes(rt, filler, &image)?;
+        let stored = Stored(memory::store::store(&mut image, row.bank, element, *v));
+        let changes = Changes {
+            filler,
+            image: &image,
+        };
+        println!(rt; "{}={}{stored}{changes}", row.letter, Shown(*v))?;
     }
     Ok(())
 }
@@ -204,13 +206,14 @@ fn store_lines(rt: &impl Print, filler: Filler, row: Row) -> io::Result<()> {
 fn bit_lines(rt: &impl Print, filler: Filler, row: Row, number: i32) -> io::Result<()> {
     for element in 0u32..64 {
         let mut image = filler.image();
-        print!(rt; "{}{element}", row.letter)?;
-        store(rt, &mut image, row, element, Value::Int(number))?;
-        print!(rt;
-            " {}",
-            Shown(memory::cells::read(&image, row.bank, element))
-        )?;
-        changes(rt, filler, &image)?;
+        let v = Value::Int(number);
+        let stored = Stored(memory::store::store(&mut image, row.bank, element, v));
+        let read = Shown(memory::cells::read(&image, row.bank, element));
+        let changes = Changes {
+            filler,
+            image: &image,
+        };
+        println!(rt; "{}{element}{stored} {read}{changes}", row.letter)?;
     }
     Ok(())
 }

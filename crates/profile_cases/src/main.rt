@@ -4,7 +4,7 @@
 // tests/host/expected/profiles.rs has what is expected.
 #![tactic(auto)]
 
-use case_lines::Shown;
+use case_lines::{Each, Shown};
 use memory::IMAGE_SIZE;
 use operations::Answer;
 use std::io;
@@ -44,22 +44,20 @@ fn tell(
 ) -> io::Result<()> {
     let r = operations::reported(a);
     let bank = u8::from(r.bank);
-    print!(rt;
-        "{} {} {} {} {bank} {}",
+    let sums = [
+        case_lines::sum_of(memory),
+        case_lines::sum_of(code),
+        case_lines::sum_of(index_code),
+    ];
+    println!(rt;
+        "{} {} {} {} {bank} {}{}",
         r.answer,
         r.place,
         Shown(r.value),
         r.count,
-        r.element
-    )?;
-    for sum in [
-        case_lines::sum_of(memory),
-        case_lines::sum_of(code),
-        case_lines::sum_of(index_code),
-    ] {
-        print!(rt; " {sum}")?;
-    }
-    println!(rt; "")
+        r.element,
+        Each(&sums)
+    )
 }
 
 // The buffers are parameters of their own: of a struct the check does not let `tell` read all of them at once.

@@ -4,8 +4,9 @@
 // The last lines have whole powers, and the most multiplications that one of them takes.
 #![tactic(auto)]
 
-use case_lines::Shown;
+use case_lines::{Each, Shown};
 use operators::{UnaryOp, tables};
+use std::fmt::Display;
 use std::io;
 use std::num::f32_from_bits_with_nan;
 use tokens::symbols;
@@ -132,51 +133,51 @@ fn index(v: Value, elements: u32) -> Outcome {
     }
 }
 
-// Ends a line with what each operand of the table gives.
-fn results<F: Fn(Value) -> Outcome>(rt: &impl Print, of: F) -> io::Result<()>
+// A line: its name, and what each operand of the table gives.
+fn results<D: Display + Drop, F: Fn(Value) -> Outcome>(
+    rt: &impl Print,
+    name: D,
+    of: F,
+) -> io::Result<()>
     requires { F.IsAlwaysCallable of }
 {
-    for v in operands() {
-        print!(rt; " {}", Shown(of(v)))?;
-    }
-    println!(rt; "")
+    let given = operands().map(|v| Shown(of(v)));
+    println!(rt; "{name}{}", Each(&given))
 }
 
 // The numbers of the faults. No operator gives the last, which is a bank's.
 fn faults(rt: &impl Print) -> io::Result<()> {
-    print!(rt; "faults")?;
-    for fault in [
-        Fault::DividedByZero,
-        Fault::Overflow,
-        Fault::OutOfRange,
-        Fault::IndexError,
-    ] {
-        print!(rt; " {}", Shown(fault))?;
-    }
-    println!(rt; "")
+    let all = [
+        Shown(Fault::DividedByZero),
+        Shown(Fault::Overflow),
+        Shown(Fault::OutOfRange),
+        Shown(Fault::IndexError),
+    ];
+    println!(rt; "faults{}", Each(&all))
 }
 
 // Readings of one operand. The first of these lines has the operands themselves.
 fn readings(rt: &impl Print) -> io::Result<()> {
-    print!(rt; "branch of int")?;
-    results(rt, |v| Outcome::Done(operators::branch(v, Kind::Int)))?;
-    print!(rt; "branch of real")?;
-    results(rt, |v| Outcome::Done(operators::branch(v, Kind::Real)))?;
-    print!(rt; "truth")?;
-    results(rt, |v| {
+    results(rt, "branch of int", |v| {
+        Outcome::Done(operators::branch(v, Kind::Int))
+    })?;
+    results(rt, "branch of real", |v| {
+        Outcome::Done(operators::branch(v, Kind::Real))
+    })?;
+    results(rt, "truth", |v| {
         Outcome::Done(Value::Int(i32::from(operators::truth(v))))
     })?;
     for elements in [64, 256] {
-        print!(rt; "index of {elements}")?;
-        results(rt, |v| index(v, elements))?;
+        results(rt, format_args!("index of {elements}"), |v| {
+            index(v, elements)
+        })?;
     }
     Ok(())
 }
 
 fn ones(rt: &impl Print) -> io::Result<()> {
     for (name, op) in UNARY {
-        print!(rt; "{name}")?;
-        results(rt, |v| operators::unary(op, v))?;
+        results(rt, name, |v| operators::unary(op, v))?;
     }
     Ok(())
 }
@@ -184,8 +185,9 @@ fn ones(rt: &impl Print) -> io::Result<()> {
 // At ticks around the turns of the counter and of its sign.
 fn sinces(rt: &impl Print) -> io::Result<()> {
     for tick in [0, 1, 0x7fff_ffff, 0x8000_0000, 0xffff_ffff] {
-        print!(rt; "SINCE at {tick:08X}:")?;
-        results(rt, |v| operators::since(tick, v))?;
+        results(rt, format_args!("SINCE at {tick:08X}:"), |v| {
+            operators::since(tick, v)
+        })?;
     }
     Ok(())
 }
@@ -193,8 +195,9 @@ fn sinces(rt: &impl Print) -> io::Result<()> {
 // A line for each left operand.
 fn two(rt: &impl Print, name: &str, op: u8) -> io::Result<()> {
     for a in operands() {
-        print!(rt; "{name} {}:", Shown(a))?;
-        results(rt, |v| operators::numbered::binary(op, a, v))?;
+        results(rt, format_args!("{name} {}:", Shown(a)), |v| {
+            operators::numbered::binary(op, a, v)
+        })?;
     }
     Ok(())
 }
@@ -208,14 +211,12 @@ fn twos(rt: &impl Print) -> io::Result<()> {
 
 // Writes a line of the powers of one base, and gives the most multiplications that one of them takes.
 fn powers_of(rt: &impl Print, a: i32) -> io::Result<u32> {
-    print!(rt; "powers of i{a}:")?;
-    let mut most = 0;
-    for n in EXPONENTS {
-        let power = values::integers::counted_power(a, n);
-        print!(rt; " {}", Shown(power.outcome))?;
-        most = power.count.max(most);
-    }
-    println!(rt; "")?;
+    let powers = EXPONENTS.map(|n| values::integers::counted_power(a, n));
+    let outcomes = powers.map(|power| Shown(power.outcome));
+    println!(rt; "powers of i{a}:{}", Each(&outcomes))?;
+    let most = powers
+        .iter()
+        .fold(0, |most: u32, power| power.count.max(most));
     Ok(most)
 }
 
