@@ -37,6 +37,7 @@ BEGIN {
     list(known, "fadd fsub fmul fdiv fneg fpext fptrunc uitofp sitofp fptoui fptosi fcmp oeq one olt ole ogt oge ord une uno")
     list(known, "private unnamed_addr constant")
     list(known, "nounwind nocallback nocreateundeforpoison nofree nosync willreturn noreturn cold speculatable writeonly readonly immarg")
+    list(known, "alwaysinline noinline")
     list(functions, "llvm.trap llvm.memmove.p0.p0.i64 llvm.memcpy.p0.p0.i64 llvm.memset.p0.i64 llvm.ctlz.i32 llvm.ctlz.i64")
     list(functions, "llvm.arithmetic.fence.f32 llvm.arithmetic.fence.f64")
 }
