@@ -82,7 +82,7 @@ impl Case {
     }
 }
 
-// `Case::take_line` for a caller whose buffers are its own: they may have any size, and so may the line.
+// `Case::take_line` for a caller whose buffers are its own: they may have any size, and the line may be as long as the shorter of them.
 pub fn take_line(
     line: &[u8],
     memory: &mut [u8],

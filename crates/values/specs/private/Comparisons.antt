@@ -1,5 +1,5 @@
--- Comparisons and choices over any type with an order, by what its `==` and its `partial_cmp` answer: `compare_int` and `compare_real`,
--- `choice_int` and `choice_real` are these at integers and at singles.
+-- Comparisons and choices over any type with an order, by what its `==` and its `partial_cmp` answer: `compare_int` and `choice_int` are
+-- these at integers.
 use Rattle.std.specs.Prelude.{Bool, cond, not, Option}
 use Rattle.std.specs.Ordering.{partial_lt, partial_le}
 use Rattle.std.specs.declared.cmp.Ordering.{Ordering}
